@@ -1,0 +1,22 @@
+-- The shift and the remainder are the definition; a word has no bit at 16 or above.
+use borrow.Author.Needs.{needs}
+use native.Mathlib.Omega.{arith}
+use mathlib.Core.Path.{refl}
+use mathlib.Core.Path.{sym}
+use Rattle.spi_rules.specs.Registers.{bitOf}
+use Rattle.spi_rules.proofs.Widths.{no-bit-above}
+use Rattle.spi_bits.proofs.bit.Statement.{statement}
+use Rattle.spi_bits.proofs.bit.Tie as tie
+
+shr-result : tie.Need-shr-result
+shr-result c = search needs
+
+returns : tie.Need-returns
+unfolding bitOf
+returns c = refl
+
+returns-2 : tie.Need-returns-2
+returns-2 c = sym (no-bit-above (c .before .args .word) 16 (c .before .args .i) (c .before .fits .word .fits) (c .if1 .left))
+
+pub bit-spec : {M : Type 1} → statement M
+bit-spec = tie.close (tie.spec shr-result returns returns-2)

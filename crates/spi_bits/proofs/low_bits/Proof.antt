@@ -1,0 +1,47 @@
+-- 1 shifted by the width is the power that the definition takes the remainder by.
+use borrow.Author.Needs.{needs}
+use native.Mathlib.Omega.{arith}
+use native.Mathlib.Nat.{mod-lt, le-refl}
+use lib.Pow.{pow-pos}
+use Prim.Native.Nat.{ℕ, _%_, _^_, _<_, _≤_}
+use mathlib.Core.Path.{_≡_, ap, subst, sym, _∙_}
+use native.Mathlib.Nat.{mod-lt, lt-of-lt-of-le}
+use lib.Pow.{pow-pos, pow-mono}
+use Rattle.spi_rules.specs.Registers.{lowBits}
+use Rattle.spi_rules.proofs.Widths.{width-most, one-shifted, power-within}
+use Rattle.spi_rules.specs.Settings.{widthOf}
+use Rattle.spi_bits.proofs.low_bits.Statement.{statement}
+use Rattle.spi_bits.proofs.low_bits.Tie as tie
+
+width-requires : tie.Need-width-requires
+width-requires c κs = search needs
+
+cast-result : tie.Need-cast-result
+cast-result c = search needs
+
+shl-result : tie.Need-shl-result
+shl-result c = omega (arith, width-most (c .before .args .s))
+
+rem-result : tie.Need-rem-result
+rem-result c =
+    let most : c .width .result ≤ 16 = omega (arith, width-most (c .before .args .s)) in
+    subst (λ (q : ℕ). 0 < q) (sym (one-shifted (c .width .result) most)) (pow-pos (c .width .result))
+
+cast-result-2 : tie.Need-cast-result-2
+cast-result-2 c =
+    let most : c .width .result ≤ 16 = omega (arith, width-most (c .before .args .s)) in
+    record {
+      fits =
+          subst (λ (q : ℕ). c .before .args .v % q < 65536) (sym (one-shifted (c .width .result) most))
+          (lt-of-lt-of-le (mod-lt (c .before .args .v) (pow-pos (c .width .result))) (pow-mono most));
+    }
+
+returns : tie.Need-returns
+unfolding lowBits
+returns c =
+    let most : c .width .result ≤ 16 = omega (arith, width-most (c .before .args .s)) in
+    ap (λ (q : ℕ). c .before .args .v % q) (one-shifted (c .width .result) most ∙ ap (λ (w : ℕ). 2 ^ w) (c .width .ensures))
+
+pub low-bits-spec : {M : Type 1} → statement M
+low-bits-spec =
+    tie.close (tie.spec width-requires cast-result shl-result rem-result cast-result-2 returns)

@@ -1,0 +1,24 @@
+-- The branch is the choice of the definition.
+use borrow.Author.Needs.{needs}
+use mathlib.Core.Path.{refl}
+use Rattle.spi_rules.specs.Bits.{receivedAfter}
+use Rattle.spi_rules.proofs.Choices.{so, not-so}
+use Rattle.spi_bits.proofs.received_after.Statement.{statement}
+use Rattle.spi_bits.proofs.received_after.Tie as tie
+
+is-sampling-requires : tie.Need-is-sampling-requires
+is-sampling-requires c κs = search needs
+
+shift-in-requires : tie.Need-shift-in-requires
+shift-in-requires c κs = search needs
+
+returns : tie.Need-returns
+unfolding receivedAfter
+returns c = so _ _ _ (cc) (cc)
+
+returns-2 : tie.Need-returns-2
+unfolding receivedAfter
+returns-2 c = not-so _ _ _ (cc) refl
+
+pub received-after-spec : {M : Type 1} → statement M
+received-after-spec = tie.close (tie.spec is-sampling-requires shift-in-requires returns returns-2)

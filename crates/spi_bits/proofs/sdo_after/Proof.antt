@@ -1,0 +1,24 @@
+-- The branch is the choice of the definition.
+use borrow.Author.Needs.{needs}
+use mathlib.Core.Path.{refl}
+use Rattle.spi_rules.specs.Bits.{sdoAfter}
+use Rattle.spi_rules.proofs.Choices.{so, not-so}
+use Rattle.spi_bits.proofs.sdo_after.Statement.{statement}
+use Rattle.spi_bits.proofs.sdo_after.Tie as tie
+
+is-sampling-requires : tie.Need-is-sampling-requires
+is-sampling-requires c κs = search needs
+
+shown-bit-requires : tie.Need-shown-bit-requires
+shown-bit-requires c κs = search needs
+
+returns : tie.Need-returns
+unfolding sdoAfter
+returns c = so _ _ _ (cc) refl
+
+returns-2 : tie.Need-returns-2
+unfolding sdoAfter
+returns-2 c = not-so _ _ _ (cc) (cc)
+
+pub sdo-after-spec : {M : Type 1} → statement M
+sdo-after-spec = tie.close (tie.spec is-sampling-requires shown-bit-requires returns returns-2)

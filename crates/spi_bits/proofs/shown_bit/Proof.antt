@@ -1,0 +1,36 @@
+-- The width is at least 1; below the lowest bit the place stays 0, as a difference of whole numbers does.
+use borrow.Author.Needs.{needs}
+use native.Mathlib.Omega.{arith}
+use Prim.Native.Nat.{_-_, _/_}
+use mathlib.Core.Path.{_≡_, ap, _∙_}
+use mathlib.Core.Logic.{⊎-elim}
+use Rattle.spi_rules.specs.Settings.{widthOf}
+use Rattle.spi_rules.specs.Registers.{bitOf}
+use Rattle.spi_rules.specs.Bits.{shownBit}
+use Rattle.spi_rules.proofs.Widths.{width-least}
+use Rattle.spi_bits.proofs.shown_bit.Statement.{statement}
+use Rattle.spi_bits.proofs.shown_bit.Tie as tie
+
+width-requires : tie.Need-width-requires
+width-requires c κs = search needs
+
+cast-top : tie.Need-cast-top
+cast-top c = search needs
+
+sub-top : tie.Need-sub-top
+sub-top c = omega (arith, width-least (c .before .args .s))
+
+bit-requires : tie.Need-bit-requires
+bit-requires c κs = search needs
+
+returns : tie.Need-returns
+unfolding shownBit
+returns c =
+    let a = c .before .before .before .args in
+    let at : c .before .if1 .at ≡ widthOf (a .s) - 1 - a .edge / 2 =
+    ⊎-elim (λ w. omega arith) (λ w. omega arith) (c .before .if1 .came)
+    in
+    c .bit .ensures ∙ ap (bitOf (a .word)) at
+
+pub shown-bit-spec : {M : Type 1} → statement M
+shown-bit-spec = tie.close (tie.spec width-requires cast-top sub-top bit-requires returns)

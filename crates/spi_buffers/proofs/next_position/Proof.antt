@@ -1,0 +1,27 @@
+-- Below the depth the next position is tested once more; at or past it the answer is 0.
+use borrow.Author.Needs.{needs}
+use native.Mathlib.Omega.{arith}
+use mathlib.Core.Path.{refl}
+use Prim.Native.Nat.{_+_}
+use Rattle.spi_rules.specs.Ring.{next}
+use Rattle.spi_rules.proofs.Choices.{so-lt, not-so-lt}
+use Rattle.spi_buffers.proofs.next_position.Statement.{statement}
+use Rattle.spi_buffers.proofs.next_position.Tie as tie
+
+add-on : tie.Need-add-on
+add-on c = search needs
+
+returns : tie.Need-returns
+unfolding next
+returns c = so-lt _ _ _ _ (c .if2 .taken) refl
+
+returns-2 : tie.Need-returns-2
+unfolding next
+returns-2 c = not-so-lt _ _ _ _ (c .if2 .left) refl
+
+returns-3 : tie.Need-returns-3
+unfolding next
+returns-3 c = not-so-lt (c .before .args .at + 1) (c .before .args .depth) _ _ (omega arith) refl
+
+pub next-position-spec : {M : Type 1} → statement M
+next-position-spec = tie.close (tie.spec add-on returns returns-2 returns-3)

@@ -1,0 +1,59 @@
+-- Each arm is the clause of the definition for its case.
+use borrow.Author.Needs.{needs}
+use Rattle.spi_rules.specs.Refusals.{saidOf}
+use Rattle.spi_module.proofs.said.Statement.{statement}
+use Rattle.spi_module.proofs.said.Tie as tie
+
+enum-known-a : tie.Need-enum-known-a
+enum-known-a c = search needs
+
+refusal-number-requires : tie.Need-refusal-number-requires
+refusal-number-requires c κs = search needs
+
+enum-told : tie.Need-enum-told
+enum-told c = search needs
+
+enum-known-a-2 : tie.Need-enum-known-a-2
+enum-known-a-2 c = search needs
+
+enum-told-2 : tie.Need-enum-told-2
+enum-told-2 c = search needs
+
+enum-told-3 : tie.Need-enum-told-3
+enum-told-3 c = search needs
+
+returns : tie.Need-returns
+unfolding saidOf
+returns c = cc
+
+returns-2 : tie.Need-returns-2
+unfolding saidOf
+returns-2 c = cc
+
+returns-3 : tie.Need-returns-3
+unfolding saidOf
+returns-3 c = cc
+
+returns-4 : tie.Need-returns-4
+unfolding saidOf
+returns-4 c = cc
+
+returns-5 : tie.Need-returns-5
+unfolding saidOf
+returns-5 c = cc
+
+pub said-spec : {M : Type 1} → statement M
+said-spec =
+    tie.close
+    (tie.spec
+    enum-known-a
+    refusal-number-requires
+    enum-told
+    enum-known-a-2
+    enum-told-2
+    enum-told-3
+    returns
+    returns-2
+    returns-3
+    returns-4
+    returns-5)

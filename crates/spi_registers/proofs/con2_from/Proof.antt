@@ -1,0 +1,12 @@
+-- Each field is the bit that the definition names.
+use mathlib.Core.Path.{refl}
+use Rattle.spi_rules.specs.Registers.{bitOf, con2From}
+use Rattle.spi_registers.proofs.con2_from.Statement.{statement}
+use Rattle.spi_registers.proofs.con2_from.Tie as tie
+
+returns : tie.Need-returns
+unfolding con2From bitOf
+returns c = refl
+
+pub con2-from-spec : {M : Type 1} → statement M
+con2-from-spec = tie.close (tie.spec returns)

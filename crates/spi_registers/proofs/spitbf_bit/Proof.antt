@@ -1,0 +1,15 @@
+-- The test is the definition.
+use borrow.Author.Needs.{needs}
+use Rattle.spi_rules.specs.Registers.{spitbf}
+use Rattle.spi_registers.proofs.spitbf_bit.Statement.{statement}
+use Rattle.spi_registers.proofs.spitbf_bit.Tie as tie
+
+depth-requires : tie.Need-depth-requires
+depth-requires c κs = search needs
+
+returns : tie.Need-returns
+unfolding spitbf
+returns c = cc
+
+pub spitbf-bit-spec : {M : Type 1} → statement M
+spitbf-bit-spec = tie.close (tie.spec depth-requires returns)

@@ -1,0 +1,15 @@
+-- The test is the definition.
+use borrow.Author.Needs.{needs}
+use Rattle.spi_rules.specs.Registers.{srmpt}
+use Rattle.spi_registers.proofs.srmpt_bit.Statement.{statement}
+use Rattle.spi_registers.proofs.srmpt_bit.Tie as tie
+
+is-free-requires : tie.Need-is-free-requires
+is-free-requires c κs = search needs
+
+returns : tie.Need-returns
+unfolding srmpt
+returns c = cc
+
+pub srmpt-bit-spec : {M : Type 1} → statement M
+srmpt-bit-spec = tie.close (tie.spec is-free-requires returns)

@@ -1,0 +1,3 @@
+-- What follows from the definitions in specs/.
+pub mod Choices
+pub mod Widths

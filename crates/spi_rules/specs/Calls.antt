@@ -1,0 +1,202 @@
+-- The calls of document 01 on one module: each gives its answer and the whole module after it. Register calls test 1,
+-- then 2 or 3, then 4, 5 or 6; tick and pin calls test 2, then 7. A refused call leaves the module as it was.
+use Prim.Native.Nat.{ℕ}
+use mathlib.Core.Bool.{Bool, true, false, not, _&&_, _||_}
+use lib.Dec.{eqb, ltb}
+use Rattle.spi_rules.specs.declared.Con1.{Con1}
+use Rattle.spi_rules.specs.declared.Con2.{Con2}
+use Rattle.spi_rules.specs.declared.Settings.{Settings}
+use Rattle.spi_rules.specs.declared.Engine.{Engine}
+use Rattle.spi_rules.specs.declared.Module.{Module}
+use Rattle.spi_rules.specs.declared.Outcome.{Outcome}
+use Rattle.spi_rules.specs.declared.Shift.the-variants.{Free}
+use Rattle.spi_rules.specs.declared.Event.the-variants.{Taken, Written}
+use Rattle.spi_rules.specs.declared.Refusal.{Refusal}
+use Rattle.spi_rules.specs.declared.Refusal.the-variants.{NoSuchRegister, Disabled, Enabled, BadSettings, TransmitFull, ReceiveEmpty, WrongClock}
+use Rattle.spi_rules.specs.declared.Answer.{Answer}
+use Rattle.spi_rules.specs.declared.Answer.the-variants.{Refused, Done, Value, NoEdge, Edge}
+use Rattle.spi_rules.specs.declared.Call.{Call}
+use Rattle.spi_rules.specs.declared.Call.the-variants.{Read, Write, Tick, Pin, Clear}
+use Rattle.spi_rules.specs.declared.Sdo.{Sdo}
+use Rattle.spi_rules.specs.declared.Sdo.the-variants.{Low, High, Undriven}
+use Rattle.spi_rules.specs.Choice.{if_then_else_}
+use Rattle.spi_rules.specs.Settings.{depthOf, ownClock}
+use Rattle.spi_rules.specs.Refusals.{badSettings}
+use Rattle.spi_rules.specs.Registers.{con1From, con1Value, con2From, con2Value, bitOf, isFree, statValue, statSettings, statEngine, enabledEngine, disabledEngine, lowBits, spitbf}
+use Rattle.spi_rules.specs.Buffers.{empty, emptyTransmit, emptyReceive, firstUnread, taken, written}
+use Rattle.spi_rules.specs.Interrupts.{noted}
+use Rattle.spi_rules.specs.Loading.{loaded, rested}
+use Rattle.spi_rules.specs.Select.{deselected}
+use Rattle.spi_rules.specs.Edge.{stepped}
+
+-- A refusal returns its number only.
+unfoldable pub refuse : Module → Refusal → Outcome
+refuse m r = record { answer = Refused r; after = m }
+
+-- A call that moves the engine and leaves the settings.
+unfoldable pub moves : Module → Answer → Engine → Outcome
+moves m a n = record { answer = a; after = record { settings = m .settings; engine = n } }
+
+-- Power-up: all zero, interrupt flag clear. The remembered levels are low.
+unfoldable pub poweredUp : Module
+poweredUp =
+    record {
+      settings = record { spien = false; spisidl = false; sisel = 0; con1 = con1From 0; con2 = con2From 0 };
+      engine =
+          record {
+            transmit = emptyTransmit;
+            receive = emptyReceive;
+            shift = Free;
+            pins = record { sck = false; ss = false; sdo = false };
+            spirov = false;
+            interrupt = false;
+          };
+    }
+
+-- The first unread word is taken by a BUF read, which is an event.
+unfoldable pub wordTaken : Settings → Engine → Engine
+wordTaken s n =
+    noted s (Taken (taken (depthOf s) (n .receive) .count))
+    record {
+      transmit = n .transmit;
+      receive = taken (depthOf s) (n .receive);
+      shift = n .shift;
+      pins = n .pins;
+      spirov = n .spirov;
+      interrupt = n .interrupt;
+    }
+
+-- BUF read: 2, then 6; then the first unread word is taken, and shown with zeros above its width.
+unfoldable pub readBuf : Module → Outcome
+readBuf m =
+    if not (m .settings .spien) then refuse m Disabled
+    else if empty (m .engine .receive .count) then refuse m ReceiveEmpty
+    else moves m (Value (lowBits (m .settings) (firstUnread (m .engine .receive)))) (wordTaken (m .settings) (m .engine))
+
+-- Register read: 1 first. STAT, CON1 and CON2 change nothing.
+unfoldable pub readOf : Module → ℕ → Outcome
+readOf m register =
+    if ltb 3 register then refuse m NoSuchRegister
+    else if eqb register 0 then record { answer = Value (statValue m); after = m }
+    else if eqb register 1 then record { answer = Value (con1Value (m .settings .con1)); after = m }
+    else if eqb register 2 then record { answer = Value (con2Value (m .settings .con2)); after = m }
+    else readBuf m
+
+-- A STAT write turns SPIEN from 0 to 1, or from 1 to 0.
+unfoldable pub turnsOn : Settings → ℕ → Bool
+turnsOn s v = not (s .spien) && bitOf v 15
+
+unfoldable pub turnsOff : Settings → ℕ → Bool
+turnsOff s v = s .spien && not (bitOf v 15)
+
+-- The engine after a STAT write that is not refused.
+unfoldable pub statMoved : Settings → ℕ → Engine → Engine
+statMoved s v n =
+    if turnsOn s v then enabledEngine v (s .con1) n
+    else if turnsOff s v then disabledEngine v n
+    else statEngine v n
+
+-- STAT write. With bad settings SPIEN cannot go from 0 to 1: the write is refused and takes nothing.
+unfoldable pub writeStat : Module → ℕ → Outcome
+writeStat m v =
+    if turnsOn (m .settings) v && badSettings (m .settings) then refuse m BadSettings
+    else record {
+      answer = Done;
+      after =
+          record { settings = statSettings v (m .settings); engine = statMoved (m .settings) v (m .engine) };
+    }
+
+-- CON1 and CON2 writes: refused with 3 while SPIEN is 1, whatever the value.
+unfoldable pub withCon1 : Settings → Con1 → Settings
+withCon1 s c = record { spien = s .spien; spisidl = s .spisidl; sisel = s .sisel; con1 = c; con2 = s .con2 }
+
+unfoldable pub withCon2 : Settings → Con2 → Settings
+withCon2 s c = record { spien = s .spien; spisidl = s .spisidl; sisel = s .sisel; con1 = s .con1; con2 = c }
+
+unfoldable pub configured : Module → Settings → Outcome
+configured m s =
+    if m .settings .spien then refuse m Enabled
+    else record { answer = Done; after = record { settings = s; engine = m .engine } }
+
+-- The word is accepted: it waits, the first waiting word loads if it can, and the write is an event. With CKE 1 and
+-- nothing begun SDO follows the word to be sent next.
+unfoldable pub wordWritten : Settings → ℕ → Engine → Engine
+wordWritten s word n =
+    let queued : Engine =
+    record {
+      transmit = written (depthOf s) word (n .transmit);
+      receive = n .receive;
+      shift = n .shift;
+      pins = n .pins;
+      spirov = n .spirov;
+      interrupt = n .interrupt;
+    }
+    in
+    rested s (noted s (Written (loaded s queued .transmit .count)) (loaded s queued))
+
+-- BUF write: 2, then 5; then the low w bits are the accepted word.
+unfoldable pub writeBuf : Module → ℕ → Outcome
+writeBuf m v =
+    if not (m .settings .spien) then refuse m Disabled
+    else if spitbf m then refuse m TransmitFull
+    else moves m Done (wordWritten (m .settings) (lowBits (m .settings) v) (m .engine))
+
+-- Register write: 1 first.
+unfoldable pub writeOf : Module → ℕ → ℕ → Outcome
+writeOf m register v =
+    if ltb 3 register then refuse m NoSuchRegister
+    else if eqb register 0 then writeStat m v
+    else if eqb register 1 then configured m (withCon1 (m .settings) (con1From v))
+    else if eqb register 2 then configured m (withCon2 (m .settings) (con2From v))
+    else writeBuf m v
+
+-- Tick: with no word loaded it answers "no edge" and changes nothing; otherwise the clock goes to its other level.
+unfoldable pub tickOf : Module → Bool → Outcome
+tickOf m sdi =
+    if not (m .settings .spien) then refuse m Disabled
+    else if not (ownClock (m .settings)) then refuse m WrongClock
+    else if isFree (m .engine .shift) then record { answer = NoEdge; after = m }
+    else moves m Edge (stepped (m .settings) (not (m .engine .pins .sck)) sdi (m .engine .pins .ss) (m .engine))
+
+-- Pin call: the levels SCK, SDI and SS are seen.
+unfoldable pub pinsOf : Module → Bool → Bool → Bool → Outcome
+pinsOf m sck sdi ss =
+    if not (m .settings .spien) then refuse m Disabled
+    else if ownClock (m .settings) then refuse m WrongClock
+    else moves m Done (stepped (m .settings) sck sdi ss (m .engine))
+
+-- The clear call, enabled or not: nothing else clears the interrupt flag.
+unfoldable pub clearOf : Module → Outcome
+clearOf m =
+    moves m Done
+    record {
+      transmit = m .engine .transmit;
+      receive = m .engine .receive;
+      shift = m .engine .shift;
+      pins = m .engine .pins;
+      spirov = m .engine .spirov;
+      interrupt = false;
+    }
+
+-- Each call by its name.
+unfoldable pub performOf : Module → Call → Outcome
+performOf m (Read register) = readOf m register
+performOf m (Write register v) = writeOf m register v
+performOf m (Tick sdi) = tickOf m sdi
+performOf m (Pin sck sdi ss) = pinsOf m sck sdi ss
+performOf m Clear = clearOf m
+
+-- What a caller sees without changing anything: the interrupt flag, the remembered SCK level, and SDO, which is undriven
+-- when disabled, under DISSDO, and for an SSEN client with SS high.
+unfoldable pub interruptOf : Module → Bool
+interruptOf m = m .engine .interrupt
+
+unfoldable pub sckOf : Module → Bool
+sckOf m = m .engine .pins .sck
+
+unfoldable pub undriven : Module → Bool
+undriven m =
+    not (m .settings .spien) || (m .settings .con1 .dissdo || deselected (m .settings) (m .engine .pins .ss))
+
+unfoldable pub sdoOf : Module → Sdo
+sdoOf m = if undriven m then Undriven else if m .engine .pins .sdo then High else Low

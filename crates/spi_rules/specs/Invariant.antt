@@ -1,0 +1,87 @@
+-- What is true of every module that calls reach from power-up. proofs/Preserved.antt shows that power-up has it and every
+-- call keeps it; proofs/Uses.antt has a theorem for each clause.
+use Prim.Native.Nat.{ℕ, _+_, _*_, _/_, _%_, _^_, _≤_, _<_}
+use mathlib.Core.Bool.{Bool, true, false, not, _&&_, Bool·beq}
+use mathlib.Core.List.{List}
+use mathlib.Core.Path.{_≡_}
+use lib.Dec.{eqb}
+use lib.ListN.{length, getD}
+use Rattle.spi_rules.specs.declared.Settings.{Settings}
+use Rattle.spi_rules.specs.declared.Engine.{Engine}
+use Rattle.spi_rules.specs.declared.Module.{Module}
+use Rattle.spi_rules.specs.declared.Progress.{Progress}
+use Rattle.spi_rules.specs.declared.Shift.{Shift}
+use Rattle.spi_rules.specs.declared.Shift.the-variants.{Free, Loaded, Begun}
+use Rattle.spi_rules.specs.Choice.{if_then_else_}
+use Rattle.spi_rules.specs.Ring.{capacity, after}
+use Rattle.spi_rules.specs.Settings.{widthOf, depthOf, ssenClient, ownClock}
+use Rattle.spi_rules.specs.Refusals.{badSettings}
+use Rattle.spi_rules.specs.Buffers.{emptyTransmit, emptyReceive, firstWaiting}
+use Rattle.spi_rules.specs.Loading.{nextTop, isBegun}
+use Rattle.spi_rules.specs.Edge.{wordEdges}
+
+-- The numbers among the settings are those that their bits can hold, and enabled settings are allowed ones.
+pub record SettingsHold (s : Settings) : Type 0 where
+  pub sisel : s .sisel < 8
+  pub spre : s .con1 .spre < 8
+  pub ppre : s .con1 .ppre < 4
+  pub allowed : s .spien ≡ true → badSettings s ≡ false
+
+-- A ring turns within its depth: both positions and the count are in range, and the two positions lie the count apart.
+pub record RingHolds (depth write read count : ℕ) : Type 0 where
+  pub within : read < depth
+  pub fits : count ≤ depth
+  pub apart : write ≡ after depth read count
+
+-- Every cell holds a word of width w.
+abbrev pub CellsHold : ℕ → List ℕ → Type 0
+CellsHold w cells = (i : ℕ) → getD cells i 0 < 2 ^ w
+
+-- Bits sampled by the edges given so far.
+unfoldable pub sampled : Bool → ℕ → ℕ
+sampled cke edges = if cke then (edges + 1) / 2 else edges / 2
+
+-- A begun word: within its 2w edges, its bits within the width, and the clock where the edges left it. A filler is made
+-- of zeros and no host sends one. An SSEN client is selected, and the word it sends is still the first that waits.
+pub record ProgressHolds (s : Settings) (n : Engine) (p : Progress) : Type 0 where
+  pub started : 1 ≤ p .edges
+  pub unfinished : p .edges < wordEdges s
+  pub word : p .word < 2 ^ widthOf s
+  pub received : p .received < 2 ^ sampled (s .con1 .cke) (p .edges)
+  pub clock : n .pins .sck ≡ Bool·beq (s .con1 .ckp) (eqb (p .edges % 2) 0)
+  pub zeros : p .filler ≡ true → p .word ≡ 0
+  pub host : s .con1 .msten ≡ true → p .filler ≡ false
+  pub selected : ssenClient s ≡ true → n .pins .ss ≡ false
+  pub first : ssenClient s ≡ true → p .filler ≡ false → (1 ≤ n .transmit .count) × (p .word ≡ firstWaiting (n .transmit))
+
+-- The shift register. Free, nothing waits but in an SSEN client; loaded, it is no SSEN client and the word fits; in both
+-- the clock of a host with its own clock is idle.
+abbrev pub ShiftHolds : Settings → Engine → Shift → Type 0
+ShiftHolds s n Free =
+    (ssenClient s ≡ false → n .transmit .count ≡ 0) × (s .spien ≡ true → ownClock s ≡ true → n .pins .sck ≡ s .con1 .ckp)
+ShiftHolds s n (Loaded word) =
+    (ssenClient s ≡ false) × (word < 2 ^ widthOf s) × (ownClock s ≡ true → n .pins .sck ≡ s .con1 .ckp)
+ShiftHolds s n (Begun p) = ProgressHolds s n p
+
+-- Disabled, both buffers and the shift register are empty.
+pub record Emptied (n : Engine) : Type 0 where
+  pub transmit : n .transmit ≡ emptyTransmit
+  pub receive : n .receive ≡ emptyReceive
+  pub shift : n .shift ≡ Free
+
+-- With CKE 1 and no word begun SDO shows the top bit of the word to be sent next.
+abbrev pub RestHolds : Settings → Engine → Type 0
+RestHolds s n = s .spien ≡ true → s .con1 .cke ≡ true → isBegun (n .shift) ≡ false → n .pins .sdo ≡ nextTop s (n .transmit) (n .shift)
+
+-- All of it.
+pub record Reachable (m : Module) : Type 0 where
+  pub settings : SettingsHold (m .settings)
+  pub transmit : RingHolds (depthOf (m .settings)) (m .engine .transmit .write .0) (m .engine .transmit .read .0) (m .engine .transmit .count)
+  pub receive : RingHolds (depthOf (m .settings)) (m .engine .receive .write .0) (m .engine .receive .read .0) (m .engine .receive .count)
+  pub transmitCells : length (m .engine .transmit .words) ≡ capacity
+  pub receiveCells : length (m .engine .receive .words) ≡ capacity
+  pub transmitWords : CellsHold (widthOf (m .settings)) (m .engine .transmit .words)
+  pub receiveWords : CellsHold (widthOf (m .settings)) (m .engine .receive .words)
+  pub shift : ShiftHolds (m .settings) (m .engine) (m .engine .shift)
+  pub emptied : m .settings .spien ≡ false → Emptied (m .engine)
+  pub rest : RestHolds (m .settings) (m .engine)

@@ -1,0 +1,15 @@
+-- Document 01's rules as definitions that compute, a file for each topic, in the paper's order.
+pub mod Choice
+pub mod Ring
+pub mod Settings
+pub mod Registers
+pub mod Refusals
+pub mod Interrupts
+pub mod Buffers
+pub mod Loading
+pub mod Bits
+pub mod Finish
+pub mod Select
+pub mod Edge
+pub mod Calls
+pub mod Invariant

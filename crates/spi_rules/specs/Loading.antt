@@ -1,0 +1,66 @@
+-- Document 01, "Loading", with the SDO level that CKE 1 shows between words ("Bits").
+use Prim.Native.Nat.{ℕ, _-_}
+use mathlib.Core.Bool.{Bool, true, false, not, _&&_}
+use Rattle.spi_rules.specs.declared.Settings.{Settings}
+use Rattle.spi_rules.specs.declared.Engine.{Engine}
+use Rattle.spi_rules.specs.declared.Transmit.{Transmit}
+use Rattle.spi_rules.specs.declared.Shift.{Shift}
+use Rattle.spi_rules.specs.declared.Shift.the-variants.{Free, Loaded, Begun}
+use Rattle.spi_rules.specs.declared.Event.the-variants.{Left}
+use Rattle.spi_rules.specs.Choice.{if_then_else_}
+use Rattle.spi_rules.specs.Settings.{widthOf, depthOf, ssenClient}
+use Rattle.spi_rules.specs.Registers.{bitOf, isFree}
+use Rattle.spi_rules.specs.Buffers.{empty, firstWaiting, left}
+use Rattle.spi_rules.specs.Interrupts.{noted}
+
+-- The first waiting word moves to the shift register: it leaves the transmit buffer, which is an event.
+unfoldable pub moved : Settings → Engine → Engine
+moved s n =
+    noted s (Left (left (depthOf s) (n .transmit) .count))
+    record {
+      transmit = left (depthOf s) (n .transmit);
+      receive = n .receive;
+      shift = Loaded (firstWaiting (n .transmit));
+      pins = n .pins;
+      spirov = n .spirov;
+      interrupt = n .interrupt;
+    }
+
+-- A word can load: the shift register is free, a word waits, and the module is no SSEN client, whose word stays in the
+-- transmit buffer until finished.
+unfoldable pub canLoad : Settings → Engine → Bool
+canLoad s n = isFree (n .shift) && (not (ssenClient s) && not (empty (n .transmit .count)))
+
+-- The first waiting word moves as soon as it can.
+unfoldable pub loaded : Settings → Engine → Engine
+loaded s n = if canLoad s n then moved s n else n
+
+-- The top bit of the word to be sent next, 0 if there is none: the loaded word, or the first that waits in an SSEN
+-- client.
+unfoldable pub nextTop : Settings → Transmit → Shift → Bool
+nextTop s t Free = (ssenClient s && not (empty (t .count))) && bitOf (firstWaiting t) (widthOf s - 1)
+nextTop s t (Loaded word) = bitOf word (widthOf s - 1)
+nextTop s t (Begun p) = false
+
+-- A word or a filler has begun.
+abbrev pub isBegun : Shift → Bool
+isBegun Free = false
+isBegun (Loaded w) = false
+isBegun (Begun p) = true
+
+-- The engine with another SDO level.
+unfoldable pub sdoAt : Bool → Engine → Engine
+sdoAt level n =
+    record {
+      transmit = n .transmit;
+      receive = n .receive;
+      shift = n .shift;
+      pins = record { sck = n .pins .sck; ss = n .pins .ss; sdo = level };
+      spirov = n .spirov;
+      interrupt = n .interrupt;
+    }
+
+-- With CKE 1 and no word begun SDO shows the top bit of the word to be sent next. With CKE 0 it stays between words.
+unfoldable pub rested : Settings → Engine → Engine
+rested s n =
+    if s .con1 .cke && not (isBegun (n .shift)) then sdoAt (nextTop s (n .transmit) (n .shift)) n else n

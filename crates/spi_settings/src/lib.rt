@@ -1,0 +1,115 @@
+// What the settings decide by themselves: width, depth, role, the causes of refusal 4, and which events raise the
+// interrupt flag.
+use spi_rules::Event;
+use spi_rules::Settings;
+ghost use mathlib.Core.Path.{_≡_};
+ghost use Prim.Native.Nat.{ℕ, _≤_};
+ghost use Rattle.spi_rules.specs.Settings.{widthOf, depthOf, ssenClient, ownClock};
+ghost use Rattle.spi_rules.specs.Refusals.{framing, undivided, lateSampling, unselectedCke, badSettings};
+ghost use Rattle.spi_rules.specs.Interrupts.{enhancedRaises, standardRaises, raises};
+
+// The width in bits.
+pub fn width(s: Settings) -> u8
+    ensures { λ r. ⌜ r ≡ widthOf s ⌝ }
+{
+    if s.con1.mode16 { 16 } else { 8 }
+}
+
+// How many words each buffer holds.
+pub fn depth(s: Settings) -> u8
+    ensures { λ r. ⌜ r ≡ depthOf s ⌝ }
+{
+    if s.con2.spiben { 8 } else { 1 }
+}
+
+// Whether the module is a client that watches its select pin.
+pub fn ssen_client(s: Settings) -> bool
+    ensures { λ r. ⌜ r ≡ ssenClient s ⌝ }
+{
+    !s.con1.msten & s.con1.ssen
+}
+
+// Whether the module is a host with its own clock.
+pub fn own_clock(s: Settings) -> bool
+    ensures { λ r. ⌜ r ≡ ownClock s ⌝ }
+{
+    s.con1.msten & !s.con1.dissck
+}
+
+// Whether framing is asked for.
+pub fn framed(s: Settings) -> bool
+    ensures { λ r. ⌜ r ≡ framing s ⌝ }
+{
+    s.con2.frmen
+}
+
+// Whether a host with its own clock has both prescalers at 1:1.
+pub fn is_undivided(s: Settings) -> bool
+    ensures { λ r. ⌜ r ≡ undivided s ⌝ }
+{
+    own_clock(s) & ((s.con1.ppre == 3) & (s.con1.spre == 7))
+}
+
+// Whether SMP is set.
+pub fn samples_late(s: Settings) -> bool
+    ensures { λ r. ⌜ r ≡ lateSampling s ⌝ }
+{
+    s.con1.smp
+}
+
+// Whether a client has CKE and no SSEN.
+pub fn has_unselected_cke(s: Settings) -> bool
+    ensures { λ r. ⌜ r ≡ unselectedCke s ⌝ }
+{
+    !s.con1.msten & (s.con1.cke & !s.con1.ssen)
+}
+
+// Whether these settings cannot be enabled.
+pub fn are_bad(s: Settings) -> bool
+    ensures { λ r. ⌜ r ≡ badSettings s ⌝ }
+{
+    framed(s) | (is_undivided(s) | (samples_late(s) | has_unselected_cke(s)))
+}
+
+// Whether an event raises the interrupt flag in enhanced operation.
+pub fn raises_enhanced(depth: u8, sisel: u8, e: Event) -> bool
+    ensures { λ r. ⌜ r ≡ enhancedRaises depth sisel e ⌝ }
+{
+    match e {
+        Event::Taken(left) => (sisel == 0) & (left == 0),
+        Event::Appended(left) => {
+            (sisel == 1)
+                | (((sisel == 2) & (3 * (depth as u16) / 4 <= left as u16))
+                    | ((sisel == 3) & (left == depth)))
+        }
+        Event::Left(left) => {
+            ((sisel == 4) & (left as u16 + 1 == depth as u16)) | ((sisel == 6) & (left == 0))
+        }
+        Event::Finished(left) => (sisel == 5) & (left == 0),
+        Event::Written(left) => (sisel == 7) & (left == depth),
+    }
+}
+
+// Whether an event raises the interrupt flag in standard operation.
+pub fn raises_standard(e: Event) -> bool
+    ensures { λ r. ⌜ r ≡ standardRaises e ⌝ }
+{
+    match e {
+        Event::Taken(_) => false,
+        Event::Appended(_) => false,
+        Event::Left(_) => false,
+        Event::Finished(_) => true,
+        Event::Written(_) => false,
+    }
+}
+
+// Whether an event raises the interrupt flag.
+pub fn raises_flag(s: Settings, e: Event) -> bool
+    ensures { λ r. ⌜ r ≡ raises s e ⌝ }
+{
+    if s.con2.spiben {
+        raises_enhanced(depth(s), s.sisel, e)
+    } else {
+        raises_standard(e)
+    }
+}
