@@ -10,7 +10,7 @@ use spi_rules::Settings;
 use spi_rules::Shift;
 ghost use mathlib.Core.Path.{_≡_};
 ghost use Rattle.spi_rules.specs.Registers.{statSettings};
-ghost use Rattle.spi_rules.specs.Calls.{refuse, wordTaken, readBuf, statMoved, writeStat, configured, wordWritten, writeBuf};
+ghost use Rattle.spi_rules.specs.Calls.{refuse, wordTaken, readBuf, statWritten, writeStat, configured, wordWritten, writeBuf};
 
 // The answer that refuses a call: the module as it was.
 pub fn refused(m: Module, r: Refusal) -> Outcome
@@ -70,7 +70,7 @@ pub fn stat_settings(v: u16, s: Settings) -> Settings
 
 // The engine that a write of STAT leaves: enabling sets the levels, disabling empties.
 pub fn stat_moved(s: Settings, v: u16, n: Engine) -> Engine
-    ensures { λ r. ⌜ r ≡ statMoved s v n ⌝ }
+    ensures { λ r. ⌜ r ≡ statWritten s v n ⌝ }
 {
     let on = v / 32768 % 2 == 1;
     let spirov = n.spirov & (v / 64 % 2 == 1);

@@ -11,7 +11,7 @@ ghost use mathlib.Core.Path.{_≡_};
 ghost use Rattle.spi_rules.specs.Ring.{next};
 ghost use Rattle.spi_rules.specs.Registers.{isFree};
 ghost use Rattle.spi_rules.specs.Loading.{isBegun};
-ghost use Rattle.spi_rules.specs.Buffers.{emptyTransmit, emptyReceive, firstWaiting, firstUnread, written, left, appended, taken};
+ghost use Rattle.spi_rules.specs.Buffers.{emptyTransmit, emptyReceive, firstWaiting, firstUnread, written, departed, appended, taken};
 
 // The position after `at`.
 pub fn next_position(depth: u8, at: u8) -> u8
@@ -84,7 +84,7 @@ pub fn with_written(depth: u8, v: u16, t: Transmit) -> Transmit
 
 // The buffer without the word that waited longest.
 pub fn without_first_waiting(depth: u8, t: Transmit) -> Transmit
-    ensures { λ r. ⌜ r ≡ left depth t ⌝ }
+    ensures { λ r. ⌜ r ≡ departed depth t ⌝ }
 {
     let count = t.count;
     if count == 0 {

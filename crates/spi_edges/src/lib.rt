@@ -5,7 +5,7 @@ use spi_rules::Progress;
 use spi_rules::Settings;
 use spi_rules::Shift;
 ghost use mathlib.Core.Path.{_≡_};
-ghost use Rattle.spi_rules.specs.Select.{aborted, deselected, selected};
+ghost use Rattle.spi_rules.specs.Select.{aborted, deselected, selectSeen};
 ghost use Rattle.spi_rules.specs.Edge.{fresh, begun, underWay, advanced, advancedIfBegun, edged, stepped};
 
 // Whether this select level deselects the module.
@@ -37,7 +37,7 @@ pub fn abort(s: Settings, n: Engine) -> Engine
 
 // The engine once the select level is seen.
 pub fn select(s: Settings, ss: bool, n: Engine) -> Engine
-    ensures { λ r. ⌜ r ≡ selected s ss n ⌝ }
+    ensures { λ r. ⌜ r ≡ selectSeen s ss n ⌝ }
 {
     let shift = n.shift;
     let mut to = n;

@@ -1,3 +1,20 @@
 -- What follows from the definitions in specs/.
 pub mod Choices
-pub mod Widths
+pub mod Keeps
+pub mod Parts
+pub mod Sizes
+pub mod RingPositions
+pub mod BuffersKept
+pub mod ShiftKept
+pub mod Sampling
+pub mod Unchanged
+pub mod PreservedFinish
+pub mod PreservedEdge
+pub mod PreservedBuf
+pub mod Reached
+pub mod PreservedSettings
+pub mod Preserved
+pub mod Accepted
+pub mod Uses
+pub mod RingLaws
+pub mod UsesWords

@@ -1,6 +1,6 @@
 -- Document 01, "Bits": what one edge does within a word. A word takes 2w edges, highest bit first; edge 1 is odd.
 use Prim.Native.Nat.{ℕ, _+_, _*_, _-_, _/_, _%_}
-use mathlib.Core.Bool.{Bool, true, false, not, Bool·beq}
+use mathlib.Core.Bool.{Bool, Bool·beq}
 use mir.Val.{boolByte}
 use lib.Dec.{eqb}
 use Rattle.spi_rules.specs.declared.Settings.{Settings}

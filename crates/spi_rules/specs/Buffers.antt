@@ -1,5 +1,5 @@
 -- Document 01, "Registers" and "Loading": the two buffers over the ring.
-use Prim.Native.Nat.{ℕ, zero, _+_, _-_}
+use Prim.Native.Nat.{ℕ, _+_, _-_}
 use mathlib.Core.Bool.{Bool}
 use mathlib.Core.List.{List}
 use lib.Dec.{leb, eqb}
@@ -45,8 +45,8 @@ written depth v t =
     }
 
 -- The first waiting word leaves the transmit buffer. An empty buffer stays as it is.
-unfoldable pub left : ℕ → Transmit → Transmit
-left depth t =
+unfoldable pub departed : ℕ → Transmit → Transmit
+departed depth t =
     if empty (t .count) then t
     else record {
       words = t .words;

@@ -1,7 +1,7 @@
 -- The calls of document 01 on one module: each gives its answer and the whole module after it. Register calls test 1,
 -- then 2 or 3, then 4, 5 or 6; tick and pin calls test 2, then 7. A refused call leaves the module as it was.
 use Prim.Native.Nat.{ℕ}
-use mathlib.Core.Bool.{Bool, true, false, not, _&&_, _||_}
+use mathlib.Core.Bool.{Bool, false, not, _&&_, _||_}
 use lib.Dec.{eqb, ltb}
 use Rattle.spi_rules.specs.declared.Con1.{Con1}
 use Rattle.spi_rules.specs.declared.Con2.{Con2}
@@ -33,9 +33,9 @@ use Rattle.spi_rules.specs.Edge.{stepped}
 unfoldable pub refuse : Module → Refusal → Outcome
 refuse m r = record { answer = Refused r; after = m }
 
--- A call that moves the engine and leaves the settings.
-unfoldable pub moves : Module → Answer → Engine → Outcome
-moves m a n = record { answer = a; after = record { settings = m .settings; engine = n } }
+-- A call that answers with another engine and leaves the settings.
+unfoldable pub answering : Module → Answer → Engine → Outcome
+answering m a n = record { answer = a; after = record { settings = m .settings; engine = n } }
 
 -- Power-up: all zero, interrupt flag clear. The remembered levels are low.
 unfoldable pub poweredUp : Module
@@ -71,7 +71,7 @@ unfoldable pub readBuf : Module → Outcome
 readBuf m =
     if not (m .settings .spien) then refuse m Disabled
     else if empty (m .engine .receive .count) then refuse m ReceiveEmpty
-    else moves m (Value (lowBits (m .settings) (firstUnread (m .engine .receive)))) (wordTaken (m .settings) (m .engine))
+    else answering m (Value (lowBits (m .settings) (firstUnread (m .engine .receive)))) (wordTaken (m .settings) (m .engine))
 
 -- Register read: 1 first. STAT, CON1 and CON2 change nothing.
 unfoldable pub readOf : Module → ℕ → Outcome
@@ -90,8 +90,8 @@ unfoldable pub turnsOff : Settings → ℕ → Bool
 turnsOff s v = s .spien && not (bitOf v 15)
 
 -- The engine after a STAT write that is not refused.
-unfoldable pub statMoved : Settings → ℕ → Engine → Engine
-statMoved s v n =
+unfoldable pub statWritten : Settings → ℕ → Engine → Engine
+statWritten s v n =
     if turnsOn s v then enabledEngine v (s .con1) n
     else if turnsOff s v then disabledEngine v n
     else statEngine v n
@@ -103,16 +103,17 @@ writeStat m v =
     else record {
       answer = Done;
       after =
-          record { settings = statSettings v (m .settings); engine = statMoved (m .settings) v (m .engine) };
+          record { settings = statSettings v (m .settings); engine = statWritten (m .settings) v (m .engine) };
     }
 
--- CON1 and CON2 writes: refused with 3 while SPIEN is 1, whatever the value.
+-- The settings with another CON1, and with another CON2.
 unfoldable pub withCon1 : Settings → Con1 → Settings
 withCon1 s c = record { spien = s .spien; spisidl = s .spisidl; sisel = s .sisel; con1 = c; con2 = s .con2 }
 
 unfoldable pub withCon2 : Settings → Con2 → Settings
 withCon2 s c = record { spien = s .spien; spisidl = s .spisidl; sisel = s .sisel; con1 = s .con1; con2 = c }
 
+-- CON1 and CON2 writes: refused with 3 while SPIEN is 1, whatever the value.
 unfoldable pub configured : Module → Settings → Outcome
 configured m s =
     if m .settings .spien then refuse m Enabled
@@ -139,7 +140,7 @@ unfoldable pub writeBuf : Module → ℕ → Outcome
 writeBuf m v =
     if not (m .settings .spien) then refuse m Disabled
     else if spitbf m then refuse m TransmitFull
-    else moves m Done (wordWritten (m .settings) (lowBits (m .settings) v) (m .engine))
+    else answering m Done (wordWritten (m .settings) (lowBits (m .settings) v) (m .engine))
 
 -- Register write: 1 first.
 unfoldable pub writeOf : Module → ℕ → ℕ → Outcome
@@ -150,25 +151,25 @@ writeOf m register v =
     else if eqb register 2 then configured m (withCon2 (m .settings) (con2From v))
     else writeBuf m v
 
--- Tick: with no word loaded it answers "no edge" and changes nothing; otherwise the clock goes to its other level.
+-- Tick: 2, then 7. With no word loaded it answers "no edge" and changes nothing; otherwise the clock goes to its other level.
 unfoldable pub tickOf : Module → Bool → Outcome
 tickOf m sdi =
     if not (m .settings .spien) then refuse m Disabled
     else if not (ownClock (m .settings)) then refuse m WrongClock
     else if isFree (m .engine .shift) then record { answer = NoEdge; after = m }
-    else moves m Edge (stepped (m .settings) (not (m .engine .pins .sck)) sdi (m .engine .pins .ss) (m .engine))
+    else answering m Edge (stepped (m .settings) (not (m .engine .pins .sck)) sdi (m .engine .pins .ss) (m .engine))
 
--- Pin call: the levels SCK, SDI and SS are seen.
+-- Pin call: 2, then 7; then the levels SCK, SDI and SS are seen.
 unfoldable pub pinsOf : Module → Bool → Bool → Bool → Outcome
 pinsOf m sck sdi ss =
     if not (m .settings .spien) then refuse m Disabled
     else if ownClock (m .settings) then refuse m WrongClock
-    else moves m Done (stepped (m .settings) sck sdi ss (m .engine))
+    else answering m Done (stepped (m .settings) sck sdi ss (m .engine))
 
 -- The clear call, enabled or not: nothing else clears the interrupt flag.
 unfoldable pub clearOf : Module → Outcome
 clearOf m =
-    moves m Done
+    answering m Done
     record {
       transmit = m .engine .transmit;
       receive = m .engine .receive;
@@ -186,14 +187,14 @@ performOf m (Tick sdi) = tickOf m sdi
 performOf m (Pin sck sdi ss) = pinsOf m sck sdi ss
 performOf m Clear = clearOf m
 
--- What a caller sees without changing anything: the interrupt flag, the remembered SCK level, and SDO, which is undriven
--- when disabled, under DISSDO, and for an SSEN client with SS high.
+-- What a caller sees without changing anything: the interrupt flag, the remembered SCK level, and the SDO pin.
 unfoldable pub interruptOf : Module → Bool
 interruptOf m = m .engine .interrupt
 
 unfoldable pub sckOf : Module → Bool
 sckOf m = m .engine .pins .sck
 
+-- SDO is undriven when disabled, under DISSDO, and for an SSEN client with SS high ("Bits").
 unfoldable pub undriven : Module → Bool
 undriven m =
     not (m .settings .spien) || (m .settings .con1 .dissdo || deselected (m .settings) (m .engine .pins .ss))

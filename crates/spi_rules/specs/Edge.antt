@@ -12,7 +12,7 @@ use Rattle.spi_rules.specs.Settings.{widthOf, ssenClient}
 use Rattle.spi_rules.specs.Buffers.{empty, firstWaiting}
 use Rattle.spi_rules.specs.Bits.{receivedAfter, sdoAfter, progressed}
 use Rattle.spi_rules.specs.Finish.{finished}
-use Rattle.spi_rules.specs.Select.{deselected, selected}
+use Rattle.spi_rules.specs.Select.{deselected, selectSeen}
 
 -- The edges that a word takes.
 unfoldable pub wordEdges : Settings → ℕ
@@ -63,7 +63,7 @@ advancedIfBegun s sdi (Loaded word) n = n
 advancedIfBegun s sdi (Begun p) n = advanced s sdi p n
 
 -- What is under way at an edge to the level `sck`: an edge to the idle level begins no word, an edge to the active level
--- begins one if there is one to begin, and a begun word goes on at either.
+-- begins one if there is one to begin, and a begun word goes on at either. So odd edges go to the active level.
 unfoldable pub underWay : Settings → Bool → Engine → Shift
 underWay s sck n = if Bool·beq sck (s .con1 .ckp) then n .shift else begun s n (n .shift)
 
@@ -88,4 +88,4 @@ edged s sck sdi n =
 -- The levels SCK, SDI and SS are seen: SS is acted on first, then an SCK level unlike the remembered one is an edge.
 unfoldable pub stepped : Settings → Bool → Bool → Bool → Engine → Engine
 stepped s sck sdi ss n =
-    if Bool·beq sck (n .pins .sck) then selected s ss n else edged s sck sdi (selected s ss n)
+    if Bool·beq sck (n .pins .sck) then selectSeen s ss n else edged s sck sdi (selectSeen s ss n)

@@ -1,15 +1,15 @@
 -- Document 01, "Finish, at edge 2w, in this order".
 use Prim.Native.Nat.{ℕ}
-use mathlib.Core.Bool.{Bool, true, false, not, _&&_, _||_}
+use mathlib.Core.Bool.{Bool, true, not, _&&_}
 use Rattle.spi_rules.specs.declared.Settings.{Settings}
 use Rattle.spi_rules.specs.declared.Engine.{Engine}
 use Rattle.spi_rules.specs.declared.Shift.the-variants.{Free}
-use Rattle.spi_rules.specs.declared.Event.the-variants.{Appended, Left, Finished}
+use Rattle.spi_rules.specs.declared.Event.the-variants.{Appended, Finished}
 use Rattle.spi_rules.specs.Choice.{if_then_else_}
 use Rattle.spi_rules.specs.Settings.{depthOf, ssenClient}
-use Rattle.spi_rules.specs.Buffers.{full, left, appended}
+use Rattle.spi_rules.specs.Buffers.{full, appended}
 use Rattle.spi_rules.specs.Interrupts.{noted}
-use Rattle.spi_rules.specs.Loading.{loaded, rested}
+use Rattle.spi_rules.specs.Loading.{wordLeaves, loaded, rested}
 
 -- A received word is lost: it is dropped, and SPIROV stands from this step on.
 unfoldable pub overflowed : Engine → Engine
@@ -24,8 +24,8 @@ overflowed n =
     }
 
 -- A received word is appended, which is an event.
-unfoldable pub kept : Settings → ℕ → Engine → Engine
-kept s word n =
+unfoldable pub wordAppended : Settings → ℕ → Engine → Engine
+wordAppended s word n =
     noted s (Appended (appended (depthOf s) word (n .receive) .count))
     record {
       transmit = n .transmit;
@@ -42,24 +42,11 @@ isLost s n = full (depthOf s) (n .receive .count)
 
 -- First: the received word.
 unfoldable pub delivered : Settings → ℕ → Engine → Engine
-delivered s word n = if isLost s n then overflowed n else kept s word n
-
--- The first waiting word leaves the transmit buffer as a word that was sent from there.
-unfoldable pub sentWordLeft : Settings → Engine → Engine
-sentWordLeft s n =
-    noted s (Left (left (depthOf s) (n .transmit) .count))
-    record {
-      transmit = left (depthOf s) (n .transmit);
-      receive = n .receive;
-      shift = n .shift;
-      pins = n .pins;
-      spirov = n .spirov;
-      interrupt = n .interrupt;
-    }
+delivered s word n = if isLost s n then overflowed n else wordAppended s word n
 
 -- Second: an SSEN client drops its sent word from the transmit buffer, unless it was a filler.
 unfoldable pub sentDropped : Settings → Bool → Engine → Engine
-sentDropped s filler n = if ssenClient s && not filler then sentWordLeft s n else n
+sentDropped s filler n = if ssenClient s && not filler then wordLeaves s n else n
 
 -- The shift register is free again, and the finish itself is an event: the words then left to send are those waiting.
 unfoldable pub freed : Settings → Engine → Engine

@@ -14,20 +14,6 @@ use Rattle.spi_rules.specs.Settings.{depthOf}
 abbrev pub threeQuarters : ℕ → ℕ
 threeQuarters depth = 3 * depth / 4
 
--- Enhanced operation, by SISEL.
-abbrev pub enhancedRaises : ℕ → ℕ → Event → Bool
--- 0: a read empties the receive buffer
-enhancedRaises depth sisel (Taken left) = eqb sisel 0 && eqb left 0
--- 1: a word is appended; 2: an append leaves three quarters of the depth or more; 3: an append leaves the depth
-enhancedRaises depth sisel (Appended left) =
-    eqb sisel 1 || (eqb sisel 2 && leb (threeQuarters depth) left || eqb sisel 3 && eqb left depth)
--- 4: a word leaves the transmit buffer with one less than the depth left; 6: with none left
-enhancedRaises depth sisel (Left left) = eqb sisel 4 && eqb (left + 1) depth || eqb sisel 6 && eqb left 0
--- 5: a finish with nothing left to send
-enhancedRaises depth sisel (Finished left) = eqb sisel 5 && eqb left 0
--- 7: a write leaves the depth waiting
-enhancedRaises depth sisel (Written left) = eqb sisel 7 && eqb left depth
-
 -- Standard operation: every finish, and nothing else.
 abbrev pub standardRaises : Event → Bool
 standardRaises (Taken left) = false
@@ -35,6 +21,21 @@ standardRaises (Appended left) = false
 standardRaises (Left left) = false
 standardRaises (Finished left) = true
 standardRaises (Written left) = false
+
+-- Enhanced operation, by SISEL.
+abbrev pub enhancedRaises : ℕ → ℕ → Event → Bool
+-- 0: a read empties the receive buffer
+enhancedRaises depth sisel (Taken left) = eqb sisel 0 && eqb left 0
+-- 1: a word is appended; 2: an append leaves three quarters of the depth (6) or more; 3: an append
+-- leaves the depth (8)
+enhancedRaises depth sisel (Appended left) =
+    eqb sisel 1 || (eqb sisel 2 && leb (threeQuarters depth) left || eqb sisel 3 && eqb left depth)
+-- 4: a word leaves the transmit buffer with one less than the depth (7) left; 6: with none left
+enhancedRaises depth sisel (Left left) = eqb sisel 4 && eqb (left + 1) depth || eqb sisel 6 && eqb left 0
+-- 5: a finish with nothing left to send
+enhancedRaises depth sisel (Finished left) = eqb sisel 5 && eqb left 0
+-- 7: a write leaves the depth (8) waiting
+enhancedRaises depth sisel (Written left) = eqb sisel 7 && eqb left depth
 
 -- Whether an event sets the flag under these settings.
 unfoldable pub raises : Settings → Event → Bool

@@ -1,7 +1,7 @@
 -- What is true of every module that calls reach from power-up. proofs/Preserved.antt shows that power-up has it and every
 -- call keeps it; proofs/Uses.antt has a theorem for each clause.
-use Prim.Native.Nat.{ℕ, _+_, _*_, _/_, _%_, _^_, _≤_, _<_}
-use mathlib.Core.Bool.{Bool, true, false, not, _&&_, Bool·beq}
+use Prim.Native.Nat.{ℕ, _+_, _/_, _%_, _^_, _≤_, _<_}
+use mathlib.Core.Bool.{Bool, true, false, Bool·beq}
 use mathlib.Core.List.{List}
 use mathlib.Core.Path.{_≡_}
 use lib.Dec.{eqb}
@@ -74,7 +74,7 @@ abbrev pub RestHolds : Settings → Engine → Type 0
 RestHolds s n = s .spien ≡ true → s .con1 .cke ≡ true → isBegun (n .shift) ≡ false → n .pins .sdo ≡ nextTop s (n .transmit) (n .shift)
 
 -- All of it.
-pub record Reachable (m : Module) : Type 0 where
+pub record ModuleHolds (m : Module) : Type 0 where
   pub settings : SettingsHold (m .settings)
   pub transmit : RingHolds (depthOf (m .settings)) (m .engine .transmit .write .0) (m .engine .transmit .read .0) (m .engine .transmit .count)
   pub receive : RingHolds (depthOf (m .settings)) (m .engine .receive .write .0) (m .engine .receive .read .0) (m .engine .receive .count)

@@ -1,4 +1,5 @@
--- Document 01's rules as definitions that compute, a file for each topic, in the paper's order.
+-- Document 01's rules as definitions that compute, a file for each topic. Read them in this order: each stands on those
+-- before it.
 pub mod Choice
 pub mod Ring
 pub mod Settings

@@ -1,5 +1,5 @@
 -- Document 01, "Loading", with the SDO level that CKE 1 shows between words ("Bits").
-use Prim.Native.Nat.{ℕ, _-_}
+use Prim.Native.Nat.{_-_}
 use mathlib.Core.Bool.{Bool, true, false, not, _&&_}
 use Rattle.spi_rules.specs.declared.Settings.{Settings}
 use Rattle.spi_rules.specs.declared.Engine.{Engine}
@@ -10,15 +10,28 @@ use Rattle.spi_rules.specs.declared.Event.the-variants.{Left}
 use Rattle.spi_rules.specs.Choice.{if_then_else_}
 use Rattle.spi_rules.specs.Settings.{widthOf, depthOf, ssenClient}
 use Rattle.spi_rules.specs.Registers.{bitOf, isFree}
-use Rattle.spi_rules.specs.Buffers.{empty, firstWaiting, left}
+use Rattle.spi_rules.specs.Buffers.{empty, firstWaiting, departed}
 use Rattle.spi_rules.specs.Interrupts.{noted}
 
--- The first waiting word moves to the shift register: it leaves the transmit buffer, which is an event.
+-- The first waiting word leaves the transmit buffer, which is an event.
+unfoldable pub wordLeaves : Settings → Engine → Engine
+wordLeaves s n =
+    noted s (Left (departed (depthOf s) (n .transmit) .count))
+    record {
+      transmit = departed (depthOf s) (n .transmit);
+      receive = n .receive;
+      shift = n .shift;
+      pins = n .pins;
+      spirov = n .spirov;
+      interrupt = n .interrupt;
+    }
+
+-- The first waiting word moves to the shift register.
 unfoldable pub moved : Settings → Engine → Engine
 moved s n =
-    noted s (Left (left (depthOf s) (n .transmit) .count))
+    wordLeaves s
     record {
-      transmit = left (depthOf s) (n .transmit);
+      transmit = n .transmit;
       receive = n .receive;
       shift = Loaded (firstWaiting (n .transmit));
       pins = n .pins;
@@ -63,4 +76,6 @@ sdoAt level n =
 -- With CKE 1 and no word begun SDO shows the top bit of the word to be sent next. With CKE 0 it stays between words.
 unfoldable pub rested : Settings → Engine → Engine
 rested s n =
-    if s .con1 .cke && not (isBegun (n .shift)) then sdoAt (nextTop s (n .transmit) (n .shift)) n else n
+    sdoAt
+    (if s .con1 .cke && not (isBegun (n .shift)) then nextTop s (n .transmit) (n .shift) else n .pins .sdo)
+    n

@@ -62,6 +62,10 @@ unfoldable pub con2Value : Con2 → ℕ
 con2Value c =
     weighed (c .frmen) (2 ^ 15) + weighed (c .spifsd) (2 ^ 14) + weighed (c .frmpol) (2 ^ 13) + weighed (c .frmdly) (2 ^ 1) + weighed (c .spiben) (2 ^ 0)
 
+-- The w bits of a value that BUF keeps when written and shows when read.
+unfoldable pub lowBits : Settings → ℕ → ℕ
+lowBits s v = v % 2 ^ widthOf s
+
 -- No word is loaded or begun in the shift register. A begun filler is a word begun.
 abbrev pub isFree : Shift → Bool
 isFree Free = true
@@ -159,7 +163,3 @@ disabledEngine v n =
       spirov = spirovAfter v (n .spirov);
       interrupt = n .interrupt;
     }
-
--- The w bits of a value that BUF keeps when written and shows when read.
-unfoldable pub lowBits : Settings → ℕ → ℕ
-lowBits s v = v % 2 ^ widthOf s

@@ -1,9 +1,9 @@
 -- Document 01, "Registers": the rings. A ring is a list of cells, the capacity many, of which the first `depth` are used
 -- in turn. Its laws (proofs/RingLaws.antt) hold for any element type, capacity and depth.
-use Prim.Native.Nat.{ℕ, zero, suc, _+_, _-_, _<_, _≤_, _%_}
+use Prim.Native.Nat.{ℕ, zero, suc, _+_, _-_, _%_}
 use mathlib.Core.List.{List, [], _∷_}
-use lib.Dec.{ltb, leb, eqb}
-use lib.ListN.{length, getD, set}
+use lib.Dec.{ltb}
+use lib.ListN.{getD}
 use Rattle.spi_rules.specs.Choice.{if_then_else_}
 
 -- The cells of each buffer, used or not: what the fields `words` hold.
@@ -19,7 +19,7 @@ unfoldable pub next : ℕ → ℕ → ℕ
 next depth at = if ltb (at + 1) depth then at + 1 else 0
 
 -- The words that a ring holds: `count` of them from the position `at` on, oldest first.
-pub contents {ℓ} : {A : Type ℓ} → A → ℕ → List A → ℕ → ℕ → List A
+unfoldable pub contents {ℓ} : {A : Type ℓ} → A → ℕ → List A → ℕ → ℕ → List A
 contents none depth cells at zero = []
 contents none depth cells at (suc n) = getD cells at none ∷ contents none depth cells (next depth at) n
 

@@ -1,5 +1,5 @@
 -- Document 01, "Abort", and the select level in "One edge at a time".
-use mathlib.Core.Bool.{Bool, true, false, not, _&&_}
+use mathlib.Core.Bool.{Bool, _&&_}
 use Rattle.spi_rules.specs.declared.Settings.{Settings}
 use Rattle.spi_rules.specs.declared.Engine.{Engine}
 use Rattle.spi_rules.specs.declared.Shift.the-variants.{Free}
@@ -8,8 +8,8 @@ use Rattle.spi_rules.specs.Settings.{ssenClient}
 use Rattle.spi_rules.specs.Loading.{isBegun, rested}
 
 -- The select level is remembered, whatever the role.
-unfoldable pub remembered : Bool → Engine → Engine
-remembered ss n =
+unfoldable pub selectRemembered : Bool → Engine → Engine
+selectRemembered ss n =
     record {
       transmit = n .transmit;
       receive = n .receive;
@@ -38,6 +38,6 @@ abbrev pub deselected : Settings → Bool → Bool
 deselected s ss = ssenClient s && ss
 
 -- Select is acted on before the clock: remembered always, and high aborts the begun word of an SSEN client.
-unfoldable pub selected : Settings → Bool → Engine → Engine
-selected s ss n =
-    if deselected s ss && isBegun (n .shift) then aborted s (remembered ss n) else remembered ss n
+unfoldable pub selectSeen : Settings → Bool → Engine → Engine
+selectSeen s ss n =
+    if deselected s ss && isBegun (n .shift) then aborted s (selectRemembered ss n) else selectRemembered ss n

@@ -133,7 +133,7 @@ pub enum Answer {
 }
 
 // An answer in the paper's numbers: the refusal number, 0 if not refused; the register value, 0 if none is told; and
-// how many edges were made. saidOf in specs/Refusals.antt gives them for each answer.
+// how many edges a tick made. saidOf in specs/Refusals.antt gives them for each answer.
 pub struct Said {
     pub number: u8,
     pub value: u16,

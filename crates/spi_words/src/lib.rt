@@ -7,7 +7,7 @@ use spi_rules::Shift;
 use spi_rules::Transmit;
 ghost use mathlib.Core.Path.{_≡_};
 ghost use Rattle.spi_rules.specs.Interrupts.{noted};
-ghost use Rattle.spi_rules.specs.Loading.{loaded, nextTop, rested};
+ghost use Rattle.spi_rules.specs.Loading.{wordLeaves, loaded, nextTop, rested};
 ghost use Rattle.spi_rules.specs.Finish.{delivered, sentDropped, freed, finished};
 
 // The engine once an event is taken note of by the interrupt flag.
@@ -20,23 +20,31 @@ pub fn note(s: Settings, e: Event, n: Engine) -> Engine
     to
 }
 
+// The engine once its first waiting word has left the transmit buffer.
+pub fn leave(s: Settings, n: Engine) -> Engine
+    ensures { λ r. ⌜ r ≡ wordLeaves s n ⌝ }
+{
+    let t = n.transmit;
+    let less = spi_buffers::without_first_waiting(spi_settings::depth(s), t);
+    let mut to = n;
+    to.transmit = less;
+    note(s, Event::Left(less.count), to)
+}
+
 // The engine once the first waiting word has loaded, if it can.
 pub fn load(s: Settings, n: Engine) -> Engine
     ensures { λ r. ⌜ r ≡ loaded s n ⌝ }
 {
     let t = n.transmit;
     let shift = n.shift;
-    let can = spi_buffers::is_free(shift) & (!spi_settings::ssen_client(s) & !(t.count == 0));
-    if can {
+    if spi_buffers::is_free(shift) & (!spi_settings::ssen_client(s) & !(t.count == 0)) {
         let word = spi_buffers::first_waiting(t);
-        let rest = spi_buffers::without_first_waiting(spi_settings::depth(s), t);
         let r = n.receive;
         let p = n.pins;
-        note(
+        leave(
             s,
-            Event::Left(rest.count),
             Engine {
-                transmit: rest,
+                transmit: t,
                 receive: r,
                 shift: Shift::Loaded(word),
                 pins: p,
@@ -102,11 +110,7 @@ pub fn drop_sent(s: Settings, filler: bool, n: Engine) -> Engine
     ensures { λ r. ⌜ r ≡ sentDropped s filler n ⌝ }
 {
     if spi_settings::ssen_client(s) & !filler {
-        let t = n.transmit;
-        let less = spi_buffers::without_first_waiting(spi_settings::depth(s), t);
-        let mut to = n;
-        to.transmit = less;
-        note(s, Event::Left(less.count), to)
+        leave(s, n)
     } else {
         n
     }

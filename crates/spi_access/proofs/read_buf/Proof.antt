@@ -1,7 +1,6 @@
 -- The refusals are tested in the order of the definition.
 use borrow.Author.Needs.{needs}
-use mathlib.Core.Path.{refl}
-use Rattle.spi_rules.specs.Calls.{moves, readBuf}
+use Rattle.spi_rules.specs.Calls.{answering, readBuf}
 use Rattle.spi_rules.proofs.Choices.{so, not-so, so-eq, not-so-eq}
 use Rattle.spi_access.proofs.read_buf.Statement.{statement}
 use Rattle.spi_access.proofs.read_buf.Tie as tie
@@ -30,7 +29,7 @@ take-word-requires : tie.Need-take-word-requires
 take-word-requires c κs = search needs
 
 returns-3 : tie.Need-returns-3
-unfolding readBuf moves
+unfolding readBuf answering
 returns-3 c = not-so _ _ _ (cc) (not-so-eq _ _ _ _ (c .before .before .before .if2 .left) (cc))
 
 pub read-buf-spec : {M : Type 1} → statement M

@@ -2,13 +2,13 @@
 use borrow.Author.Needs.{needs}
 use mathlib.Core.Path.{refl}
 use Rattle.spi_rules.specs.Registers.{bitOf, spirovAfter, statEngine, enabledEngine, disabledEngine}
-use Rattle.spi_rules.specs.Calls.{turnsOn, turnsOff, statMoved}
+use Rattle.spi_rules.specs.Calls.{turnsOn, turnsOff, statWritten}
 use Rattle.spi_rules.proofs.Choices.{so, not-so}
 use Rattle.spi_access.proofs.stat_moved.Statement.{statement}
 use Rattle.spi_access.proofs.stat_moved.Tie as tie
 
 returns : tie.Need-returns
-unfolding statMoved turnsOn enabledEngine spirovAfter bitOf
+unfolding statWritten turnsOn enabledEngine spirovAfter bitOf
 returns c = so _ _ _ (cc) refl
 
 empty-transmit-requires : tie.Need-empty-transmit-requires
@@ -18,11 +18,11 @@ empty-receive-requires : tie.Need-empty-receive-requires
 empty-receive-requires c κs = search needs
 
 returns-2 : tie.Need-returns-2
-unfolding statMoved turnsOn turnsOff disabledEngine spirovAfter bitOf
+unfolding statWritten turnsOn turnsOff disabledEngine spirovAfter bitOf
 returns-2 c = not-so _ _ _ (cc) (so _ _ _ (cc) (cc))
 
 returns-3 : tie.Need-returns-3
-unfolding statMoved turnsOn turnsOff statEngine spirovAfter bitOf
+unfolding statWritten turnsOn turnsOff statEngine spirovAfter bitOf
 returns-3 c = not-so _ _ _ (cc) (not-so _ _ _ (cc) refl)
 
 pub stat-moved-spec : {M : Type 1} → statement M

@@ -1,7 +1,6 @@
 -- The refusals are tested in the order of the definition.
 use borrow.Author.Needs.{needs}
-use mathlib.Core.Path.{refl}
-use Rattle.spi_rules.specs.Calls.{moves, writeBuf}
+use Rattle.spi_rules.specs.Calls.{answering, writeBuf}
 use Rattle.spi_rules.proofs.Choices.{so, not-so}
 use Rattle.spi_access.proofs.write_buf.Statement.{statement}
 use Rattle.spi_access.proofs.write_buf.Tie as tie
@@ -30,7 +29,7 @@ accept-word-requires : tie.Need-accept-word-requires
 accept-word-requires c κs = search needs
 
 returns-3 : tie.Need-returns-3
-unfolding writeBuf moves
+unfolding writeBuf answering
 returns-3 c = not-so _ _ _ (cc) (not-so _ _ _ (cc) (cc))
 
 pub write-buf-spec : {M : Type 1} → statement M

@@ -1,6 +1,5 @@
 -- The branch is the choice of the definition.
 use borrow.Author.Needs.{needs}
-use mathlib.Core.Path.{refl}
 use Rattle.spi_rules.specs.Registers.{bitOf}
 use Rattle.spi_rules.specs.Calls.{turnsOn, writeStat}
 use Rattle.spi_rules.proofs.Choices.{so, not-so}

@@ -1,15 +1,12 @@
 -- 1 shifted by the width is the power that the definition takes the remainder by.
 use borrow.Author.Needs.{needs}
 use native.Mathlib.Omega.{arith}
-use native.Mathlib.Nat.{mod-lt, le-refl}
-use lib.Pow.{pow-pos}
-use Prim.Native.Nat.{ℕ, _%_, _^_, _<_, _≤_}
-use mathlib.Core.Path.{_≡_, ap, subst, sym, _∙_}
 use native.Mathlib.Nat.{mod-lt, lt-of-lt-of-le}
 use lib.Pow.{pow-pos, pow-mono}
+use Prim.Native.Nat.{ℕ, _%_, _^_, _<_, _≤_}
+use mathlib.Core.Path.{ap, subst, sym, _∙_}
 use Rattle.spi_rules.specs.Registers.{lowBits}
-use Rattle.spi_rules.proofs.Widths.{width-most, one-shifted, power-within}
-use Rattle.spi_rules.specs.Settings.{widthOf}
+use Rattle.spi_rules.proofs.Sizes.{width-most, one-shifted}
 use Rattle.spi_bits.proofs.low_bits.Statement.{statement}
 use Rattle.spi_bits.proofs.low_bits.Tie as tie
 

@@ -7,7 +7,7 @@ use mathlib.Core.Logic.{⊎-elim}
 use Rattle.spi_rules.specs.Settings.{widthOf}
 use Rattle.spi_rules.specs.Registers.{bitOf}
 use Rattle.spi_rules.specs.Bits.{shownBit}
-use Rattle.spi_rules.proofs.Widths.{width-least}
+use Rattle.spi_rules.proofs.Sizes.{width-least}
 use Rattle.spi_bits.proofs.shown_bit.Statement.{statement}
 use Rattle.spi_bits.proofs.shown_bit.Tie as tie
 

@@ -1,7 +1,7 @@
 -- The width is at least 1, so the top bit has a place.
 use borrow.Author.Needs.{needs}
 use native.Mathlib.Omega.{arith}
-use Rattle.spi_rules.proofs.Widths.{width-least}
+use Rattle.spi_rules.proofs.Sizes.{width-least}
 use Rattle.spi_bits.proofs.top_bit.Statement.{statement}
 use Rattle.spi_bits.proofs.top_bit.Tie as tie
 

@@ -1,6 +1,5 @@
 -- A full buffer is handed back; otherwise the stores build the record of the definition.
 use borrow.Author.Needs.{needs}
-use native.Mathlib.Omega.{arith}
 use mathlib.Core.Path.{refl}
 use Rattle.spi_rules.specs.Buffers.{written}
 use Rattle.spi_rules.proofs.Choices.{so-le, not-so-le}

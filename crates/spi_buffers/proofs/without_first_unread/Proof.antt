@@ -1,6 +1,5 @@
 -- An empty buffer is handed back; otherwise the stores build the record of the definition.
 use borrow.Author.Needs.{needs}
-use native.Mathlib.Omega.{arith}
 use mathlib.Core.Path.{refl}
 use Rattle.spi_rules.specs.Buffers.{taken}
 use Rattle.spi_rules.proofs.Choices.{so-eq, not-so-eq}

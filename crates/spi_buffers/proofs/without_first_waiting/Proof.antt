@@ -1,14 +1,13 @@
 -- An empty buffer is handed back; otherwise the stores build the record of the definition.
 use borrow.Author.Needs.{needs}
-use native.Mathlib.Omega.{arith}
 use mathlib.Core.Path.{refl}
-use Rattle.spi_rules.specs.Buffers.{left}
+use Rattle.spi_rules.specs.Buffers.{departed}
 use Rattle.spi_rules.proofs.Choices.{so-eq, not-so-eq}
 use Rattle.spi_buffers.proofs.without_first_waiting.Statement.{statement}
 use Rattle.spi_buffers.proofs.without_first_waiting.Tie as tie
 
 returns : tie.Need-returns
-unfolding left
+unfolding departed
 returns c = so-eq _ _ _ _ (c .if1 .taken) refl
 
 next-position-requires : tie.Need-next-position-requires
@@ -18,7 +17,7 @@ sub-to : tie.Need-sub-to
 sub-to c = search needs
 
 returns-2 : tie.Need-returns-2
-unfolding left
+unfolding departed
 returns-2 c = not-so-eq _ _ _ _ (c .before .before .if1 .left) (cc)
 
 pub without-first-waiting-spec : {M : Type 1} → statement M

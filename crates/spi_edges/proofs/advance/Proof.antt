@@ -1,11 +1,10 @@
 -- An edge short of 2w counts and samples or shows; edge 2w finishes.
 use borrow.Author.Needs.{needs}
 use native.Mathlib.Omega.{arith}
-use mathlib.Core.Path.{refl}
 use Prim.Native.Nat.{_+_}
 use Rattle.spi_rules.specs.Bits.{progressed}
 use Rattle.spi_rules.specs.Edge.{wordEdges, shifted, advanced}
-use Rattle.spi_rules.proofs.Widths.{width-most}
+use Rattle.spi_rules.proofs.Sizes.{width-most}
 use Rattle.spi_rules.proofs.Choices.{so-lt, not-so-lt}
 use Rattle.spi_edges.proofs.advance.Statement.{statement}
 use Rattle.spi_edges.proofs.advance.Tie as tie

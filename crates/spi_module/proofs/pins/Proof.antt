@@ -1,7 +1,6 @@
 -- The refusals are tested in the order of the definition.
 use borrow.Author.Needs.{needs}
-use mathlib.Core.Path.{refl}
-use Rattle.spi_rules.specs.Calls.{moves, pinsOf}
+use Rattle.spi_rules.specs.Calls.{answering, pinsOf}
 use Rattle.spi_rules.proofs.Choices.{so, not-so}
 use Rattle.spi_module.proofs.pins.Statement.{statement}
 use Rattle.spi_module.proofs.pins.Tie as tie
@@ -27,7 +26,7 @@ step-requires : tie.Need-step-requires
 step-requires c κs = search needs
 
 returns-3 : tie.Need-returns-3
-unfolding pinsOf moves
+unfolding pinsOf answering
 returns-3 c = not-so _ _ _ (cc) (not-so _ _ _ (cc) (cc))
 
 pub pins-spec : {M : Type 1} → statement M

@@ -1,6 +1,5 @@
 -- The refusal comes first, then the register decides.
 use borrow.Author.Needs.{needs}
-use mathlib.Core.Path.{refl}
 use Rattle.spi_rules.specs.Calls.{readOf}
 use Rattle.spi_rules.proofs.Choices.{so-lt, not-so-lt, so-eq, not-so-eq}
 use Rattle.spi_module.proofs.read.Statement.{statement}

@@ -1,7 +1,7 @@
 -- The refusals are tested in the order of the definition.
 use borrow.Author.Needs.{needs}
 use mathlib.Core.Path.{refl}
-use Rattle.spi_rules.specs.Calls.{moves, tickOf}
+use Rattle.spi_rules.specs.Calls.{answering, tickOf}
 use Rattle.spi_rules.proofs.Choices.{so, not-so}
 use Rattle.spi_module.proofs.tick.Statement.{statement}
 use Rattle.spi_module.proofs.tick.Tie as tie
@@ -34,7 +34,7 @@ step-requires : tie.Need-step-requires
 step-requires c κs = search needs
 
 returns-4 : tie.Need-returns-4
-unfolding tickOf moves
+unfolding tickOf answering
 returns-4 c = not-so _ _ _ (cc) (not-so _ _ _ (cc) (not-so _ _ _ (cc) (cc)))
 
 pub tick-spec : {M : Type 1} → statement M

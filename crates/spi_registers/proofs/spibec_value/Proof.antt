@@ -1,10 +1,7 @@
 -- Each branch picks the count that the definition picks.
 use borrow.Author.Needs.{needs}
 use native.Mathlib.Omega.{arith}
-use mathlib.Core.Path.{refl}
-use mathlib.Core.Path.{_≡_}
-use mathlib.Core.Path.{ap, _∙_}
-use Rattle.spi_rules.specs.Choice.{if_then_else_}
+use mathlib.Core.Path.{refl, ap, _∙_}
 use Rattle.spi_rules.specs.Registers.{atMost7, spibec}
 use Rattle.spi_rules.proofs.Choices.{so, not-so}
 use Rattle.spi_registers.proofs.spibec_value.Statement.{statement}

@@ -2,12 +2,9 @@
 use borrow.Author.Needs.{needs}
 use mathlib.Core.Path.{refl}
 use native.Mathlib.Omega.{arith}
-use mathlib.Core.Path.{_≡_, subst}
-use Prim.Native.Nat.{ℕ, _≤_, _<_}
-use Rattle.spi_rules.specs.Finish.{overflowed, kept, delivered}
+use Rattle.spi_rules.specs.Finish.{overflowed, wordAppended, delivered, isLost}
 use Rattle.spi_rules.proofs.Choices.{so-le, not-so-le}
 use Rattle.spi_rules.specs.Settings.{depthOf}
-use Rattle.spi_rules.specs.Finish.{isLost, overflowed, kept, delivered}
 use Rattle.spi_words.proofs.deliver.Statement.{statement}
 use Rattle.spi_words.proofs.deliver.Tie as tie
 
@@ -27,7 +24,7 @@ returns c =
     so-le (depthOf (a .s)) (a .n .receive .count) _ _ (omega arith) refl
 
 returns-2 : tie.Need-returns-2
-unfolding delivered isLost kept
+unfolding delivered isLost wordAppended
 returns-2 c =
     let a = c .before .before .before .before .before .before .args in
     not-so-le (depthOf (a .s)) (a .n .receive .count) _ _ (omega arith) (cc)

@@ -15,14 +15,8 @@ ssen-client-requires c κs = search needs
 first-waiting-requires : tie.Need-first-waiting-requires
 first-waiting-requires c κs = search needs
 
-depth-requires : tie.Need-depth-requires
-depth-requires c κs = search needs
-
-without-first-waiting-requires : tie.Need-without-first-waiting-requires
-without-first-waiting-requires c κs = search needs
-
-note-requires : tie.Need-note-requires
-note-requires c κs = search needs
+leave-requires : tie.Need-leave-requires
+leave-requires c κs = search needs
 
 returns : tie.Need-returns
 unfolding loaded canLoad moved
@@ -39,8 +33,6 @@ load-spec =
     is-free-requires
     ssen-client-requires
     first-waiting-requires
-    depth-requires
-    without-first-waiting-requires
-    note-requires
+    leave-requires
     returns
     returns-2)

@@ -1,10 +1,9 @@
--- The branch is the choice of the definition.
+-- SDO is set to the level that the definition chooses.
 use borrow.Author.Needs.{needs}
-use mathlib.Core.Path.{refl}
-use mathlib.Core.Path.{ap, sym}
-use Rattle.spi_rules.specs.Loading.{rested}
+use mathlib.Core.Path.{refl, ap}
+use mathlib.Core.Bool.{Bool}
+use Rattle.spi_rules.specs.Loading.{rested, sdoAt}
 use Rattle.spi_rules.proofs.Choices.{so, not-so}
-use Rattle.spi_rules.specs.Loading.{sdoAt, rested}
 use Rattle.spi_words.proofs.rest.Statement.{statement}
 use Rattle.spi_words.proofs.rest.Tie as tie
 
@@ -16,11 +15,11 @@ next-top-requires c κs = search needs
 
 returns : tie.Need-returns
 unfolding rested sdoAt
-returns c = so _ _ _ (cc) (cc)
+returns c = ap (λ (level : Bool). sdoAt level (c .before .before .before .before .before .before .args .n)) (so _ _ _ (cc) (cc))
 
 returns-2 : tie.Need-returns-2
-unfolding rested
-returns-2 c = not-so _ _ _ (cc) refl
+unfolding rested sdoAt
+returns-2 c = ap (λ (level : Bool). sdoAt level (c .before .before .before .args .n)) (not-so _ _ _ (cc) refl)
 
 pub rest-spec : {M : Type 1} → statement M
 rest-spec = tie.close (tie.spec is-begun-requires next-top-requires returns returns-2)

@@ -1,0 +1,162 @@
+-- What the proofs speak of besides the invariant of specs/Invariant.antt: its parts for one buffer and for the engine,
+-- and what holds in the middle of an edge.
+--     Unmoved               an outcome that a refusal, or no edge, leaves without effect
+--     accepts               an answer that is no refusal
+--     HoldsAfter        an outcome whose module has the invariant
+--     performAll            the module after a list of calls
+--     queued                the engine in the middle of a BUF write
+--     outgoing              the words not yet begun, in the order in which they will be sent
+--     restat, elsewhere     settings and an engine changed where the shift register does not look
+--     BufferHolds           one buffer of a given depth and width
+--     TransmitHolds, ReceiveHolds, BuffersHold   the buffers of an engine
+--     Idle                  the clock of a host with its own clock is idle
+--     FinishHolds           an engine in the middle of a finish, before the next word loads
+--     LoadHolds             an engine once a word has loaded, before SDO shows it
+--     WordHolds             the word that is being sent
+--     EdgeHolds             a begun word that is being given an edge: the clock has moved, and the edge is not yet counted
+--     EngineHolds           an engine between calls
+--     EdgedHolds            an engine after an edge, for what is under way at that edge
+use Prim.Native.Nat.{ℕ, _+_, _%_, _^_, _≤_, _<_}
+use mathlib.Core.Bool.{Bool, true, false, Bool·beq}
+use mathlib.Core.List.{List, [], _∷_, _++_}
+use mathlib.Core.Path.{_≡_}
+use lib.Dec.{eqb}
+use lib.ListN.{length}
+use Rattle.spi_rules.specs.declared.Settings.{Settings}
+use Rattle.spi_rules.specs.declared.Engine.{Engine}
+use Rattle.spi_rules.specs.declared.Module.{Module}
+use Rattle.spi_rules.specs.declared.Outcome.{Outcome}
+use Rattle.spi_rules.specs.declared.Call.{Call}
+use Rattle.spi_rules.specs.declared.Transmit.{Transmit}
+use Rattle.spi_rules.specs.declared.Receive.{Receive}
+use Rattle.spi_rules.specs.declared.Progress.{Progress}
+use Rattle.spi_rules.specs.declared.Shift.{Shift}
+use Rattle.spi_rules.specs.declared.Shift.the-variants.{Free, Loaded, Begun}
+use Rattle.spi_rules.specs.declared.Refusal.{Refusal}
+use Rattle.spi_rules.specs.declared.Answer.{Answer}
+use Rattle.spi_rules.specs.declared.Answer.the-variants.{Refused, Done, Value, NoEdge, Edge}
+use Rattle.spi_rules.specs.Ring.{capacity}
+use Rattle.spi_rules.specs.Settings.{widthOf, depthOf, ssenClient, ownClock}
+use Rattle.spi_rules.specs.Buffers.{firstWaiting, written, waiting}
+use Rattle.spi_rules.specs.Edge.{wordEdges, advancedIfBegun, clocked}
+use Rattle.spi_rules.specs.Calls.{performOf}
+use Rattle.spi_rules.specs.Invariant.{RingHolds, CellsHold, ShiftHolds, RestHolds, ModuleHolds, sampled}
+
+-- An outcome after which a refusal, or no edge, leaves the module as it was.
+abbrev pub Unmoved : Module → Outcome → Type 0
+Unmoved m o = ((r : Refusal) → o .answer ≡ Refused r → o .after ≡ m) × (o .answer ≡ NoEdge → o .after ≡ m)
+
+-- An answer that is no refusal.
+abbrev pub accepts : Answer → Bool
+accepts (Refused r) = false
+accepts Done = true
+accepts (Value v) = true
+accepts NoEdge = true
+accepts Edge = true
+
+-- An outcome whose module has the invariant.
+abbrev pub HoldsAfter : Outcome → Type 0
+HoldsAfter o = ModuleHolds (o .after)
+
+-- The module after a list of calls.
+abbrev pub performAll : Module → List Call → Module
+performAll m [] = m
+performAll m (c ∷ cs) = performAll (performOf m c .after) cs
+
+-- The engine in the middle of a BUF write: the word waits, and nothing has loaded yet.
+abbrev pub queued : Settings → ℕ → Engine → Engine
+queued s word n =
+    record {
+      transmit = written (depthOf s) word (n .transmit);
+      receive = n .receive;
+      shift = n .shift;
+      pins = n .pins;
+      spirov = n .spirov;
+      interrupt = n .interrupt;
+    }
+
+-- The word that is loaded and not yet begun, if there is one.
+abbrev pub loadedWord : Shift → List ℕ
+loadedWord Free = []
+loadedWord (Loaded word) = word ∷ []
+loadedWord (Begun p) = []
+
+-- The words not yet begun, in the order in which they will be sent: the loaded word, then those waiting.
+abbrev pub outgoing : Settings → Engine → List ℕ
+outgoing s n = loadedWord (n .shift) ++ waiting (depthOf s) (n .transmit)
+
+-- Settings with other STAT bits.
+abbrev pub restat : Settings → Bool → Bool → ℕ → Settings
+restat s spien spisidl sisel =
+    record { spien = spien; spisidl = spisidl; sisel = sisel; con1 = s .con1; con2 = s .con2 }
+
+-- An engine with other parts than the transmit buffer and the levels SCK and SS.
+abbrev pub elsewhere : Engine → Receive → Shift → Bool → Bool → Bool → Engine
+elsewhere n receive shift sdo spirov interrupt =
+    record {
+      transmit = n .transmit;
+      receive = receive;
+      shift = shift;
+      pins = record { sck = n .pins .sck; ss = n .pins .ss; sdo = sdo };
+      spirov = spirov;
+      interrupt = interrupt;
+    }
+
+-- One buffer: its ring turns within the depth, its cells are all there, and each fits the width.
+pub record BufferHolds (depth width : ℕ) (words : List ℕ) (write read count : ℕ) : Type 0 where
+  pub ring : RingHolds depth write read count
+  pub cells : length words ≡ capacity
+  pub fit : CellsHold width words
+
+-- The transmit buffer.
+abbrev pub TransmitHolds : Settings → Transmit → Type 0
+TransmitHolds s t = BufferHolds (depthOf s) (widthOf s) (t .words) (t .write .0) (t .read .0) (t .count)
+
+-- The receive buffer.
+abbrev pub ReceiveHolds : Settings → Receive → Type 0
+ReceiveHolds s r = BufferHolds (depthOf s) (widthOf s) (r .words) (r .write .0) (r .read .0) (r .count)
+
+-- Both buffers of an engine.
+pub record BuffersHold (s : Settings) (n : Engine) : Type 0 where
+  pub transmit : TransmitHolds s (n .transmit)
+  pub receive : ReceiveHolds s (n .receive)
+
+-- The clock of a host with its own clock is idle.
+abbrev pub Idle : Settings → Engine → Type 0
+Idle s n = ownClock s ≡ true → n .pins .sck ≡ s .con1 .ckp
+
+-- An engine in the middle of a finish: its buffers hold and its clock is idle, whatever the shift register has.
+pub record FinishHolds (s : Settings) (n : Engine) : Type 0 where
+  pub buffers : BuffersHold s n
+  pub idle : Idle s n
+
+-- The word that is being sent: it fits the width, a filler is made of zeros and no host sends one, and an SSEN client is
+-- selected and has its word still waiting as the first.
+pub record WordHolds (s : Settings) (n : Engine) (filler : Bool) (word : ℕ) : Type 0 where
+  pub fits : word < 2 ^ widthOf s
+  pub zeros : filler ≡ true → word ≡ 0
+  pub host : s .con1 .msten ≡ true → filler ≡ false
+  pub selected : ssenClient s ≡ true → n .pins .ss ≡ false
+  pub first : ssenClient s ≡ true → filler ≡ false → (1 ≤ n .transmit .count) × (word ≡ firstWaiting (n .transmit))
+
+-- A begun word at an edge: the clock stands where that edge takes it, and the rest is as before the edge.
+pub record EdgeHolds (s : Settings) (n : Engine) (p : Progress) : Type 0 where
+  pub unfinished : p .edges < wordEdges s
+  pub received : p .received < 2 ^ sampled (s .con1 .cke) (p .edges)
+  pub clock : n .pins .sck ≡ Bool·beq (s .con1 .ckp) (eqb ((p .edges + 1) % 2) 0)
+  pub sent : WordHolds s n (p .filler) (p .word)
+
+-- An engine once a word has loaded, if it can: its buffers and its shift register.
+pub record LoadHolds (s : Settings) (n : Engine) : Type 0 where
+  pub buffers : BuffersHold s n
+  pub shift : ShiftHolds s n (n .shift)
+
+-- An engine between calls: its buffers, its shift register, and SDO between words.
+pub record EngineHolds (s : Settings) (n : Engine) : Type 0 where
+  pub buffers : BuffersHold s n
+  pub shift : ShiftHolds s n (n .shift)
+  pub rest : RestHolds s n
+
+-- An engine after an edge to the level `sck`, for what is under way at that edge.
+abbrev pub EdgedHolds : Settings → Bool → Bool → Engine → Shift → Type 0
+EdgedHolds s sck sdi n sh = EngineHolds s (advancedIfBegun s sdi sh (clocked sck n))
