@@ -69,7 +69,7 @@ pub fn stat_settings(v: u16, s: Settings) -> Settings
 }
 
 // The engine that a write of STAT leaves: enabling sets the levels, disabling empties.
-pub fn stat_moved(s: Settings, v: u16, n: Engine) -> Engine
+pub fn stat_written(s: Settings, v: u16, n: Engine) -> Engine
     ensures { λ r. ⌜ r ≡ statWritten s v n ⌝ }
 {
     let on = v / 32768 % 2 == 1;
@@ -114,7 +114,7 @@ pub fn write_stat(m: Module, v: u16) -> Outcome
         return refused(m, Refusal::BadSettings);
     }
     let settings = stat_settings(v, s);
-    let engine = stat_moved(s, v, n);
+    let engine = stat_written(s, v, n);
     Outcome {
         answer: Answer::Done,
         after: Module {

@@ -69,8 +69,8 @@ pub fn first_unread(r: Receive) -> u16
 pub fn with_written(depth: u8, v: u16, t: Transmit) -> Transmit
     ensures { λ r. ⌜ r ≡ written depth v t ⌝ }
 {
-    let count = t.count;
-    if depth <= count {
+    let waiting = t.count;
+    if depth <= waiting {
         return t;
     }
     let at = (t.write.0 % 8) as usize;
@@ -78,7 +78,7 @@ pub fn with_written(depth: u8, v: u16, t: Transmit) -> Transmit
     let mut to = t;
     to.words[at] = v;
     to.write.0 = on;
-    to.count = count + 1;
+    to.count = waiting + 1;
     to
 }
 
@@ -86,14 +86,14 @@ pub fn with_written(depth: u8, v: u16, t: Transmit) -> Transmit
 pub fn without_first_waiting(depth: u8, t: Transmit) -> Transmit
     ensures { λ r. ⌜ r ≡ departed depth t ⌝ }
 {
-    let count = t.count;
-    if count == 0 {
+    let waiting = t.count;
+    if waiting == 0 {
         return t;
     }
     let on = next_position(depth, t.read.0);
     let mut to = t;
     to.read.0 = on;
-    to.count = count - 1;
+    to.count = waiting - 1;
     to
 }
 
@@ -101,8 +101,8 @@ pub fn without_first_waiting(depth: u8, t: Transmit) -> Transmit
 pub fn with_appended(depth: u8, v: u16, r: Receive) -> Receive
     ensures { λ to. ⌜ to ≡ appended depth v r ⌝ }
 {
-    let count = r.count;
-    if depth <= count {
+    let unread = r.count;
+    if depth <= unread {
         return r;
     }
     let at = (r.write.0 % 8) as usize;
@@ -110,7 +110,7 @@ pub fn with_appended(depth: u8, v: u16, r: Receive) -> Receive
     let mut to = r;
     to.words[at] = v;
     to.write.0 = on;
-    to.count = count + 1;
+    to.count = unread + 1;
     to
 }
 
@@ -118,14 +118,14 @@ pub fn with_appended(depth: u8, v: u16, r: Receive) -> Receive
 pub fn without_first_unread(depth: u8, r: Receive) -> Receive
     ensures { λ to. ⌜ to ≡ taken depth r ⌝ }
 {
-    let count = r.count;
-    if count == 0 {
+    let unread = r.count;
+    if unread == 0 {
         return r;
     }
     let on = next_position(depth, r.read.0);
     let mut to = r;
     to.read.0 = on;
-    to.count = count - 1;
+    to.count = unread - 1;
     to
 }
 

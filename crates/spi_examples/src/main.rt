@@ -27,7 +27,7 @@ fn print_level(level: bool) {
 
 // A space and the SDO pin: Z if undriven.
 fn print_sdo(m: Module) {
-    let pin = spi_module::sdo(m);
+    let pin = spi_views::sdo(m);
     match pin {
         Sdo::Low => print(b" 0"),
         Sdo::High => print(b" 1"),
@@ -52,7 +52,7 @@ fn print_done(m: Module, c: Call) {
     match c {
         Call::Pin(_, _, _) => {
             print_sdo(m);
-            print_level(spi_module::interrupt(m));
+            print_level(spi_views::interrupt(m));
         }
         _ => print(b" OK"),
     }
@@ -67,15 +67,15 @@ fn call(m: Module, line: u64, c: Call) -> Module {
     match a {
         Answer::Refused(r) => {
             print(b" E ");
-            io::print_decimal(STDOUT_FILENO, spi_module::refusal_number(r) as u64);
+            io::print_decimal(STDOUT_FILENO, spi_views::refusal_number(r) as u64);
         }
         Answer::Done => print_done(after, c),
         Answer::Value(v) => print_value(v),
         Answer::NoEdge => print(b" N"),
         Answer::Edge => {
-            print_level(spi_module::sck(after));
+            print_level(spi_views::sck(after));
             print_sdo(after);
-            print_level(spi_module::interrupt(after));
+            print_level(spi_views::interrupt(after));
         }
     }
     print(b"\n");
@@ -106,7 +106,7 @@ fn clock(m: Module, line: u32, count: u32, sdi: bool) -> Module {
 
 // A level of SDO as the other end of the wire reads it: undriven reads low.
 fn wire(m: Module) -> bool {
-    let pin = spi_module::sdo(m);
+    let pin = spi_views::sdo(m);
     match pin {
         Sdo::Low => false,
         Sdo::High => true,
@@ -126,7 +126,7 @@ fn edge(pair: Pair) -> Pair {
     let client = pair.client;
     let ticked = spi_module::tick(host, wire(client));
     let ahead = ticked.after;
-    let seen = spi_module::pins(client, spi_module::sck(ahead), wire(ahead), false);
+    let seen = spi_module::pins(client, spi_views::sck(ahead), wire(ahead), false);
     let behind = seen.after;
     Pair {
         host: ahead,

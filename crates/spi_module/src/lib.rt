@@ -9,13 +9,10 @@ use spi_rules::Module;
 use spi_rules::Outcome;
 use spi_rules::Pins;
 use spi_rules::Refusal;
-use spi_rules::Said;
-use spi_rules::Sdo;
 use spi_rules::Settings;
 use spi_rules::Shift;
 ghost use mathlib.Core.Path.{_≡_};
-ghost use Rattle.spi_rules.specs.Refusals.{numberOf, saidOf};
-ghost use Rattle.spi_rules.specs.Calls.{poweredUp, readOf, writeOf, tickOf, pinsOf, clearOf, performOf, interruptOf, sckOf, sdoOf};
+ghost use Rattle.spi_rules.specs.Calls.{poweredUp, readOf, writeOf, tickOf, pinsOf, clearOf, performOf};
 
 // A module as it powers up.
 pub fn power_up() -> Module
@@ -190,81 +187,4 @@ pub fn perform(m: Module, c: Call) -> Outcome
         Call::Pin(sck, sdi, ss) => pins(m, sck, sdi, ss),
         Call::Clear => clear(m),
     }
-}
-
-// The paper's number for a refusal.
-pub fn refusal_number(r: Refusal) -> u8
-    ensures { λ n. ⌜ n ≡ numberOf r ⌝ }
-{
-    match r {
-        Refusal::NoSuchRegister => 1,
-        Refusal::Disabled => 2,
-        Refusal::Enabled => 3,
-        Refusal::BadSettings => 4,
-        Refusal::TransmitFull => 5,
-        Refusal::ReceiveEmpty => 6,
-        Refusal::WrongClock => 7,
-    }
-}
-
-// An answer in the paper's numbers.
-pub fn said(a: Answer) -> Said
-    ensures { λ r. ⌜ r ≡ saidOf a ⌝ }
-{
-    match a {
-        Answer::Refused(r) => Said {
-            number: refusal_number(r),
-            value: 0,
-            edges: 0,
-        },
-        Answer::Done => Said {
-            number: 0,
-            value: 0,
-            edges: 0,
-        },
-        Answer::Value(v) => Said {
-            number: 0,
-            value: v,
-            edges: 0,
-        },
-        Answer::NoEdge => Said {
-            number: 0,
-            value: 0,
-            edges: 0,
-        },
-        Answer::Edge => Said {
-            number: 0,
-            value: 0,
-            edges: 1,
-        },
-    }
-}
-
-// The interrupt flag.
-pub fn interrupt(m: Module) -> bool
-    ensures { λ r. ⌜ r ≡ interruptOf m ⌝ }
-{
-    m.engine.interrupt
-}
-
-// The remembered clock level.
-pub fn sck(m: Module) -> bool
-    ensures { λ r. ⌜ r ≡ sckOf m ⌝ }
-{
-    m.engine.pins.sck
-}
-
-// The SDO pin: its level, or undriven.
-pub fn sdo(m: Module) -> Sdo
-    ensures { λ r. ⌜ r ≡ sdoOf m ⌝ }
-{
-    let s = m.settings;
-    let pins = m.engine.pins;
-    if !s.spien | (s.con1.dissdo | spi_edges::is_deselected(s, pins.ss)) {
-        return Sdo::Undriven;
-    }
-    if pins.sdo {
-        return Sdo::High;
-    }
-    Sdo::Low
 }

@@ -18,3 +18,4 @@ pub mod Accepted
 pub mod Uses
 pub mod RingLaws
 pub mod UsesWords
+pub mod ExamplesHold

@@ -14,3 +14,5 @@ pub mod Select
 pub mod Edge
 pub mod Calls
 pub mod Invariant
+pub mod Figures
+pub mod Examples

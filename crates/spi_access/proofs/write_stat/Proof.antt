@@ -19,8 +19,8 @@ returns c = so _ _ _ (cc) (cc)
 stat-settings-requires : tie.Need-stat-settings-requires
 stat-settings-requires c κs = search needs
 
-stat-moved-requires : tie.Need-stat-moved-requires
-stat-moved-requires c κs = search needs
+stat-written-requires : tie.Need-stat-written-requires
+stat-written-requires c κs = search needs
 
 returns-2 : tie.Need-returns-2
 unfolding writeStat turnsOn bitOf
@@ -34,5 +34,5 @@ write-stat-spec =
     refused-requires
     returns
     stat-settings-requires
-    stat-moved-requires
+    stat-written-requires
     returns-2)

@@ -1,8 +1,8 @@
 -- Each arm is the clause of the definition for its case.
 use borrow.Author.Needs.{needs}
 use Rattle.spi_rules.specs.Refusals.{saidOf}
-use Rattle.spi_module.proofs.said.Statement.{statement}
-use Rattle.spi_module.proofs.said.Tie as tie
+use Rattle.spi_views.proofs.said.Statement.{statement}
+use Rattle.spi_views.proofs.said.Tie as tie
 
 enum-known-a : tie.Need-enum-known-a
 enum-known-a c = search needs

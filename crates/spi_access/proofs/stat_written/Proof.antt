@@ -4,8 +4,8 @@ use mathlib.Core.Path.{refl}
 use Rattle.spi_rules.specs.Registers.{bitOf, spirovAfter, statEngine, enabledEngine, disabledEngine}
 use Rattle.spi_rules.specs.Calls.{turnsOn, turnsOff, statWritten}
 use Rattle.spi_rules.proofs.Choices.{so, not-so}
-use Rattle.spi_access.proofs.stat_moved.Statement.{statement}
-use Rattle.spi_access.proofs.stat_moved.Tie as tie
+use Rattle.spi_access.proofs.stat_written.Statement.{statement}
+use Rattle.spi_access.proofs.stat_written.Tie as tie
 
 returns : tie.Need-returns
 unfolding statWritten turnsOn enabledEngine spirovAfter bitOf
@@ -25,6 +25,6 @@ returns-3 : tie.Need-returns-3
 unfolding statWritten turnsOn turnsOff statEngine spirovAfter bitOf
 returns-3 c = not-so _ _ _ (cc) (not-so _ _ _ (cc) refl)
 
-pub stat-moved-spec : {M : Type 1} → statement M
-stat-moved-spec =
+pub stat-written-spec : {M : Type 1} → statement M
+stat-written-spec =
     tie.close (tie.spec returns empty-transmit-requires empty-receive-requires returns-2 returns-3)

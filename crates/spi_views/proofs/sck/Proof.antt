@@ -1,8 +1,8 @@
 -- The field is the definition.
 use mathlib.Core.Path.{refl}
 use Rattle.spi_rules.specs.Calls.{sckOf}
-use Rattle.spi_module.proofs.sck.Statement.{statement}
-use Rattle.spi_module.proofs.sck.Tie as tie
+use Rattle.spi_views.proofs.sck.Statement.{statement}
+use Rattle.spi_views.proofs.sck.Tie as tie
 
 returns : tie.Need-returns
 unfolding sckOf

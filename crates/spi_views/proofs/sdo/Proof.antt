@@ -3,11 +3,11 @@ use borrow.Author.Needs.{needs}
 use mathlib.Core.Path.{refl}
 use Rattle.spi_rules.specs.Calls.{undriven, sdoOf}
 use Rattle.spi_rules.proofs.Choices.{so, not-so}
-use Rattle.spi_module.proofs.sdo.Statement.{statement}
-use Rattle.spi_module.proofs.sdo.Tie as tie
+use Rattle.spi_views.proofs.sdo.Statement.{statement}
+use Rattle.spi_views.proofs.sdo.Tie as tie
 
-is-deselected-requires : tie.Need-is-deselected-requires
-is-deselected-requires c κs = search needs
+ssen-client-requires : tie.Need-ssen-client-requires
+ssen-client-requires c κs = search needs
 
 returns : tie.Need-returns
 unfolding sdoOf undriven
@@ -22,4 +22,4 @@ unfolding sdoOf undriven
 returns-3 c = not-so _ _ _ (cc) (not-so _ _ _ (cc) refl)
 
 pub sdo-spec : {M : Type 1} → statement M
-sdo-spec = tie.close (tie.spec is-deselected-requires returns returns-2 returns-3)
+sdo-spec = tie.close (tie.spec ssen-client-requires returns returns-2 returns-3)

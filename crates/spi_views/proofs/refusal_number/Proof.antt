@@ -1,8 +1,8 @@
 -- Each arm is the clause of the definition for its case.
 use borrow.Author.Needs.{needs}
 use Rattle.spi_rules.specs.Refusals.{numberOf}
-use Rattle.spi_module.proofs.refusal_number.Statement.{statement}
-use Rattle.spi_module.proofs.refusal_number.Tie as tie
+use Rattle.spi_views.proofs.refusal_number.Statement.{statement}
+use Rattle.spi_views.proofs.refusal_number.Tie as tie
 
 enum-told : tie.Need-enum-told
 enum-told c = search needs

@@ -1,8 +1,8 @@
 -- The field is the definition.
 use mathlib.Core.Path.{refl}
 use Rattle.spi_rules.specs.Calls.{interruptOf}
-use Rattle.spi_module.proofs.interrupt.Statement.{statement}
-use Rattle.spi_module.proofs.interrupt.Tie as tie
+use Rattle.spi_views.proofs.interrupt.Statement.{statement}
+use Rattle.spi_views.proofs.interrupt.Tie as tie
 
 returns : tie.Need-returns
 unfolding interruptOf

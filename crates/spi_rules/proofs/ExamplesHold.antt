@@ -1,0 +1,28 @@
+-- The definitions are run on document 01's figures.
+--     examples-hold    its checked examples a to l and its worked script, as one list
+--     sisels-hold      its eight interrupt conditions, event by event
+-- Assumes nothing.
+use mathlib.Core.Bool.{true}
+use mathlib.Core.Path.{_≡_, refl}
+use Rattle.spi_rules.specs.Bits.{samples, shiftedIn, receivedAfter, shownBit, sdoAfter, progressed}
+use Rattle.spi_rules.specs.Buffers.{emptyTransmit, emptyReceive, firstWaiting, firstUnread, written, departed, appended, taken}
+use Rattle.spi_rules.specs.Calls.{refuse, answering, poweredUp, wordTaken, readBuf, readOf, turnsOn, turnsOff, statWritten, writeStat, withCon1, withCon2, configured, wordWritten, writeBuf, writeOf, tickOf, pinsOf, clearOf, performOf, interruptOf, sckOf, undriven, sdoOf}
+use Rattle.spi_rules.specs.Choice.{if_then_else_}
+use Rattle.spi_rules.specs.Edge.{wordEdges, begun, shifted, advanced, advancedIfBegun, underWay, clocked, edged, stepped}
+use Rattle.spi_rules.specs.Finish.{overflowed, wordAppended, isLost, delivered, sentDropped, freed, finished}
+use Rattle.spi_rules.specs.Interrupts.{raises, noted}
+use Rattle.spi_rules.specs.Loading.{wordLeaves, moved, canLoad, loaded, nextTop, sdoAt, rested}
+use Rattle.spi_rules.specs.Refusals.{numberOf, saidOf}
+use Rattle.spi_rules.specs.Registers.{bitOf, weighed, con1From, con1Value, con2From, con2Value, lowBits, spitbf, spirbf, srxmpt, srmpt, atMost7, spibec, statValue, statSettings, spirovAfter, statEngine, enabledEngine, disabledEngine}
+use Rattle.spi_rules.specs.Ring.{next}
+use Rattle.spi_rules.specs.Select.{selectRemembered, aborted, selectSeen}
+use Rattle.spi_rules.specs.Settings.{widthOf, depthOf}
+use Rattle.spi_rules.specs.Figures.{sisels}
+use Rattle.spi_rules.specs.Examples.{examples}
+
+pub examples-hold : examples ≡ true
+unfolding samples shiftedIn receivedAfter shownBit sdoAfter progressed emptyTransmit emptyReceive firstWaiting firstUnread written departed appended taken refuse answering poweredUp wordTaken readBuf readOf turnsOn turnsOff statWritten writeStat withCon1 withCon2 configured wordWritten writeBuf writeOf tickOf pinsOf clearOf performOf interruptOf sckOf undriven sdoOf if_then_else_ wordEdges begun shifted advanced advancedIfBegun underWay clocked edged stepped overflowed wordAppended isLost delivered sentDropped freed finished raises noted wordLeaves moved canLoad loaded nextTop sdoAt rested numberOf saidOf bitOf weighed con1From con1Value con2From con2Value lowBits spitbf spirbf srxmpt srmpt atMost7 spibec statValue statSettings spirovAfter statEngine enabledEngine disabledEngine next selectRemembered aborted selectSeen widthOf depthOf
+examples-hold = refl
+
+pub sisels-hold : sisels ≡ true
+sisels-hold = refl

@@ -1,0 +1,224 @@
+-- Document 01, "Checked examples": each as calls from power-up with what they must answer and show.
+-- proofs/ExamplesHold.antt proves them together, as one list.
+use Prim.Native.Nat.{ℕ, zero, suc}
+use mathlib.Core.Bool.{Bool, true, false, not, _&&_}
+use mathlib.Core.List.{List, [], _∷_, _++_}
+use lib.Dec.{eqb}
+use lib.ListN.{replicate}
+use Rattle.spi_rules.specs.declared.Module.{Module}
+use Rattle.spi_rules.specs.declared.Said.{Said}
+use Rattle.spi_rules.specs.declared.Call.{Call}
+use Rattle.spi_rules.specs.declared.Call.the-variants.{Read, Write, Tick, Pin, Clear}
+use Rattle.spi_rules.specs.declared.Sdo.{Sdo}
+use Rattle.spi_rules.specs.declared.Sdo.the-variants.{Low, High, Undriven}
+use Rattle.spi_rules.specs.Refusals.{saidOf}
+use Rattle.spi_rules.specs.Calls.{poweredUp, performOf, sdoOf, sckOf}
+
+-- One line of an example: a call with what its answer must say, or what SDO must show.
+pub data Line : Type 0 where
+  says : Call → Said → Line
+  shows : Sdo → Line
+
+-- An answer that is no refusal: nothing more, a register value, or an edge; and a refusal.
+abbrev pub ok : Said
+ok = record { number = 0; value = 0; edges = 0 }
+
+abbrev pub value : ℕ → Said
+value v = record { number = 0; value = v; edges = 0 }
+
+abbrev pub edge : Said
+edge = record { number = 0; value = 0; edges = 1 }
+
+abbrev pub refused : ℕ → Said
+refused n = record { number = n; value = 0; edges = 0 }
+
+-- Two answers say the same.
+abbrev pub sameSaid : Said → Said → Bool
+sameSaid a b = eqb (a .number) (b .number) && (eqb (a .value) (b .value) && eqb (a .edges) (b .edges))
+
+abbrev pub sameSdo : Sdo → Sdo → Bool
+sameSdo Low Low = true
+sameSdo Low High = false
+sameSdo Low Undriven = false
+sameSdo High Low = false
+sameSdo High High = true
+sameSdo High Undriven = false
+sameSdo Undriven Low = false
+sameSdo Undriven High = false
+sameSdo Undriven Undriven = true
+
+-- Every line holds, one after the other, from a module on.
+abbrev pub allHold : Module → List Line → Bool
+allHold m [] = true
+allHold m (says c a ∷ rest) = sameSaid (saidOf (performOf m c .answer)) a && allHold (performOf m c .after) rest
+allHold m (shows level ∷ rest) = sameSdo (sdoOf m) level && allHold m rest
+
+-- The module after the calls of some lines.
+abbrev pub afterLines : Module → List Line → Module
+afterLines m [] = m
+afterLines m (says c a ∷ rest) = afterLines (performOf m c .after) rest
+afterLines m (shows level ∷ rest) = afterLines m rest
+
+-- A module is configured and enabled.
+abbrev pub set-up : ℕ → ℕ → List Line
+set-up con1 con2 = says (Write 1 con1) ok ∷ says (Write 2 con2) ok ∷ says (Write 0 0x8000) ok ∷ []
+
+-- Ticks that each make an edge.
+abbrev pub ticks : ℕ → List Line
+ticks count = replicate count (says (Tick true) edge)
+
+-- Bits sent by a host with CKE 0: two ticks each, and SDO shows the bit after both.
+abbrev pub sends : List Sdo → List Line
+sends [] = []
+sends (bit ∷ bits) = says (Tick true) edge ∷ shows bit ∷ says (Tick true) edge ∷ shows bit ∷ sends bits
+
+-- Bits sent by a selected client with CKE 0 and CKP 0: an edge up and an edge down each, and SDO shows the bit after
+-- both. SDI is high.
+abbrev pub answers : List Sdo → List Line
+answers [] = []
+answers (bit ∷ bits) =
+    says (Pin true true false) ok ∷ shows bit ∷ says (Pin false true false) ok ∷ shows bit ∷ answers bits
+
+-- The bits of A5, highest first.
+abbrev pub bitsOfA5 : List Sdo
+bitsOfA5 = High ∷ Low ∷ High ∷ Low ∷ Low ∷ High ∷ Low ∷ High ∷ []
+
+-- a. Power-up STAT reads 0000.
+abbrev pub exampleA : List Line
+exampleA = says (Read 0) (value 0x0000) ∷ []
+
+-- b. CON1 003F: enabling gives 4.
+abbrev pub exampleB : List Line
+exampleB = says (Write 1 0x003F) ok ∷ says (Write 0 0x8000) (refused 4) ∷ []
+
+-- c. CON1 003B: enabled.
+abbrev pub exampleC : List Line
+exampleC = says (Write 1 0x003B) ok ∷ says (Write 0 0x8000) ok ∷ says (Read 0) (value 0x8000) ∷ []
+
+-- d. CON1 0100: enabling gives 4.
+abbrev pub exampleD : List Line
+exampleD = says (Write 1 0x0100) ok ∷ says (Write 0 0x8000) (refused 4) ∷ []
+
+-- e. CON1 0180: enabled.
+abbrev pub exampleE : List Line
+exampleE = says (Write 1 0x0180) ok ∷ says (Write 0 0x8000) ok ∷ says (Read 0) (value 0x8000) ∷ []
+
+-- f. An 8-bit write of 01A5 sends A5.
+abbrev pub exampleF : List Line
+exampleF = set-up 0x0020 0x0000 ++ (says (Write 3 0x01A5) ok ∷ sends bitsOfA5 ++ (says (Tick true) ok ∷ []))
+
+-- g. A standard idle host: two writes are accepted, the third gives 5.
+abbrev pub exampleG : List Line
+exampleG = set-up 0x0020 0x0000 ++ (says (Write 3 1) ok ∷ says (Write 3 2) ok ∷ says (Write 3 3) (refused 5) ∷ [])
+
+-- h. An enhanced idle host, SISEL 0: nine are accepted, STAT is 8722, the tenth gives 5.
+abbrev pub exampleH : List Line
+exampleH =
+    set-up 0x0020 0x0001
+    ++ (replicate 9 (says (Write 3 0x0081) ok)
+    ++ (says (Read 0) (value 0x8722) ∷ says (Write 3 0x0081) (refused 5) ∷ []))
+
+-- i. Those nine sent unread: eight are held, STAT is 80C1.
+abbrev pub exampleI : List Line
+exampleI =
+    exampleH ++ (ticks 144
+    ++ (says (Read 0) (value 0x80C1)
+    ∷ replicate 8 (says (Read 3) (value 0x00FF)) ++ (says (Read 3) (refused 6) ∷ [])))
+
+-- j. One 8-bit word: unfinished after 15 edges, finished after 16.
+abbrev pub exampleJ : List Line
+exampleJ =
+    set-up 0x0020 0x0000
+    ++ (says (Write 3 0x0096) ok
+    ∷ ticks 15
+    ++ (says (Read 3) (refused 6) ∷ says (Tick true) edge ∷ says (Read 3) (value 0x00FF) ∷ says (Tick true) ok ∷ []))
+
+-- k. An 8-bit SSEN client: SS high after edge 7, SCK back to idle while SS is high, SS low, then 16 edges: the same word
+-- is sent whole, and one word is received.
+abbrev pub exampleK : List Line
+exampleK =
+    set-up 0x0080 0x0000
+    ++ (says (Write 3 0x00A5) ok
+    ∷ answers (High ∷ Low ∷ High ∷ [])
+    ++ (says (Pin true false false) ok
+    ∷ shows Low
+    ∷ says (Pin true false true) ok
+    ∷ shows Undriven
+    ∷ says (Pin false false true) ok
+    ∷ says (Pin false false false) ok
+    ∷ answers bitsOfA5
+    ++ (says (Read 3) (value 0x00FF) ∷ says (Read 3) (refused 6) ∷ [])))
+
+-- A level of SDO as the other end of the wire reads it.
+abbrev pub wire : Sdo → Bool
+wire Low = false
+wire High = true
+wire Undriven = false
+
+-- Two modules on one wire, the client selected.
+pub record Pair : Type 0 where
+  pub host : Module
+  pub client : Module
+
+-- Edges of the host, each seen by the client.
+abbrev pub linked : ℕ → Pair → Pair
+linked zero p = p
+linked (suc k) p =
+    let host : Module = performOf (p .host) (Tick (wire (sdoOf (p .client)))) .after in
+    let client : Module = performOf (p .client) (Pin (sckOf host) (wire (sdoOf host)) false) .after in
+    linked k (record { host = host; client = client })
+
+-- l. A host with A5 and a client with 3C, linked, 16 edges: the host reads 3C, the client A5.
+abbrev pub pairL : Pair
+pairL =
+    linked 16
+    (record {
+      host = afterLines poweredUp (set-up 0x0020 0x0000 ++ (says (Write 3 0x00A5) ok ∷ []));
+      client = afterLines poweredUp (set-up 0x0000 0x0000 ++ (says (Write 3 0x003C) ok ∷ []));
+    })
+
+abbrev pub exampleL : Bool
+exampleL =
+    allHold (pairL .host) (says (Read 3) (value 0x003C) ∷ says (Tick true) ok ∷ [])
+    && allHold (pairL .client) (says (Read 3) (value 0x00A5) ∷ [])
+
+-- The worked script of "The script program", by its calls.
+abbrev pub workedScript : List Line
+workedScript =
+    says (Write 1 0x0020) ok
+    ∷ says (Write 0 0x8000) ok
+    ∷ says (Read 3) (refused 6)
+    ∷ says (Write 3 0x00A5) ok
+    ∷ says (Read 0) (value 0x8000)
+    ∷ says (Write 3 0x003C) ok
+    ∷ says (Read 0) (value 0x8002)
+    ∷ says (Tick true) edge
+    ∷ shows High
+    ∷ says (Tick false) edge
+    ∷ shows High
+    ∷ says (Write 1 0x0000) (refused 3)
+    ∷ []
+
+-- All of them: each from power-up, and the linked pair.
+abbrev pub fromPowerUp : List (List Line)
+fromPowerUp =
+    exampleA
+    ∷ exampleB
+    ∷ exampleC
+    ∷ exampleD
+    ∷ exampleE
+    ∷ exampleF
+    ∷ exampleG
+    ∷ exampleH
+    ∷ exampleI
+    ∷ exampleJ
+    ∷ exampleK
+    ∷ workedScript
+    ∷ []
+
+abbrev pub everyHolds : List (List Line) → Bool
+everyHolds [] = true
+everyHolds (x ∷ xs) = allHold poweredUp x && everyHolds xs
+
+abbrev pub examples : Bool
+examples = everyHolds fromPowerUp && exampleL

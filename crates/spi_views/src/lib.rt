@@ -1,0 +1,87 @@
+// What a caller sees without changing anything: the interrupt flag, the levels of SCK and SDO, and answers in the paper's
+// numbers.
+use spi_rules::Answer;
+use spi_rules::Module;
+use spi_rules::Refusal;
+use spi_rules::Said;
+use spi_rules::Sdo;
+ghost use mathlib.Core.Path.{_≡_};
+ghost use Rattle.spi_rules.specs.Refusals.{numberOf, saidOf};
+ghost use Rattle.spi_rules.specs.Calls.{interruptOf, sckOf, sdoOf};
+
+// The paper's number for a refusal.
+pub fn refusal_number(r: Refusal) -> u8
+    ensures { λ n. ⌜ n ≡ numberOf r ⌝ }
+{
+    match r {
+        Refusal::NoSuchRegister => 1,
+        Refusal::Disabled => 2,
+        Refusal::Enabled => 3,
+        Refusal::BadSettings => 4,
+        Refusal::TransmitFull => 5,
+        Refusal::ReceiveEmpty => 6,
+        Refusal::WrongClock => 7,
+    }
+}
+
+// An answer in the paper's numbers.
+pub fn said(a: Answer) -> Said
+    ensures { λ r. ⌜ r ≡ saidOf a ⌝ }
+{
+    match a {
+        Answer::Refused(r) => Said {
+            number: refusal_number(r),
+            value: 0,
+            edges: 0,
+        },
+        Answer::Done => Said {
+            number: 0,
+            value: 0,
+            edges: 0,
+        },
+        Answer::Value(v) => Said {
+            number: 0,
+            value: v,
+            edges: 0,
+        },
+        Answer::NoEdge => Said {
+            number: 0,
+            value: 0,
+            edges: 0,
+        },
+        Answer::Edge => Said {
+            number: 0,
+            value: 0,
+            edges: 1,
+        },
+    }
+}
+
+// The interrupt flag.
+pub fn interrupt(m: Module) -> bool
+    ensures { λ r. ⌜ r ≡ interruptOf m ⌝ }
+{
+    m.engine.interrupt
+}
+
+// The remembered clock level.
+pub fn sck(m: Module) -> bool
+    ensures { λ r. ⌜ r ≡ sckOf m ⌝ }
+{
+    m.engine.pins.sck
+}
+
+// The SDO pin: its level, or undriven.
+pub fn sdo(m: Module) -> Sdo
+    ensures { λ r. ⌜ r ≡ sdoOf m ⌝ }
+{
+    let s = m.settings;
+    let pins = m.engine.pins;
+    if !s.spien | (s.con1.dissdo | (spi_settings::ssen_client(s) & pins.ss)) {
+        return Sdo::Undriven;
+    }
+    if pins.sdo {
+        return Sdo::High;
+    }
+    Sdo::Low
+}
