@@ -1,5 +1,7 @@
 -- What a choice has, and what a compound test says.
 --     if-keeps                        a choice has what each of its values has under its test
+--     if-both                         two choices by tests that agree have what their values have, one by one
+--     if-ap                           a function of a choice is a choice
 --     if-true, if-false               a choice whose test is settled is one of its values
 --     and-left, and-right, and-both   the parts of a conjunction that is true
 --     and-rest, and-rest-first        the part of a false conjunction that is false, the other being true
@@ -17,6 +19,19 @@ pub if-keeps : {A : Type 0} (P : A → Type 0) (b : Bool) (x y : A) → (b ≡ t
 unfolding if_then_else_
 if-keeps P true x y h k = h refl
 if-keeps P false x y h k = k refl
+
+-- Two choices by tests that agree have what their first values have if the tests are true, and their second if not.
+pub if-both : {A B : Type 0} (P : A → B → Type 0) (b c : Bool) (x y : A) (u v : B) → c ≡ b → (b ≡ true → P x u) →
+    (b ≡ false → P y v) → P (if b then x else y) (if c then u else v)
+unfolding if_then_else_
+if-both P true c x y u v e h k = rw e (h refl)
+if-both P false c x y u v e h k = rw e (k refl)
+
+-- A function of a choice is the choice between the function's values.
+pub if-ap : {A B : Type 0} (f : A → B) (b : Bool) (x y : A) → f (if b then x else y) ≡ (if b then f x else f y)
+unfolding if_then_else_
+if-ap f true x y = refl
+if-ap f false x y = refl
 
 -- A choice by a test that is true is its first value.
 pub if-true : {A : Type 0} (b : Bool) (x y : A) → b ≡ true → (if b then x else y) ≡ x

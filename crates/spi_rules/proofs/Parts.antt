@@ -3,7 +3,6 @@
 --     Unmoved               an outcome that a refusal, or no edge, leaves without effect
 --     accepts               an answer that is no refusal
 --     HoldsAfter        an outcome whose module has the invariant
---     performAll            the module after a list of calls
 --     queued                the engine in the middle of a BUF write
 --     outgoing              the words not yet begun, in the order in which they will be sent
 --     restat, elsewhere     settings and an engine changed where the shift register does not look
@@ -16,7 +15,7 @@
 --     EdgeHolds             a begun word that is being given an edge: the clock has moved, and the edge is not yet counted
 --     EngineHolds           an engine between calls
 --     EdgedHolds            an engine after an edge, for what is under way at that edge
-use Prim.Native.Nat.{ℕ, _+_, _%_, _^_, _≤_, _<_}
+use Prim.Native.Nat.{ℕ, _+_, _-_, _%_, _^_, _≤_, _<_}
 use mathlib.Core.Bool.{Bool, true, false, Bool·beq}
 use mathlib.Core.List.{List, [], _∷_, _++_}
 use mathlib.Core.Path.{_≡_}
@@ -26,7 +25,6 @@ use Rattle.spi_rules.specs.declared.Settings.{Settings}
 use Rattle.spi_rules.specs.declared.Engine.{Engine}
 use Rattle.spi_rules.specs.declared.Module.{Module}
 use Rattle.spi_rules.specs.declared.Outcome.{Outcome}
-use Rattle.spi_rules.specs.declared.Call.{Call}
 use Rattle.spi_rules.specs.declared.Transmit.{Transmit}
 use Rattle.spi_rules.specs.declared.Receive.{Receive}
 use Rattle.spi_rules.specs.declared.Progress.{Progress}
@@ -37,9 +35,10 @@ use Rattle.spi_rules.specs.declared.Answer.{Answer}
 use Rattle.spi_rules.specs.declared.Answer.the-variants.{Refused, Done, Value, NoEdge, Edge}
 use Rattle.spi_rules.specs.Ring.{capacity}
 use Rattle.spi_rules.specs.Settings.{widthOf, depthOf, ssenClient, ownClock}
+use Rattle.spi_rules.specs.Registers.{bitOf}
 use Rattle.spi_rules.specs.Buffers.{firstWaiting, written, waiting}
+use Rattle.spi_rules.specs.Bits.{samples}
 use Rattle.spi_rules.specs.Edge.{wordEdges, advancedIfBegun, clocked}
-use Rattle.spi_rules.specs.Calls.{performOf}
 use Rattle.spi_rules.specs.Invariant.{RingHolds, CellsHold, ShiftHolds, RestHolds, ModuleHolds, sampled}
 
 -- An outcome after which a refusal, or no edge, leaves the module as it was.
@@ -57,11 +56,6 @@ accepts Edge = true
 -- An outcome whose module has the invariant.
 abbrev pub HoldsAfter : Outcome → Type 0
 HoldsAfter o = ModuleHolds (o .after)
-
--- The module after a list of calls.
-abbrev pub performAll : Module → List Call → Module
-performAll m [] = m
-performAll m (c ∷ cs) = performAll (performOf m c .after) cs
 
 -- The engine in the middle of a BUF write: the word waits, and nothing has loaded yet.
 abbrev pub queued : Settings → ℕ → Engine → Engine
@@ -139,11 +133,14 @@ pub record WordHolds (s : Settings) (n : Engine) (filler : Bool) (word : ℕ) : 
   pub selected : ssenClient s ≡ true → n .pins .ss ≡ false
   pub first : ssenClient s ≡ true → filler ≡ false → (1 ≤ n .transmit .count) × (word ≡ firstWaiting (n .transmit))
 
--- A begun word at an edge: the clock stands where that edge takes it, and the rest is as before the edge.
+-- A begun word at an edge: the clock stands where that edge takes it, and the rest is as before the edge. An edge that
+-- samples finds SDO at the bit that it samples.
 pub record EdgeHolds (s : Settings) (n : Engine) (p : Progress) : Type 0 where
   pub unfinished : p .edges < wordEdges s
   pub received : p .received < 2 ^ sampled (s .con1 .cke) (p .edges)
   pub clock : n .pins .sck ≡ Bool·beq (s .con1 .ckp) (eqb ((p .edges + 1) % 2) 0)
+  pub shows : samples (s .con1 .cke) (p .edges + 1) ≡ true →
+      n .pins .sdo ≡ bitOf (p .word) (widthOf s - 1 - sampled (s .con1 .cke) (p .edges))
   pub sent : WordHolds s n (p .filler) (p .word)
 
 -- An engine once a word has loaded, if it can: its buffers and its shift register.

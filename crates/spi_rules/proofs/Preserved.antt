@@ -23,10 +23,10 @@ use Rattle.spi_rules.specs.Choice.{if_then_else_}
 use Rattle.spi_rules.specs.Settings.{ownClock}
 use Rattle.spi_rules.specs.Registers.{isFree, spitbf, con1From, con2From, lowBits}
 use Rattle.spi_rules.specs.Buffers.{empty}
-use Rattle.spi_rules.specs.Calls.{answering, poweredUp, readBuf, readOf, withCon1, withCon2, writeBuf, writeOf, tickOf, pinsOf, clearOf, performOf}
+use Rattle.spi_rules.specs.Calls.{afterCalls, answering, poweredUp, readBuf, readOf, withCon1, withCon2, writeBuf, writeOf, tickOf, pinsOf, clearOf, performOf}
 use Rattle.spi_rules.specs.Invariant.{Emptied, ModuleHolds}
 use Rattle.spi_rules.proofs.Keeps.{if-keeps, clash}
-use Rattle.spi_rules.proofs.Parts.{HoldsAfter, performAll, BuffersHold, EngineHolds}
+use Rattle.spi_rules.proofs.Parts.{HoldsAfter, BuffersHold, EngineHolds}
 use Rattle.spi_rules.proofs.Sizes.{low-bits-fit}
 use Rattle.spi_rules.proofs.ShiftKept.{shift-same}
 use Rattle.spi_rules.proofs.PreservedEdge.{stepped-holds}
@@ -107,8 +107,8 @@ tick-keeps m sdi h =
     (if-keeps HoldsAfter (isFree (m .engine .shift)) _ _
     (λ free. h)
     (λ busy.
-    moves-holds m _ _ (not-false (s .spien) on) h
-    (stepped-holds s _ sdi _ (m .engine) (λ own. busy) (engine-of m h)))))
+    let enabled : s .spien ≡ true = not-false (s .spien) on in
+    moves-holds m _ _ enabled h (stepped-holds s enabled _ sdi _ (m .engine) (λ own. busy) (engine-of m h)))))
 
 -- A pin call keeps the invariant.
 pins-keeps : (m : Module) (sck sdi ss : Bool) → ModuleHolds m → HoldsAfter (pinsOf m sck sdi ss)
@@ -121,8 +121,9 @@ pins-keeps m sck sdi ss h =
     if-keeps HoldsAfter (ownClock s) _ _
     (λ own. refuse-holds m WrongClock h)
     (λ pin.
-    moves-holds m _ _ (not-false (s .spien) on) h
-    (stepped-holds s sck sdi ss (m .engine) (λ own. clash (ownClock s) own pin) (engine-of m h))))
+    let enabled : s .spien ≡ true = not-false (s .spien) on in
+    moves-holds m _ _ enabled h
+    (stepped-holds s enabled sck sdi ss (m .engine) (λ own. clash (ownClock s) own pin) (engine-of m h))))
 
 -- The clear call keeps the invariant.
 clear-keeps : (m : Module) → ModuleHolds m → HoldsAfter (clearOf m)
@@ -132,7 +133,7 @@ clear-keeps m h =
     reached _ (h .settings)
     (record {
       buffers = record { transmit = b .transmit; receive = b .receive };
-      shift = shift-same (m .settings) (m .engine) _ _ _ _ _ _ _ _ (λ on. on) (m .engine .shift) (h .shift);
+      shift = shift-same (m .settings) (m .engine) _ _ _ _ _ _ _ _ (λ on. on) (m .engine .shift) (λ busy. refl) (h .shift);
       rest = h .rest;
     })
     (λ off.
@@ -149,10 +150,10 @@ call-keeps m (Pin sck sdi ss) h = pins-keeps m sck sdi ss h
 call-keeps m Clear h = clear-keeps m h
 
 -- Every list of calls keeps the invariant.
-pub calls-keep : (cs : List Call) (m : Module) → ModuleHolds m → ModuleHolds (performAll m cs)
+pub calls-keep : (cs : List Call) (m : Module) → ModuleHolds m → ModuleHolds (afterCalls m cs)
 calls-keep [] m h = h
 calls-keep (c ∷ cs) m h = calls-keep cs (performOf m c .after) (call-keeps m c h)
 
 -- What calls reach from power-up has the invariant.
-pub reached-holds : (cs : List Call) → ModuleHolds (performAll poweredUp cs)
+pub reached-holds : (cs : List Call) → ModuleHolds (afterCalls poweredUp cs)
 reached-holds cs = calls-keep cs poweredUp powered-up-holds

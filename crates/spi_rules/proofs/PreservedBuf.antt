@@ -30,7 +30,7 @@ unfolding wordTaken noted
 word-taken-holds s n h =
     record {
       buffers = record { transmit = h .buffers .transmit; receive = taken-keeps s (n .receive) (h .buffers .receive) };
-      shift = shift-same s n _ _ _ _ _ _ _ _ (λ on. on) (n .shift) (h .shift);
+      shift = shift-same s n _ _ _ _ _ _ _ _ (λ on. on) (n .shift) (λ busy. refl) (h .shift);
       rest = h .rest;
     }
 
@@ -59,6 +59,7 @@ module _ (s : Settings) (on : s .spien ≡ true) (n : Engine) (h : EngineHolds s
         word = k .word;
         received = k .received;
         clock = k .clock;
+        shows = k .shows;
         zeros = k .zeros;
         host = k .host;
         selected = k .selected;
@@ -81,5 +82,5 @@ module _ (s : Settings) (on : s .spien ≡ true) (n : Engine) (h : EngineHolds s
       rested-holds s _
       (record {
         buffers = record { transmit = l .buffers .transmit; receive = l .buffers .receive };
-        shift = shift-same s (loaded s q) _ _ _ _ _ _ _ _ (λ e. e) (loaded s q .shift) (l .shift);
+        shift = shift-same s (loaded s q) _ _ _ _ _ _ _ _ (λ e. e) (loaded s q .shift) (λ busy. refl) (l .shift);
       })

@@ -1,12 +1,14 @@
 -- An edge keeps the invariant: select first, then the beginning of a word, then the edge itself.
 --     shifted-holds     an edge short of 2w
 --     advanced-holds    an edge of a begun word, the finish included
+--     progress-edge, fresh-edge   a begun word, and one that begins, at an edge
+--     loaded-top, first-top, filler-top   with CKE 1 SDO shows the top bit of the word that begins
 --     begun-holds       the beginning of a word
 --     selected-holds    select is seen, and an abort with it
 --     edged-holds       an edge to a level
 --     stepped-holds     the levels are seen
 -- Assumes nothing.
-use Prim.Native.Nat.{ℕ, _+_, _*_, _%_, _^_, _<_}
+use Prim.Native.Nat.{ℕ, _+_, _-_, _*_, _/_, _%_, _^_, _<_}
 use mathlib.Core.Bool.{Bool, true, false, not, _&&_, Bool·beq}
 use mathlib.Core.Path.{_≡_, refl, sym, ap, _∙_}
 use native.Mathlib.Omega.{arith}
@@ -19,17 +21,17 @@ use Rattle.spi_rules.specs.declared.Shift.{Shift}
 use Rattle.spi_rules.specs.declared.Shift.the-variants.{Free, Loaded, Begun}
 use Rattle.spi_rules.specs.Choice.{if_then_else_}
 use Rattle.spi_rules.specs.Settings.{widthOf, ssenClient, ownClock}
-use Rattle.spi_rules.specs.Registers.{isFree}
+use Rattle.spi_rules.specs.Registers.{bitOf, isFree}
 use Rattle.spi_rules.specs.Buffers.{empty, firstWaiting}
-use Rattle.spi_rules.specs.Bits.{receivedAfter, progressed}
-use Rattle.spi_rules.specs.Loading.{isBegun, rested, sdoAt}
+use Rattle.spi_rules.specs.Bits.{samples, receivedAfter, shownBit, sdoAfter, progressed}
+use Rattle.spi_rules.specs.Loading.{nextTop, isBegun, rested, sdoAt}
 use Rattle.spi_rules.specs.Select.{selectRemembered, aborted, deselected, selectSeen}
 use Rattle.spi_rules.specs.Edge.{wordEdges, fresh, begun, shifted, advanced, advancedIfBegun, underWay, clocked, edged, stepped}
 use Rattle.spi_rules.specs.Invariant.{ProgressHolds, ShiftHolds}
 use Rattle.spi_rules.proofs.Keeps.{if-keeps, clash, and-left, and-right, and-rest, and-rest-first, like, unlike}
 use Rattle.spi_rules.proofs.Parts.{TransmitHolds, BuffersHold, WordHolds, EdgeHolds, EngineHolds, EdgedHolds}
-use Rattle.spi_rules.proofs.Sizes.{width-least, power-least}
-use Rattle.spi_rules.proofs.Sampling.{sampled-all, received-fits, turned, beq-high, beq-low}
+use Rattle.spi_rules.proofs.Sizes.{width-least, power-least, no-bit-above}
+use Rattle.spi_rules.proofs.Sampling.{sampled-none, sampled-all, shown-sampled, shown-kept, shown-changed, received-fits, turned, beq-high, beq-low}
 use Rattle.spi_rules.proofs.BuffersKept.{first-waiting-fits}
 use Rattle.spi_rules.proofs.ShiftKept.{shift-is}
 use Rattle.spi_rules.proofs.PreservedFinish.{rested-holds, finished-holds}
@@ -42,6 +44,18 @@ client-not-own s c own =
     clash (s .con1 .msten) host client
 
 module _ (s : Settings) (sdi : Bool) (p : Progress) (n : Engine) (h : EdgeHolds s n p) where
+  -- SDO after an edge short of 2w.
+  shifted-shows : sdoAfter s (p .word) (p .edges + 1) (n .pins .sdo)
+      ≡ bitOf (p .word)
+      (widthOf s - 1 - (if s .con1 .cke then p .edges + 1 else p .edges + 1 - 1) / 2)
+  unfolding sdoAfter shownBit
+  shifted-shows =
+      let cke : Bool = s .con1 .cke in
+      let at : ℕ → Bool = λ k. bitOf (p .word) (widthOf s - 1 - k) in
+      if-keeps (λ (b : Bool). b ≡ at ((if cke then p .edges + 1 else p .edges + 1 - 1) / 2)) (samples cke (p .edges + 1)) _ _
+      (λ e. h .shows e ∙ ap at (sym (shown-sampled cke (p .edges))))
+      (λ e. ap at (shown-changed cke (p .edges) e ∙ sym (shown-sampled cke (p .edges))))
+
   -- A begun word after an edge short of 2w.
   shifted-progress : p .edges + 1 < wordEdges s → ProgressHolds s (shifted s sdi p n) (progressed s sdi p)
   unfolding shifted progressed
@@ -52,6 +66,7 @@ module _ (s : Settings) (sdi : Bool) (p : Progress) (n : Engine) (h : EdgeHolds 
         word = h .sent .fits;
         received = received-fits s (p .edges) sdi (p .received) (h .received);
         clock = h .clock;
+        shows = shifted-shows;
         zeros = h .sent .zeros;
         host = h .sent .host;
         selected = h .sent .selected;
@@ -69,18 +84,18 @@ module _ (s : Settings) (sdi : Bool) (p : Progress) (n : Engine) (h : EdgeHolds 
       }
 
   -- The edge that is not short of 2w is edge 2w.
-  last-edge : ltb (p .edges + 1) (wordEdges s) ≡ false → p .edges + 1 ≡ 2 * widthOf s
+  pub last-edge : ltb (p .edges + 1) (wordEdges s) ≡ false → p .edges + 1 ≡ 2 * widthOf s
   unfolding wordEdges
   last-edge e = omega (arith, h .unfinished, ltb-false (p .edges + 1) (2 * widthOf s) e)
 
   -- At edge 2w the clock is idle.
-  last-idle : p .edges + 1 ≡ 2 * widthOf s → n .pins .sck ≡ s .con1 .ckp
+  pub last-idle : p .edges + 1 ≡ 2 * widthOf s → n .pins .sck ≡ s .con1 .ckp
   last-idle e =
       let even : eqb ((p .edges + 1) % 2) 0 ≡ true = eq-eqb ((p .edges + 1) % 2) 0 (omega arith) in
       h .clock ∙ ap (Bool·beq (s .con1 .ckp)) even ∙ beq-high (s .con1 .ckp)
 
   -- The word received at edge 2w fits the width.
-  last-fits : p .edges + 1 ≡ 2 * widthOf s → receivedAfter s (p .edges + 1) sdi (p .received) < 2 ^ widthOf s
+  pub last-fits : p .edges + 1 ≡ 2 * widthOf s → receivedAfter s (p .edges + 1) sdi (p .received) < 2 ^ widthOf s
   last-fits e =
       rw (sampled-all (s .con1 .cke) (p .edges + 1) (widthOf s) e)
       at (received-fits s (p .edges) sdi (p .received) (h .received))
@@ -97,7 +112,7 @@ module _ (s : Settings) (sdi : Bool) (p : Progress) (n : Engine) (h : EdgeHolds 
 
 module _ (s : Settings) (sck : Bool) (n : Engine) where
   -- The clock moves no buffer.
-  clocked-buffers : BuffersHold s n → BuffersHold s (clocked sck n)
+  pub clocked-buffers : BuffersHold s n → BuffersHold s (clocked sck n)
   unfolding clocked
   clocked-buffers b = record { transmit = b .transmit; receive = b .receive }
 
@@ -113,39 +128,46 @@ module _ (s : Settings) (sck : Bool) (n : Engine) where
       }
 
   -- A begun word is given an edge.
-  progress-edge : (p : Progress) → sck ≡ not (n .pins .sck) → ProgressHolds s n p → EdgeHolds s (clocked sck n) p
+  pub progress-edge : (p : Progress) → sck ≡ not (n .pins .sck) → ProgressHolds s n p → EdgeHolds s (clocked sck n) p
   unfolding clocked
   progress-edge p edge h =
       record {
         unfinished = h .unfinished;
         received = h .received;
         clock = edge ∙ ap not (h .clock) ∙ turned (s .con1 .ckp) (p .edges);
+        shows = λ e.
+            h .shows ∙ ap (λ (k : ℕ). bitOf (p .word) (widthOf s - 1 - k)) (shown-kept (s .con1 .cke) (p .edges) e);
         sent =
             record { fits = h .word; zeros = h .zeros; host = h .host; selected = h .selected; first = h .first };
       }
 
-  -- A fresh word is given its first edge.
-  fresh-edge : {filler : Bool} {word : ℕ} → Bool·beq sck (s .con1 .ckp) ≡ false → WordHolds s n filler word →
+  -- A fresh word is given its first edge. With CKE 1 SDO shows its top bit before it.
+  pub fresh-edge : {filler : Bool} {word : ℕ} → Bool·beq sck (s .con1 .ckp) ≡ false →
+      (s .con1 .cke ≡ true → n .pins .sdo ≡ bitOf word (widthOf s - 1)) → WordHolds s n filler word →
       EdgeHolds s (clocked sck n) (fresh filler word)
-  unfolding clocked wordEdges
-  fresh-edge away h =
+  unfolding clocked wordEdges samples
+  fresh-edge {word = word} away top h =
       record {
         unfinished = omega (arith, width-least s);
         received = power-least _;
         clock = unlike sck (s .con1 .ckp) away ∙ sym (beq-low (s .con1 .ckp));
+        shows = λ e.
+            top (sym (beq-high (s .con1 .cke)) ∙ e)
+            ∙ ap (bitOf word) (omega (arith, sampled-none (s .con1 .cke)));
         sent =
             record { fits = h .fits; zeros = h .zeros; host = h .host; selected = h .selected; first = h .first };
       }
 
   -- A fresh word begins.
   begins : (sdi : Bool) {filler : Bool} {word : ℕ} → BuffersHold s n → Bool·beq sck (s .con1 .ckp) ≡ false →
-      WordHolds s n filler word → EdgedHolds s sck sdi n (Begun (fresh filler word))
+      (s .con1 .cke ≡ true → n .pins .sdo ≡ bitOf word (widthOf s - 1)) → WordHolds s n filler word →
+      EdgedHolds s sck sdi n (Begun (fresh filler word))
   unfolding advancedIfBegun
-  begins sdi b away h = advanced-holds s sdi _ (clocked sck n) (fresh-edge away h) (clocked-buffers b)
+  begins sdi b away top h = advanced-holds s sdi _ (clocked sck n) (fresh-edge away top h) (clocked-buffers b)
 
 module _ (s : Settings) (n : Engine) where
   -- A loaded word can be sent.
-  loaded-word : (word : ℕ) → ShiftHolds s n (Loaded word) → WordHolds s n false word
+  pub loaded-word : (word : ℕ) → ShiftHolds s n (Loaded word) → WordHolds s n false word
   loaded-word word k =
       record {
         fits = k .1;
@@ -156,7 +178,7 @@ module _ (s : Settings) (n : Engine) where
       }
 
   -- The first waiting word of a client that is not deselected can be sent.
-  first-word : TransmitHolds s (n .transmit) → deselected s (n .pins .ss) ≡ false → empty (n .transmit .count) ≡ false →
+  pub first-word : TransmitHolds s (n .transmit) → deselected s (n .pins .ss) ≡ false → empty (n .transmit .count) ≡ false →
       WordHolds s n false (firstWaiting (n .transmit))
   first-word t d some =
       let there : n .transmit .count ≡ 0 → ⊥ = eqb-false (n .transmit .count) 0 some in
@@ -169,7 +191,7 @@ module _ (s : Settings) (n : Engine) where
       }
 
   -- A filler can be sent by a client that is not deselected.
-  filler-word : s .con1 .msten ≡ false → deselected s (n .pins .ss) ≡ false → WordHolds s n true 0
+  pub filler-word : s .con1 .msten ≡ false → deselected s (n .pins .ss) ≡ false → WordHolds s n true 0
   filler-word client d =
       record {
         fits = power-least (widthOf s);
@@ -179,13 +201,36 @@ module _ (s : Settings) (n : Engine) where
         first = λ c f. clash true refl f;
       }
 
-module _ (s : Settings) (sck sdi : Bool) (n : Engine) (h : EngineHolds s n)
+module _ (s : Settings) (on : s .spien ≡ true) (n : Engine) (h : EngineHolds s n) where
+  -- With CKE 1 SDO shows the top bit of a loaded word.
+  pub loaded-top : (word : ℕ) → n .shift ≡ Loaded word → s .con1 .cke ≡ true → n .pins .sdo ≡ bitOf word (widthOf s - 1)
+  unfolding nextTop
+  loaded-top word e cke = h .rest on cke (ap isBegun e) ∙ ap (nextTop s (n .transmit)) e
+
+  -- With CKE 1 and the shift register free SDO shows the top bit of the first waiting word of an SSEN client.
+  pub first-top : n .shift ≡ Free → (ssenClient s && not (empty (n .transmit .count))) ≡ true → s .con1 .cke ≡ true →
+      n .pins .sdo ≡ bitOf (firstWaiting (n .transmit)) (widthOf s - 1)
+  unfolding nextTop
+  first-top e c cke =
+      h .rest on cke (ap isBegun e) ∙ ap (nextTop s (n .transmit)) e
+      ∙ ap (λ (b : Bool). b && bitOf (firstWaiting (n .transmit)) (widthOf s - 1)) c
+
+  -- With CKE 1 and nothing to send SDO is low.
+  pub filler-top : n .shift ≡ Free → (ssenClient s && not (empty (n .transmit .count))) ≡ false → s .con1 .cke ≡ true →
+      n .pins .sdo ≡ bitOf 0 (widthOf s - 1)
+  unfolding nextTop
+  filler-top e c cke =
+      h .rest on cke (ap isBegun e) ∙ ap (nextTop s (n .transmit)) e
+      ∙ ap (λ (b : Bool). b && bitOf (firstWaiting (n .transmit)) (widthOf s - 1)) c
+      ∙ sym (no-bit-above 0 0 (widthOf s - 1) (power-least 0) (omega arith))
+
+module _ (s : Settings) (on : s .spien ≡ true) (sck sdi : Bool) (n : Engine) (h : EngineHolds s n)
     (edge : sck ≡ not (n .pins .sck)) (busy : ownClock s ≡ true → isFree (n .shift) ≡ false) where
   -- An edge to a level while deselected.
   deselected-holds : deselected s (n .pins .ss) ≡ true → (sh : Shift) → n .shift ≡ sh → ShiftHolds s n sh →
       EngineHolds s (clocked sck n)
   unfolding clocked
-  deselected-holds d Free e k = stays s sck n Free h e (k .0, λ on. client-not-own s (and-left (ssenClient s) _ d))
+  deselected-holds d Free e k = stays s sck n Free h e (k .0, λ f. client-not-own s (and-left (ssenClient s) _ d))
   deselected-holds d (Loaded word) e k = clash (ssenClient s) (and-left (ssenClient s) _ d) (k .0)
   deselected-holds d (Begun p) e k =
       clash (n .pins .ss) (and-right (ssenClient s) _ d) (k .selected (and-left (ssenClient s) _ d))
@@ -196,14 +241,14 @@ module _ (s : Settings) (sck sdi : Bool) (n : Engine) (h : EngineHolds s n)
   unfolding begun advancedIfBegun clocked
   begun-holds d e k away =
       if-keeps (EdgedHolds s sck sdi n) (s .con1 .msten) _ _
-      (λ host. stays s sck n Free h e (k .0, λ on own. clash true refl (sym (ap isFree e) ∙ busy own)))
+      (λ host. stays s sck n Free h e (k .0, λ f own. clash true refl (sym (ap isFree e) ∙ busy own)))
       (λ client.
       if-keeps (EdgedHolds s sck sdi n) (ssenClient s && not (empty (n .transmit .count))) _ _
       (λ c.
       let some : empty (n .transmit .count) ≡ false =
       not-true (empty (n .transmit .count)) (and-right (ssenClient s) _ c) in
-      begins s sck n sdi (h .buffers) away (first-word s n (h .buffers .transmit) d some))
-      (λ c. begins s sck n sdi (h .buffers) away (filler-word s n client d)))
+      begins s sck n sdi (h .buffers) away (first-top s on n h e c) (first-word s n (h .buffers .transmit) d some))
+      (λ c. begins s sck n sdi (h .buffers) away (filler-top s on n h e c) (filler-word s n client d)))
 
   -- What is under way at an edge to a level while not deselected.
   under-way-holds : deselected s (n .pins .ss) ≡ false → (sh : Shift) → n .shift ≡ sh → ShiftHolds s n sh →
@@ -211,16 +256,16 @@ module _ (s : Settings) (sck sdi : Bool) (n : Engine) (h : EngineHolds s n)
   unfolding begun advancedIfBegun clocked
   under-way-holds d Free e k =
       if-keeps (EdgedHolds s sck sdi n) (Bool·beq sck (s .con1 .ckp)) _ _
-      (λ to-idle. stays s sck n Free h e (k .0, λ on own. like sck (s .con1 .ckp) to-idle))
+      (λ to-idle. stays s sck n Free h e (k .0, λ f own. like sck (s .con1 .ckp) to-idle))
       (begun-holds d e k)
   under-way-holds d (Loaded word) e k =
       if-keeps (EdgedHolds s sck sdi n) (Bool·beq sck (s .con1 .ckp)) _ _
       (λ to-idle. stays s sck n (Loaded word) h e (k .0, k .1, λ own. like sck (s .con1 .ckp) to-idle))
-      (λ away. begins s sck n sdi (h .buffers) away (loaded-word s n word k))
+      (λ away. begins s sck n sdi (h .buffers) away (loaded-top s on n h word e) (loaded-word s n word k))
   under-way-holds d (Begun p) e k =
-      let on : EdgedHolds s sck sdi n (Begun p) =
+      let further : EdgedHolds s sck sdi n (Begun p) =
       advanced-holds s sdi p (clocked sck n) (progress-edge s sck n p edge k) (clocked-buffers s sck n (h .buffers)) in
-      if-keeps (EdgedHolds s sck sdi n) (Bool·beq sck (s .con1 .ckp)) _ _ (λ to-idle. on) (λ away. on)
+      if-keeps (EdgedHolds s sck sdi n) (Bool·beq sck (s .con1 .ckp)) _ _ (λ to-idle. further) (λ away. further)
 
   -- An edge to a level.
   pub edged-holds : EngineHolds s (edged s sck sdi n)
@@ -255,6 +300,7 @@ module _ (s : Settings) (ss : Bool) (n : Engine) (h : EngineHolds s n) where
         word = k .word;
         received = k .received;
         clock = k .clock;
+        shows = k .shows;
         zeros = k .zeros;
         host = k .host;
         selected = and-rest (ssenClient s) ss in-reach;
@@ -296,13 +342,13 @@ selected-shift s ss n own =
     (λ e. refl)
 
 -- The levels are seen. A host with its own clock makes an edge only while its shift register is not free.
-pub stepped-holds : (s : Settings) (sck sdi ss : Bool) (n : Engine) → (ownClock s ≡ true → isFree (n .shift) ≡ false) →
-    EngineHolds s n → EngineHolds s (stepped s sck sdi ss n)
+pub stepped-holds : (s : Settings) → s .spien ≡ true → (sck sdi ss : Bool) (n : Engine) →
+    (ownClock s ≡ true → isFree (n .shift) ≡ false) → EngineHolds s n → EngineHolds s (stepped s sck sdi ss n)
 unfolding stepped
-stepped-holds s sck sdi ss n busy h =
+stepped-holds s on sck sdi ss n busy h =
     if-keeps (EngineHolds s) (Bool·beq sck (n .pins .sck)) _ _
     (λ e. selected-holds s ss n h)
     (λ e.
-    edged-holds s sck sdi (selectSeen s ss n) (selected-holds s ss n h)
+    edged-holds s on sck sdi (selectSeen s ss n) (selected-holds s ss n h)
     (unlike sck (n .pins .sck) e ∙ ap not (sym (selected-sck s ss n)))
     (λ own. ap isFree (selected-shift s ss n own) ∙ busy own))

@@ -5,7 +5,7 @@
 --     finished-holds   after the finish the engine holds
 -- Assumes nothing.
 use Prim.Native.Nat.{ℕ, _^_, _<_}
-use mathlib.Core.Bool.{Bool, true, false, not, _&&_}
+use mathlib.Core.Bool.{Bool, true, false, not, _&&_, and-false}
 use mathlib.Core.Path.{_≡_, refl, sym, ap, _∙_}
 use borrow.Author.Tests.{eqb-true, not-true, not-false}
 use Rattle.spi_rules.specs.declared.Settings.{Settings}
@@ -20,7 +20,7 @@ use Rattle.spi_rules.specs.Interrupts.{noted}
 use Rattle.spi_rules.specs.Loading.{wordLeaves, moved, canLoad, loaded, isBegun, rested, sdoAt}
 use Rattle.spi_rules.specs.Finish.{overflowed, wordAppended, isLost, delivered, sentDropped, freed, finished}
 use Rattle.spi_rules.specs.Invariant.{ShiftHolds}
-use Rattle.spi_rules.proofs.Keeps.{if-keeps, if-true, clash, and-left, and-right, and-both, and-rest}
+use Rattle.spi_rules.proofs.Keeps.{if-keeps, if-true, if-false, clash, and-left, and-right, and-both, and-rest}
 use Rattle.spi_rules.proofs.Parts.{TransmitHolds, ReceiveHolds, BuffersHold, Idle, FinishHolds, LoadHolds, EngineHolds}
 use Rattle.spi_rules.proofs.BuffersKept.{appended-keeps, left-keeps, first-waiting-fits}
 use Rattle.spi_rules.proofs.ShiftKept.{shift-is, shift-same}
@@ -114,9 +114,13 @@ module _ (s : Settings) where
       let follows : Bool = s .con1 .cke && not (isBegun (n .shift)) in
       record {
         buffers = record { transmit = h .buffers .transmit; receive = h .buffers .receive };
-        shift = shift-same s n _ _ _ _ _ _ _ _ (λ on. on) (n .shift) (h .shift);
+        shift =
+            shift-same s n _ _ _ _ _ _ _ _ (λ on. on) (n .shift) (λ busy. if-false follows _ _ (stands busy)) (h .shift);
         rest = λ on cke between. if-true follows _ _ (and-both (s .con1 .cke) _ cke (ap not between));
       }
+    where
+      stands : isBegun (n .shift) ≡ true → (s .con1 .cke && not (isBegun (n .shift))) ≡ false
+      stands busy = rw busy (and-false (s .con1 .cke))
 
   -- After a finish the engine holds.
   pub finished-holds : (filler : Bool) (word : ℕ) (n : Engine) → word < 2 ^ widthOf s → FinishHolds s n →

@@ -1,10 +1,13 @@
 -- How the edges of a word move its clock and its received bits.
 --     sampled-more, sampled-same   an edge that samples adds one bit, and any other none
 --     sampled-none, sampled-all    no bit before the first edge, and w bits after edge 2w
+--     sampled-most                 no more than w bits by edge 2w
 --     received-fits                the bits received fit the number of bits sampled
+--     shown-sampled                above the bit that SDO shows after an edge stand those sampled before that edge
+--     shown-kept, shown-changed    the bit after an edge that samples, and after one that changes SDO
 --     turned                       each edge takes the clock to its other level
 -- Assumes nothing.
-use Prim.Native.Nat.{ℕ, suc, _+_, _*_, _%_, _^_, _<_}
+use Prim.Native.Nat.{ℕ, suc, _+_, _-_, _*_, _/_, _%_, _^_, _<_, _≤_}
 use mathlib.Core.Bool.{Bool, true, false, not, Bool·beq}
 use mathlib.Core.Path.{_≡_, refl, sym}
 use native.Mathlib.Omega.{arith}
@@ -49,6 +52,37 @@ pub sampled-all : (cke : Bool) (k w : ℕ) → k ≡ 2 * w → sampled cke k ≡
 unfolding sampled if_then_else_
 sampled-all true k w e = omega arith
 sampled-all false k w e = omega arith
+
+-- By edge 2w no more than w bits are sampled.
+pub sampled-most : (cke : Bool) (k w : ℕ) → k ≤ 2 * w → sampled cke k ≤ w
+unfolding sampled if_then_else_
+sampled-most true k w h = omega arith
+sampled-most false k w h = omega arith
+
+-- Above the bit that SDO shows after an edge stand as many bits as were sampled before that edge.
+pub shown-sampled : (cke : Bool) (k : ℕ) → (if cke then k + 1 else k + 1 - 1) / 2 ≡ sampled cke k
+unfolding sampled if_then_else_
+shown-sampled true k = refl
+shown-sampled false k = omega arith
+
+-- An edge that samples finds SDO at the bit that the edge before it left there.
+pub shown-kept : (cke : Bool) (k : ℕ) → samples cke (k + 1) ≡ true → (if cke then k else k - 1) / 2 ≡ sampled cke k
+unfolding samples sampled if_then_else_
+shown-kept true k e =
+    let odd : (k + 1) % 2 ≡ 1 = eqb-true ((k + 1) % 2) 1 (sym (like true _ e)) in
+    omega arith
+shown-kept false k e =
+    let even : (k + 1) % 2 ≡ 1 → ⊥ = eqb-false ((k + 1) % 2) 1 (sym (like false _ e)) in
+    omega arith
+
+-- An edge that does not sample takes SDO to the bit below those sampled.
+pub shown-changed : (cke : Bool) (k : ℕ) → samples cke (k + 1) ≡ false → (k + 1) / 2 ≡ sampled cke k
+unfolding samples sampled if_then_else_
+shown-changed true k e = refl
+shown-changed false k e =
+    let is-odd : Bool = eqb ((k + 1) % 2) 1 in
+    let odd : (k + 1) % 2 ≡ 1 = eqb-true ((k + 1) % 2) 1 (not-false is-odd (sym (unlike false is-odd e))) in
+    omega arith
 
 -- A sampled bit makes the received bits one longer.
 shifted-in-fits : (k received : ℕ) (sdi : Bool) → received < 2 ^ k → shiftedIn received sdi < 2 ^ suc k

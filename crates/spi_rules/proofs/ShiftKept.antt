@@ -1,11 +1,11 @@
--- What the shift register's part of the invariant looks at: CON1, CON2, the transmit buffer, and the levels SCK and SS.
--- A change of anything else keeps it.
+-- What the shift register's part of the invariant looks at: CON1, CON2, the transmit buffer, the levels SCK and SS, and
+-- for a begun word the level SDO. A change of anything else keeps it.
 --     progress-same, shift-same   a begun word, and the shift register, under changes of anything else
 --     shift-is                    the invariant for a shift register that is known
 -- Assumes nothing.
 use Prim.Native.Nat.{ℕ}
 use mathlib.Core.Bool.{Bool, true}
-use mathlib.Core.Path.{_≡_, sym, subst}
+use mathlib.Core.Path.{_≡_, refl, sym, subst, _∙_}
 use Rattle.spi_rules.specs.declared.Settings.{Settings}
 use Rattle.spi_rules.specs.declared.Engine.{Engine}
 use Rattle.spi_rules.specs.declared.Receive.{Receive}
@@ -13,6 +13,7 @@ use Rattle.spi_rules.specs.declared.Progress.{Progress}
 use Rattle.spi_rules.specs.declared.Shift.{Shift}
 use Rattle.spi_rules.specs.declared.Shift.the-variants.{Free, Loaded, Begun}
 use Rattle.spi_rules.specs.Settings.{widthOf}
+use Rattle.spi_rules.specs.Loading.{isBegun}
 use Rattle.spi_rules.specs.Edge.{wordEdges}
 use Rattle.spi_rules.specs.Invariant.{ProgressHolds, ShiftHolds}
 use Rattle.spi_rules.proofs.Parts.{restat, elsewhere}
@@ -24,16 +25,17 @@ shift-is s n sh e h = subst (λ (x : Shift). ShiftHolds s n x) (sym e) h
 module _ (s : Settings) (n : Engine) (spien spisidl : Bool) (sisel : ℕ) (receive : Receive) (shift : Shift)
     (sdo spirov interrupt : Bool) where
   -- A begun word, under changes of what it does not look at.
-  pub progress-same : (p : Progress) → ProgressHolds s n p →
+  pub progress-same : (p : Progress) → sdo ≡ n .pins .sdo → ProgressHolds s n p →
       ProgressHolds (restat s spien spisidl sisel) (elsewhere n receive shift sdo spirov interrupt) p
   unfolding wordEdges widthOf
-  progress-same p h =
+  progress-same p stands h =
       record {
         started = h .started;
         unfinished = h .unfinished;
         word = h .word;
         received = h .received;
         clock = h .clock;
+        shows = stands ∙ h .shows;
         zeros = h .zeros;
         host = h .host;
         selected = h .selected;
@@ -41,9 +43,10 @@ module _ (s : Settings) (n : Engine) (spien spisidl : Bool) (sisel : ℕ) (recei
       }
 
   -- The shift register, under changes of what it does not look at.
-  pub shift-same : (spien ≡ true → s .spien ≡ true) → (sh : Shift) → ShiftHolds s n sh →
+  pub shift-same : (spien ≡ true → s .spien ≡ true) → (sh : Shift) → (isBegun sh ≡ true → sdo ≡ n .pins .sdo) →
+      ShiftHolds s n sh →
       ShiftHolds (restat s spien spisidl sisel) (elsewhere n receive shift sdo spirov interrupt) sh
   unfolding widthOf
-  shift-same on Free h = (h .0, λ e. h .1 (on e))
-  shift-same on (Loaded word) h = h
-  shift-same on (Begun p) h = progress-same p h
+  shift-same on Free stands h = (h .0, λ e. h .1 (on e))
+  shift-same on (Loaded word) stands h = h
+  shift-same on (Begun p) stands h = progress-same p (stands refl) h

@@ -8,7 +8,7 @@
 --     loaded      loaded-not-ssen-client, loaded-word-fits, tick-begins-loaded-word
 --     begun       begun-edges-left, finishes-at-last-edge, goes-on-before-last-edge, begun-word-fits,
 --                 received-word-fits, odd-edge-active, even-edge-idle, filler-shows-zeros, host-sends-no-filler,
---                 begun-is-shown, begun-word-waits, abort-frees, abort-keeps-word-first
+--                 begun-is-shown, begun-shows-bit, begun-word-waits, abort-frees, abort-keeps-word-first
 --     emptied     disabled-nothing-waits, disabled-nothing-unread, disabled-nothing-loaded
 --     rest        sdo-shows-next-word
 -- Assumes nothing.
@@ -292,6 +292,18 @@ module _ (m : Module) (h : ModuleHolds m) where
         shown-by (m .settings .spien) (m .settings .con1 .dissdo) (deselected (m .settings) (m .engine .pins .ss))
         begun-enabled
         (and-none (ssenClient (m .settings)) (m .engine .pins .ss) (progress .selected))
+
+    -- A begun word shows on SDO, unless DISSDO is set, the bit that its edges say: with CKE 1 the top bit until edge 2 and
+    -- the next one at each even edge, with CKE 0 the top bit from edge 1 and the next one at each odd edge.
+    pub begun-shows-bit : m .settings .con1 .dissdo ≡ false →
+        sdoOf m
+        ≡ (if bitOf (p .word)
+        (widthOf (m .settings) - 1 - (if m .settings .con1 .cke then p .edges else p .edges - 1) / 2)
+        then High else Low)
+    unfolding sdoOf
+    begun-shows-bit driven =
+        if-false (undriven m) _ _ (begun-is-shown ∙ driven)
+        ∙ ap (λ (b : Bool). if b then High else Low) (progress .shows)
 
     -- The begun word of an SSEN client still waits, as the first.
     pub begun-word-waits : ssenClient (m .settings) ≡ true → p .filler ≡ false →

@@ -1,5 +1,6 @@
 -- What the invariant of specs/Invariant.antt says of the lists of words that the buffers hold, for every module that
 -- calls reach.
+--     loaded-order             loading changes nothing in the order of the words to be sent
 --     buf-write-appends        a BUF write stands last among the words to be sent
 --     buf-read-takes-first     a BUF read answers the first unread word and takes it
 --     received-word-appended   a received word that is not lost stands last among those unread
@@ -23,12 +24,12 @@ use Rattle.spi_rules.specs.declared.Module.{Module}
 use Rattle.spi_rules.specs.declared.Outcome.{Outcome}
 use Rattle.spi_rules.specs.declared.Progress.{Progress}
 use Rattle.spi_rules.specs.declared.Shift.{Shift}
-use Rattle.spi_rules.specs.declared.Shift.the-variants.{Free, Begun}
+use Rattle.spi_rules.specs.declared.Shift.the-variants.{Free, Loaded, Begun}
 use Rattle.spi_rules.specs.declared.Answer.the-variants.{Done, Value}
 use Rattle.spi_rules.specs.declared.Call.the-variants.{Read, Write, Pin}
 use Rattle.spi_rules.specs.Settings.{widthOf, depthOf, ssenClient}
 use Rattle.spi_rules.specs.Registers.{isFree, spitbf, lowBits}
-use Rattle.spi_rules.specs.Buffers.{written, empty, departed, taken, waiting, unread}
+use Rattle.spi_rules.specs.Buffers.{written, empty, firstWaiting, departed, taken, waiting, unread}
 use Rattle.spi_rules.specs.Interrupts.{noted}
 use Rattle.spi_rules.specs.Loading.{wordLeaves, moved, canLoad, loaded, rested, sdoAt}
 use Rattle.spi_rules.specs.Finish.{wordAppended, isLost, delivered}
@@ -41,6 +42,7 @@ use Rattle.spi_rules.proofs.BuffersKept.{written-keeps}
 use Rattle.spi_rules.proofs.Reached.{engine-of}
 use Rattle.spi_rules.proofs.Accepted.{is-free, buf-read-when, buf-read-is, buf-write-when, buf-write-is}
 use Rattle.spi_rules.proofs.Uses.{buf-read-whole, begun-word-waits, abort-frees, disabled-nothing-waits, disabled-nothing-unread}
+use Rattle.spi_rules.proofs.Losses.{kept-finds-room}
 use Rattle.spi_rules.proofs.RingLaws.{contents-keep, written-appends, left-takes-first, appended-appends, taken-takes-first, none-waiting, none-unread}
 
 -- A count that is not zero is at least one.
@@ -48,18 +50,21 @@ some-stand : (count : ℕ) → empty count ≡ false → 1 ≤ count
 some-stand count e = let there : count ≡ 0 → ⊥ = eqb-false count 0 e in omega arith
 
 module _ (s : Settings) (n : Engine) where
-  -- Loading changes nothing in the order in which words will be sent.
-  loaded-outgoing : BuffersHold s n → outgoing s (loaded s n) ≡ outgoing s n
+  -- Loading changes nothing in the order of the words to be sent, whatever is counted of a word that has begun.
+  pub loaded-order : (f : Shift → List ℕ) → f Free ≡ [] → ((word : ℕ) → f (Loaded word) ≡ word ∷ []) → BuffersHold s n →
+      f (loaded s n .shift) ++ waiting (depthOf s) (loaded s n .transmit) ≡ f (n .shift) ++ waiting (depthOf s) (n .transmit)
   unfolding loaded moved wordLeaves noted canLoad
-  loaded-outgoing h =
-      if-keeps (λ (x : Engine). outgoing s x ≡ outgoing s n) (canLoad s n) _ _
+  loaded-order f none one h =
+      let order : Engine → List ℕ = λ x. f (x .shift) ++ waiting (depthOf s) (x .transmit) in
+      if-keeps (λ (x : Engine). order x ≡ order n) (canLoad s n) _ _
       (λ e.
       let free : n .shift ≡ Free = is-free (n .shift) (and-left (isFree (n .shift)) _ e) in
       let some : not (empty (n .transmit .count)) ≡ true =
       and-right (not (ssenClient s)) _ (and-right (isFree (n .shift)) _ e) in
-      sym (left-takes-first (depthOf s) (n .transmit) (depth-most s) (h .transmit .cells) (h .transmit .ring)
+      ap (λ (l : List ℕ). l ++ waiting (depthOf s) (departed (depthOf s) (n .transmit))) (one (firstWaiting (n .transmit)))
+      ∙ sym (left-takes-first (depthOf s) (n .transmit) (depth-most s) (h .transmit .cells) (h .transmit .ring)
       (some-stand (n .transmit .count) (not-true (empty (n .transmit .count)) some)))
-      ∙ ap (λ (x : Shift). loadedWord x ++ waiting (depthOf s) (n .transmit)) (sym free))
+      ∙ ap (λ (l : List ℕ). l ++ waiting (depthOf s) (n .transmit)) (sym (ap f free ∙ none)))
       (λ e. refl)
 
   -- A word that is written stands last among those to be sent.
@@ -83,7 +88,7 @@ module _ (m : Module) (h : ModuleHolds m) where
       let q : TransmitHolds s (written (depthOf s) (lowBits s v) (m .engine .transmit)) =
       written-keeps s (m .engine .transmit) (b .transmit) (lowBits s v) (low-bits-fit s v) in
       ap (λ (o : Outcome). outgoing s (o .after .engine)) (buf-write-is m v (w .0) (w .1))
-      ∙ loaded-outgoing s (queued s (lowBits s v) (m .engine))
+      ∙ loaded-order s (queued s (lowBits s v) (m .engine)) loadedWord refl (λ word. refl)
       (record { transmit = q; receive = b .receive })
       ∙ queued-outgoing s (m .engine) (lowBits s v) b (leb-false (depthOf s) (m .engine .transmit .count) (w .1))
 
@@ -104,13 +109,13 @@ module _ (m : Module) (h : ModuleHolds m) where
   pub received-word-appended : (word : ℕ) → isLost (m .settings) (m .engine) ≡ false →
       unread (depthOf (m .settings)) (delivered (m .settings) word (m .engine) .receive)
       ≡ unread (depthOf (m .settings)) (m .engine .receive) ++ (word ∷ [])
-  unfolding delivered wordAppended noted isLost
+  unfolding delivered wordAppended noted
   received-word-appended word e =
       let s : Settings = m .settings in
       let r : Receive = m .engine .receive in
       ap (λ (n : Engine). unread (depthOf s) (n .receive)) (if-false (isLost s (m .engine)) _ _ e)
       ∙ appended-appends (depthOf s) r (depth-most s) (h .receiveCells) (h .receive) word
-      (leb-false (depthOf s) (r .count) e)
+      (kept-finds-room s (m .engine) e)
 
   -- The begun word of an SSEN client is still the first of those waiting.
   pub begun-word-first : (p : Progress) → m .engine .shift ≡ Begun p → ssenClient (m .settings) ≡ true → p .filler ≡ false →

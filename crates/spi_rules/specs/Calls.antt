@@ -2,6 +2,7 @@
 -- then 2 or 3, then 4, 5 or 6; tick and pin calls test 2, then 7. A refused call leaves the module as it was.
 use Prim.Native.Nat.{ℕ}
 use mathlib.Core.Bool.{Bool, false, not, _&&_, _||_}
+use mathlib.Core.List.{List, [], _∷_}
 use lib.Dec.{eqb, ltb}
 use Rattle.spi_rules.specs.declared.Con1.{Con1}
 use Rattle.spi_rules.specs.declared.Con2.{Con2}
@@ -186,6 +187,11 @@ performOf m (Write register v) = writeOf m register v
 performOf m (Tick sdi) = tickOf m sdi
 performOf m (Pin sck sdi ss) = pinsOf m sck sdi ss
 performOf m Clear = clearOf m
+
+-- The module after a list of calls.
+abbrev pub afterCalls : Module → List Call → Module
+afterCalls m [] = m
+afterCalls m (c ∷ cs) = afterCalls (performOf m c .after) cs
 
 -- What a caller sees without changing anything: the interrupt flag, the remembered SCK level, and the SDO pin.
 unfoldable pub interruptOf : Module → Bool

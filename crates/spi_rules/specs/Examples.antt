@@ -1,7 +1,7 @@
 -- Document 01, "Checked examples": each as calls from power-up with what they must answer and show.
 -- proofs/ExamplesHold.antt proves them together, as one list.
 use Prim.Native.Nat.{ℕ, zero, suc}
-use mathlib.Core.Bool.{Bool, true, false, not, _&&_}
+use mathlib.Core.Bool.{Bool, true, false, not, _&&_, Bool·beq}
 use mathlib.Core.List.{List, [], _∷_, _++_}
 use lib.Dec.{eqb}
 use lib.ListN.{replicate}
@@ -12,12 +12,13 @@ use Rattle.spi_rules.specs.declared.Call.the-variants.{Read, Write, Tick
 use Rattle.spi_rules.specs.declared.Sdo.{Sdo}
 use Rattle.spi_rules.specs.declared.Sdo.the-variants.{Low, High, Undriven}
 use Rattle.spi_rules.specs.Refusals.{saidOf}
-use Rattle.spi_rules.specs.Calls.{poweredUp, performOf, sdoOf, sckOf}
+use Rattle.spi_rules.specs.Calls.{poweredUp, performOf, interruptOf, sdoOf, sckOf}
 
--- One line of an example: a call with what its answer must say, or what SDO must show.
+-- One line of an example: a call with what its answer must say, what SDO must show, or how the interrupt flag must stand.
 pub data Line : Type 0 where
   says : Call → Said → Line
   shows : Sdo → Line
+  flagged : Bool → Line
 
 -- An answer that is no refusal: nothing more, a register value, or an edge; and a refusal.
 abbrev pub ok : Said
@@ -52,12 +53,14 @@ abbrev pub allHold : Module → List Line → Bool
 allHold m [] = true
 allHold m (says c a ∷ rest) = sameSaid (saidOf (performOf m c .answer)) a && allHold (performOf m c .after) rest
 allHold m (shows level ∷ rest) = sameSdo (sdoOf m) level && allHold m rest
+allHold m (flagged flag ∷ rest) = Bool·beq (interruptOf m) flag && allHold m rest
 
 -- The module after the calls of some lines.
 abbrev pub afterLines : Module → List Line → Module
 afterLines m [] = m
 afterLines m (says c a ∷ rest) = afterLines (performOf m c .after) rest
 afterLines m (shows level ∷ rest) = afterLines m rest
+afterLines m (flagged flag ∷ rest) = afterLines m rest
 
 -- A module is configured and enabled.
 abbrev pub set-up : ℕ → ℕ → List Line
@@ -222,3 +225,99 @@ everyHolds (x ∷ xs) = allHold poweredUp x && everyHolds xs
 
 abbrev pub examples : Bool
 examples = everyHolds fromPowerUp && exampleL
+
+-- Further examples, of rules that a to l do not touch.
+
+-- SPIROV under STAT writes: a 1 in bit 6 leaves it, enabled or not and when disabling; a 0 clears it; a 1 sets nothing.
+abbrev pub furtherSpirov : List Line
+furtherSpirov =
+    exampleI
+    ++ (says (Write 0 0x8040) ok
+    ∷ says (Read 0) (value 0x80E0)
+    ∷ says (Write 0 0x0040) ok
+    ∷ says (Read 0) (value 0x0040)
+    ∷ says (Write 0 0x8040) ok
+    ∷ says (Read 0) (value 0x80E0)
+    ∷ says (Write 0 0x8000) ok
+    ∷ says (Read 0) (value 0x80A0)
+    ∷ says (Write 0 0x8040) ok
+    ∷ says (Read 0) (value 0x80A0)
+    ∷ [])
+
+-- CKE 1: the top bit stands on SDO from the BUF write on, and SDI is sampled on odd edges, where it is high here.
+abbrev pub sendsCke1 : List Sdo → List Line
+sendsCke1 [] = []
+sendsCke1 (bit ∷ bits) = shows bit ∷ says (Tick true) edge ∷ shows bit ∷ says (Tick false) edge ∷ sendsCke1 bits
+
+abbrev pub furtherCke1 : List Line
+furtherCke1 =
+    set-up 0x0120 0x0000
+    ++ (shows Low
+    ∷ says (Write 3 0x00A5) ok
+    ∷ sendsCke1 bitsOfA5
+    ++ (shows Low ∷ says (Read 3) (value 0x00FF) ∷ says (Tick true) ok ∷ []))
+
+-- Enabling sets select to high, so that an SSEN client does not drive SDO.
+abbrev pub furtherSelect : List Line
+furtherSelect = set-up 0x0080 0x0000 ++ (shows Undriven ∷ says (Pin false false false) ok ∷ shows Low ∷ [])
+
+-- The flag: a standard finish sets it, disabling and enabling leave it, and only the clear call clears it.
+abbrev pub furtherFlag : List Line
+furtherFlag =
+    set-up 0x0020 0x0000
+    ++ (says (Write 3 0x0055) ok
+    ∷ ticks 15
+    ++ (flagged false
+    ∷ says (Tick true) edge
+    ∷ flagged true
+    ∷ says (Write 0 0x0000) ok
+    ∷ flagged true
+    ∷ says (Write 0 0x8000) ok
+    ∷ flagged true
+    ∷ says Clear ok
+    ∷ flagged false
+    ∷ []))
+
+-- A filler of zeros goes out when nothing can be sent, and takes no word with it: what is written during it is sent next.
+abbrev pub furtherFiller : List Line
+furtherFiller =
+    set-up 0x0080 0x0000
+    ++ (says (Pin true true false) ok
+    ∷ says (Write 3 0x00A5) ok
+    ∷ says (Pin false true false) ok
+    ∷ shows Low
+    ∷ answers (Low ∷ Low ∷ Low ∷ Low ∷ Low ∷ Low ∷ Low ∷ [])
+    ++ (says (Read 3) (value 0x00FF) ∷ answers bitsOfA5 ++ (says (Read 3) (value 0x00FF) ∷ [])))
+
+-- Registers: unlisted bits read 0 and ignore writes, a STAT write takes SPIEN, SPISIDL and SISEL alone, and a register above
+-- 3 gives 1. Disabled, BUF, tick and pin calls give 2.
+abbrev pub furtherRegisters : List Line
+furtherRegisters =
+    says (Write 1 0xFFFF) ok
+    ∷ says (Read 1) (value 0x1FFF)
+    ∷ says (Write 2 0xFFFF) ok
+    ∷ says (Read 2) (value 0xE003)
+    ∷ says (Write 0 0x7FFF) ok
+    ∷ says (Read 0) (value 0x201C)
+    ∷ says (Read 4) (refused 1)
+    ∷ says (Write 4 0x8000) (refused 1)
+    ∷ says (Read 3) (refused 2)
+    ∷ says (Write 3 0x0001) (refused 2)
+    ∷ says (Tick true) (refused 2)
+    ∷ says (Pin true true true) (refused 2)
+    ∷ []
+
+-- Clocks: a host with its own clock gives 7 for a pin call, and a DISSCK host and a client give 7 for a tick.
+abbrev pub furtherClocks : List Line
+furtherClocks =
+    set-up 0x0020 0x0000
+    ++ (says (Pin true true true) (refused 7)
+    ∷ says (Write 0 0x0000) ok
+    ∷ set-up 0x1020 0x0000
+    ++ (says (Tick true) (refused 7)
+    ∷ says (Write 0 0x0000) ok
+    ∷ set-up 0x0000 0x0000 ++ (says (Tick true) (refused 7) ∷ says (Pin false true true) ok ∷ [])))
+
+abbrev pub furtherExamples : Bool
+furtherExamples =
+    everyHolds (furtherSpirov ∷ furtherCke1 ∷ furtherSelect ∷ furtherFlag ∷ furtherFiller ∷ furtherRegisters ∷ furtherClocks ∷ [])

@@ -7,7 +7,7 @@ use lib.Dec.{eqb}
 use Rattle.spi_rules.specs.declared.Event.{Event}
 use Rattle.spi_rules.specs.declared.Event.the-variants.{Taken, Appended, Left, Finished, Written}
 use Rattle.spi_rules.specs.Settings.{enhancedDepth}
-use Rattle.spi_rules.specs.Interrupts.{enhancedRaises, standardRaises}
+use Rattle.spi_rules.specs.Interrupts.{enhancedRaises}
 
 -- The events that raise the flag for SISEL 0, 1, .. 7, in this order.
 abbrev pub raisedBySisel : List (List Event)

@@ -1,6 +1,6 @@
 -- What is true of every module that calls reach from power-up. proofs/Preserved.antt shows that power-up has it and every
 -- call keeps it; proofs/Uses.antt has a theorem for each clause.
-use Prim.Native.Nat.{ℕ, _+_, _/_, _%_, _^_, _≤_, _<_}
+use Prim.Native.Nat.{ℕ, _+_, _-_, _/_, _%_, _^_, _≤_, _<_}
 use mathlib.Core.Bool.{Bool, true, false, Bool·beq}
 use mathlib.Core.List.{List}
 use mathlib.Core.Path.{_≡_}
@@ -16,6 +16,7 @@ use Rattle.spi_rules.specs.Choice.{if_then_else_}
 use Rattle.spi_rules.specs.Ring.{capacity, after}
 use Rattle.spi_rules.specs.Settings.{widthOf, depthOf, ssenClient, ownClock}
 use Rattle.spi_rules.specs.Refusals.{badSettings}
+use Rattle.spi_rules.specs.Registers.{bitOf}
 use Rattle.spi_rules.specs.Buffers.{emptyTransmit, emptyReceive, firstWaiting}
 use Rattle.spi_rules.specs.Loading.{nextTop, isBegun}
 use Rattle.spi_rules.specs.Edge.{wordEdges}
@@ -41,7 +42,8 @@ CellsHold w cells = (i : ℕ) → getD cells i 0 < 2 ^ w
 unfoldable pub sampled : Bool → ℕ → ℕ
 sampled cke edges = if cke then (edges + 1) / 2 else edges / 2
 
--- A begun word: within its 2w edges, its bits within the width, and the clock where the edges left it. A filler is made
+-- A begun word: within its 2w edges, its bits within the width, the clock where the edges left it, and SDO at the bit
+-- that the last change showed. A filler is made
 -- of zeros and no host sends one. An SSEN client is selected, and the word it sends is still the first that waits.
 pub record ProgressHolds (s : Settings) (n : Engine) (p : Progress) : Type 0 where
   pub started : 1 ≤ p .edges
@@ -49,6 +51,7 @@ pub record ProgressHolds (s : Settings) (n : Engine) (p : Progress) : Type 0 whe
   pub word : p .word < 2 ^ widthOf s
   pub received : p .received < 2 ^ sampled (s .con1 .cke) (p .edges)
   pub clock : n .pins .sck ≡ Bool·beq (s .con1 .ckp) (eqb (p .edges % 2) 0)
+  pub shows : n .pins .sdo ≡ bitOf (p .word) (widthOf s - 1 - (if s .con1 .cke then p .edges else p .edges - 1) / 2)
   pub zeros : p .filler ≡ true → p .word ≡ 0
   pub host : s .con1 .msten ≡ true → p .filler ≡ false
   pub selected : ssenClient s ≡ true → n .pins .ss ≡ false

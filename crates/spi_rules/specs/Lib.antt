@@ -1,5 +1,5 @@
 -- Document 01's rules as definitions that compute, a file for each topic. Read them in this order: each stands on those
--- before it.
+-- before it. The demands come first for a buyer: Demands, then what it mentions.
 pub mod Choice
 pub mod Ring
 pub mod Settings
@@ -14,5 +14,8 @@ pub mod Select
 pub mod Edge
 pub mod Calls
 pub mod Invariant
+pub mod RefusalTable
+pub mod Ledger
+pub mod Demands
 pub mod Figures
 pub mod Examples

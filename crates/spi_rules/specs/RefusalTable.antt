@@ -1,0 +1,114 @@
+-- Document 01, "What each refusal number says", rows 1 to 7 once more, each by itself and in the paper's words, and the
+-- order in which the rows are tested. specs/Demands.antt says that a call is refused exactly so.
+use mathlib.Core.Bool.{Bool, true, false, not, _&&_, _||_}
+use mathlib.Core.List.{List, [], _∷_}
+use lib.Dec.{eqb, ltb, leb}
+use Rattle.spi_rules.specs.declared.Module.{Module}
+use Rattle.spi_rules.specs.declared.Refusal.{Refusal}
+use Rattle.spi_rules.specs.declared.Refusal.the-variants.{NoSuchRegister, Disabled, Enabled, BadSettings, TransmitFull, ReceiveEmpty, WrongClock}
+use Rattle.spi_rules.specs.declared.Answer.{Answer}
+use Rattle.spi_rules.specs.declared.Answer.the-variants.{Refused, Done, Value, NoEdge, Edge}
+use Rattle.spi_rules.specs.declared.Call.{Call}
+use Rattle.spi_rules.specs.declared.Call.the-variants.{Read, Write, Tick, Pin, Clear}
+use Rattle.spi_rules.specs.Choice.{if_then_else_}
+use Rattle.spi_rules.specs.Settings.{depthOf}
+use Rattle.spi_rules.specs.Registers.{bitOf}
+
+-- What a call asks for.
+abbrev pub namesNoRegister : Call → Bool
+namesNoRegister (Read register) = ltb 3 register
+namesNoRegister (Write register v) = ltb 3 register
+namesNoRegister (Tick sdi) = false
+namesNoRegister (Pin sck sdi ss) = false
+namesNoRegister Clear = false
+
+abbrev pub readsBuf : Call → Bool
+readsBuf (Read register) = eqb register 3
+readsBuf (Write register v) = false
+readsBuf (Tick sdi) = false
+readsBuf (Pin sck sdi ss) = false
+readsBuf Clear = false
+
+abbrev pub writesBuf : Call → Bool
+writesBuf (Read register) = false
+writesBuf (Write register v) = eqb register 3
+writesBuf (Tick sdi) = false
+writesBuf (Pin sck sdi ss) = false
+writesBuf Clear = false
+
+abbrev pub writesCon : Call → Bool
+writesCon (Read register) = false
+writesCon (Write register v) = eqb register 1 || eqb register 2
+writesCon (Tick sdi) = false
+writesCon (Pin sck sdi ss) = false
+writesCon Clear = false
+
+abbrev pub writesSpien1 : Call → Bool
+writesSpien1 (Read register) = false
+writesSpien1 (Write register v) = eqb register 0 && bitOf v 15
+writesSpien1 (Tick sdi) = false
+writesSpien1 (Pin sck sdi ss) = false
+writesSpien1 Clear = false
+
+abbrev pub isTick : Call → Bool
+isTick (Read register) = false
+isTick (Write register v) = false
+isTick (Tick sdi) = true
+isTick (Pin sck sdi ss) = false
+isTick Clear = false
+
+abbrev pub isPinCall : Call → Bool
+isPinCall (Read register) = false
+isPinCall (Write register v) = false
+isPinCall (Tick sdi) = false
+isPinCall (Pin sck sdi ss) = true
+isPinCall Clear = false
+
+-- The rows.
+abbrev pub row : Refusal → Module → Call → Bool
+-- 1: register number above 3
+row NoSuchRegister m c = namesNoRegister c
+-- 2: module disabled: BUF read or write, tick, pin call
+row Disabled m c = not (m .settings .spien) && (readsBuf c || (writesBuf c || (isTick c || isPinCall c)))
+-- 3: CON1 or CON2 written while SPIEN is 1
+row Enabled m c = m .settings .spien && writesCon c
+-- 4: STAT write turns SPIEN from 0 to 1 with FRMEN; or SMP; or MSTEN without DISSCK and both prescalers 1:1; or a client
+-- with CKE and no SSEN
+row BadSettings m c =
+    let con1 = m .settings .con1 in
+    (not (m .settings .spien) && writesSpien1 c)
+    && (m .settings .con2 .frmen
+    || (con1 .smp
+    || (((con1 .msten && not (con1 .dissck)) && (eqb (con1 .ppre) 3 && eqb (con1 .spre) 7))
+    || (not (con1 .msten) && (con1 .cke && not (con1 .ssen))))))
+-- 5: BUF write with the transmit buffer full
+row TransmitFull m c = writesBuf c && leb (depthOf (m .settings)) (m .engine .transmit .count)
+-- 6: BUF read with the receive buffer empty
+row ReceiveEmpty m c = readsBuf c && eqb (m .engine .receive .count) 0
+-- 7: tick on a module clocked from its pin, pin call on a host with its own clock
+row WrongClock m c =
+    let ownClock = m .settings .con1 .msten && not (m .settings .con1 .dissck) in
+    (isTick c && not ownClock) || (isPinCall c && ownClock)
+
+-- The order of the tests: 1, then 2 or 3, then 4, 5 or 6 for register calls; 2, then 7 for tick and pin calls.
+abbrev pub testOrder : List Refusal
+testOrder =
+    NoSuchRegister ∷ Disabled ∷ Enabled ∷ BadSettings ∷ TransmitFull ∷ ReceiveEmpty ∷ WrongClock ∷ []
+
+-- A refusal, or none.
+pub data Due : Type 0 where
+  accepted : Due
+  refusal : Refusal → Due
+
+-- The first row of a list that applies.
+abbrev pub firstRow : List Refusal → Module → Call → Due
+firstRow [] m c = accepted
+firstRow (r ∷ rs) m c = if row r m c then refusal r else firstRow rs m c
+
+-- What an answer tells of it.
+abbrev pub refusalIn : Answer → Due
+refusalIn (Refused r) = refusal r
+refusalIn Done = accepted
+refusalIn (Value v) = accepted
+refusalIn NoEdge = accepted
+refusalIn Edge = accepted
