@@ -35,7 +35,7 @@ use Rattle.spi_rules.specs.Interrupts.{noted}
 use Rattle.spi_rules.specs.Edge.{stepped}
 use Rattle.spi_rules.specs.Calls.{afterCalls, refuse, answering, wordTaken, readBuf, readOf, turnsOn, turnsOff, statWritten, writeStat, configured, writeBuf, writeOf, tickOf, pinsOf, clearOf, performOf}
 use Rattle.spi_rules.specs.Invariant.{ShiftHolds, ModuleHolds}
-use Rattle.spi_rules.specs.Demands.{owed, isEdge, AllUndisturbed, edgesMade, EdgesOwed, IsIdle, IsBusy, ticks, FallsIdle}
+use Rattle.spi_rules.specs.Demands.{owed, isEdge, AllUndisturbed, edgesMade, EdgesOwed, IsIdle, IsBusy, ticks, FallsIdleFrom}
 use Rattle.spi_rules.proofs.Keeps.{if-keeps, if-true, if-false, clash}
 use Rattle.spi_rules.proofs.RingLaws.{none-waiting}
 use Rattle.spi_rules.proofs.Accepted.{own-not-client, is-free, no-edge-when, tick-is}
@@ -210,7 +210,7 @@ calls-pay (c ∷ cs) m h on own u =
     let p : Pays m c (performOf m c) = call-pays m h on own c in
     falls _ _ _ _ _
     (calls-pay cs (performOf m c .after) (call-keeps m c h) (u .0 .enabled) (p .clock) (u .1))
-    (p .edges (u .0 .enabled) (u .0 .none))
+    (p .edges (u .0 .enabled) (u .0 .noWord))
 
 -- A tick of an enabled host with a word loaded or begun makes an edge.
 tick-answers-edge : (m : Module) (sdi : Bool) → m .settings .spien ≡ true → ownClock (m .settings) ≡ true →
@@ -301,10 +301,10 @@ ticks-make (sdi ∷ rest) m h on own k =
     ap (λ (o : Outcome). o .after .settings .spien) (tick-is m sdi on own busy) ∙ on in
     let p : Pays m (Tick sdi) (performOf m (Tick sdi)) = call-pays m h on own (Tick sdi) in
     let t = ticks-make rest after (call-keeps m (Tick sdi) h) enabled (p .clock) (one-fewer _ _ _ _ one (p .edges enabled refl) k) in
-    ((record { enabled = enabled; none = refl }, t .0), one-on-top _ _ _ one (t .1))
+    ((record { enabled = enabled; noWord = refl }, t .0), one-on-top _ _ _ one (t .1))
 
 -- A host with its own clock falls idle after exactly the edges that it owes.
-pub falls-idle : FallsIdle
+pub falls-idle : (m : Module) → ModuleHolds m → FallsIdleFrom m
 falls-idle m h on own = (
   λ cs u.
       let l = calls-leave cs m h on own u in

@@ -14,6 +14,7 @@ pub mod WordBits
 pub mod Unchanged
 pub mod RefusalsExact
 pub mod OneOutcome
+pub mod AnswersAndSettings
 -- Every call keeps the invariant:
 pub mod PreservedFinish
 pub mod PreservedEdge
@@ -40,7 +41,7 @@ pub mod WordOrderHolds
 pub mod OwedParts
 pub mod EdgeOwes
 pub mod EdgesOwedHold
--- The demands, all of them:
-pub mod DemandsHold
 -- The paper's figures:
 pub mod ExamplesHold
+-- The demands, all of them:
+pub mod DemandsHold

@@ -22,7 +22,7 @@ use Rattle.spi_rules.specs.Refusals.{framing, undivided, lateSampling, u
 use Rattle.spi_rules.specs.Registers.{bitOf, isFree, spitbf}
 use Rattle.spi_rules.specs.Buffers.{full, empty}
 use Rattle.spi_rules.specs.Calls.{refuse, answering, turnsOn, readBuf, readOf, writeStat, configured, writeBuf, writeOf, tickOf, pinsOf, clearOf, performOf}
-use Rattle.spi_rules.specs.RefusalTable.{Due, accepted, refusal, testOrder, firstRow, refusalIn}
+use Rattle.spi_rules.specs.RefusalTable.{Due, noRefusal, refusal, testOrder, firstRow, refusalIn}
 use Rattle.spi_rules.specs.Demands.{RefusedExactly}
 use Rattle.spi_rules.proofs.Keeps.{if-keeps}
 use Rattle.spi_rules.proofs.Parts.{restat}
@@ -69,7 +69,7 @@ read-refused m =
     (by-spien (Read 2) (elim [ true ↦ λ m. refl | false ↦ λ m. refl ]) m)
     (by-spien (Read 3)
     (elim [
-      | true ↦ λ m. refused-by _ ReceiveEmpty (empty (m .engine .receive .count)) _ accepted (λ some. refl)
+      | true ↦ λ m. refused-by _ ReceiveEmpty (empty (m .engine .receive .count)) _ noRefusal (λ some. refl)
       | false ↦ λ m. refl
     ])
     m)
@@ -87,7 +87,7 @@ write-refused m v =
       | false ↦ λ m.
           let s = m .settings in
           rw (causes-in-order (framing s) (lateSampling s) (undivided s) (unselectedCke s))
-          (refused-by _ BadSettings (bitOf v 15 && badSettings s) _ accepted (λ good. refl))
+          (refused-by _ BadSettings (bitOf v 15 && badSettings s) _ noRefusal (λ good. refl))
     ])
     m)
     (by-spien (Write 1 v) (elim [ true ↦ λ m. refl | false ↦ λ m. refl ]) m)
@@ -95,7 +95,7 @@ write-refused m v =
     (by-spien (Write 3 v)
     (elim [
       | true ↦ λ m.
-          refused-by _ TransmitFull (full (depthOf (m .settings)) (m .engine .transmit .count)) _ accepted (λ room. refl)
+          refused-by _ TransmitFull (full (depthOf (m .settings)) (m .engine .transmit .count)) _ noRefusal (λ room. refl)
       | false ↦ λ m. refl
     ])
     m)
@@ -109,9 +109,9 @@ tick-refused sdi =
     (elim [
       | true ↦ λ m.
           rw or-false
-          (refused-by _ WrongClock (not (ownClock (m .settings))) _ accepted
+          (refused-by _ WrongClock (not (ownClock (m .settings))) _ noRefusal
           (λ own.
-          if-keeps (λ (o : Outcome). refusalIn (o .answer) ≡ accepted) (isFree (m .engine .shift)) _ _ (λ e. refl) (λ e. refl)))
+          if-keeps (λ (o : Outcome). refusalIn (o .answer) ≡ noRefusal) (isFree (m .engine .shift)) _ _ (λ e. refl) (λ e. refl)))
       | false ↦ λ m. refl
     ])
 
@@ -122,7 +122,7 @@ unfolding performOf pinsOf if_then_else_ refuse answering
 pin-refused sck sdi ss =
     by-spien (Pin sck sdi ss)
     (elim [
-      | true ↦ λ m. refused-by _ WrongClock (ownClock (m .settings)) _ accepted (λ own. refl)
+      | true ↦ λ m. refused-by _ WrongClock (ownClock (m .settings)) _ noRefusal (λ own. refl)
       | false ↦ λ m. refl
     ])
 

@@ -1,7 +1,7 @@
 -- Demand 3 of specs/Demands.antt: word order, over all lists of calls.
 --     word-order               an enabled module that is tied to its ledger has word order
---     demand3                  after any calls from power-up that leave the module enabled
---     demand3-from-any-state   after any calls from any enabled module that has the invariant
+--     word-order-from-power-up                  after any calls from power-up that leave the module enabled
+--     word-order-from-any-state   after any calls from any enabled module that has the invariant
 -- Assumes nothing.
 use Prim.Native.Nat.{ℕ}
 use mathlib.Core.Bool.{true, false, not}
@@ -21,7 +21,7 @@ use Rattle.spi_rules.specs.Buffers.{empty}
 use Rattle.spi_rules.specs.Calls.{refuse, poweredUp, readBuf, readOf, performOf}
 use Rattle.spi_rules.specs.Invariant.{ModuleHolds}
 use Rattle.spi_rules.specs.Ledger.{Watched, undropped}
-use Rattle.spi_rules.specs.Demands.{unreadIn, WordOrder, fromPowerUp, Demand3, undroppedArrivals, resumed, Demand3FromAnyState}
+use Rattle.spi_rules.specs.Demands.{unreadIn, WordOrder, fromPowerUp, WordOrderFromPowerUp, undroppedArrivals, resumed, WordOrderFromAnyState}
 use Rattle.spi_rules.proofs.Keeps.{if-true, if-false, clash}
 use Rattle.spi_rules.proofs.RingLaws.{unread-length}
 use Rattle.spi_rules.proofs.Reached.{engine-of}
@@ -79,13 +79,13 @@ unfolding poweredUp
 power-up-off = refl
 
 -- Demand 3.
-pub demand3 : Demand3
-demand3 cs on =
+pub word-order-from-power-up : WordOrderFromPowerUp
+word-order-from-power-up cs on =
     let all = calls-follow cs fromPowerUp powered-up-holds (λ e. clash (poweredUp .settings .spien) e power-up-off) in
     word-order _ (all .0) on (all .1 on)
 
 -- Demand 3 from the middle of a module's life.
-pub demand3-from-any-state : Demand3FromAnyState
-demand3-from-any-state m h enabled cs on =
+pub word-order-from-any-state : WordOrderFromAnyState
+word-order-from-any-state m h enabled cs on =
     let all = calls-follow cs (record { now = m; ledger = resumed m }) h (λ e. resumed-tied m) in
     word-order _ (all .0) on (all .1 on)

@@ -1,18 +1,9 @@
 -- The customer's three demands on one module, over all sequences of calls: register reads and writes of any number and
--- value, ticks, pin calls and clears, each refused or not. Each is stated here; proofs/DemandsHold.antt proves them all.
---
--- Demand 2 is in the step itself. It is performOf of specs/Calls.antt, one line for each public call, and the contract of
--- each call in the code is an equation with the same definition:
---     power_up   poweredUp         interrupt   interruptOf
---     read       readOf            sck         sckOf
---     write      writeOf           sdo         sdoOf
---     tick       tickOf            perform     performOf
---     pins       pinsOf
---     clear      clearOf
--- So every register value, pin level, flag and interrupt after every call is what these definitions say.
+-- value, ticks, pin calls and clears, each refused or not. The record Demands at the end holds every statement, and
+-- proofs/DemandsHold.antt proves it. The step is performOf of specs/Calls.antt, one line for each call.
 use Prim.Native.Nat.{ℕ, zero, suc, _+_, _*_, _-_, _<_, _≤_}
 use mathlib.Core.Bool.{Bool, true, false, not, _||_}
-use mathlib.Core.List.{List, [], _∷_, _++_}
+use mathlib.Core.List.{List, [], _∷_, _++_, map}
 use mathlib.Core.Path.{_≡_}
 use lib.Dec.{eqb}
 use lib.ListN.{length, getD}
@@ -27,13 +18,18 @@ use Rattle.spi_rules.specs.declared.Answer.{Answer}
 use Rattle.spi_rules.specs.declared.Answer.the-variants.{Refused, Done, Value, NoEdge, Edge}
 use Rattle.spi_rules.specs.declared.Call.{Call}
 use Rattle.spi_rules.specs.declared.Call.the-variants.{Read, Write, Tick, Pin, Clear}
+use Rattle.spi_rules.specs.declared.Sdo.{Sdo}
+use Rattle.spi_rules.specs.declared.Sdo.the-variants.{Low, High, Undriven}
 use Rattle.spi_rules.specs.Choice.{if_then_else_}
+use Rattle.spi_rules.specs.Refusals.{numberOf, saidOf}
+use Rattle.spi_rules.specs.Figures.{sisels}
+use Rattle.spi_rules.specs.Examples.{examples, furtherExamples}
 use Rattle.spi_rules.specs.Settings.{widthOf, depthOf, ssenClient, ownClock}
-use Rattle.spi_rules.specs.Registers.{bitOf}
+use Rattle.spi_rules.specs.Registers.{bitOf, con1From, con2From, statSettings}
 use Rattle.spi_rules.specs.Buffers.{waiting, unread}
-use Rattle.spi_rules.specs.Calls.{poweredUp, performOf, afterCalls}
+use Rattle.spi_rules.specs.Calls.{poweredUp, performOf, withCon1, withCon2, afterCalls, undriven, sdoOf}
 use Rattle.spi_rules.specs.Invariant.{ModuleHolds, sampled}
-use Rattle.spi_rules.specs.RefusalTable.{testOrder, firstRow, refusalIn}
+use Rattle.spi_rules.specs.RefusalTable.{testOrder, firstRow, refusalIn, numberDue}
 use Rattle.spi_rules.specs.Ledger.{Ledger, Wire, quiet, busy, Arrival, Watched, undropped, opened, watchedCall, watchedCalls}
 
 -- Words in a module.
@@ -55,9 +51,10 @@ unfinished s (Begun p) = if p .filler || ssenClient s then [] else p .word ∷ [
 abbrev pub leftBuffer : Module → List ℕ
 leftBuffer m = unfinished (m .settings) (m .engine .shift)
 
--- Demand 1. Every call is answered and ends, for any value in any state: performOf is a total function. A refused call
--- leaves the module unchanged.
+-- Demand 1.
 
+-- Every call is answered and ends, for any value in any state: performOf is a total function, and the gate proves that the
+-- code of each call ends with what it says. A refused call leaves the module unchanged.
 abbrev pub RefusedUnchanged : Type 0
 RefusedUnchanged = (m : Module) (c : Call) (r : Refusal) → performOf m c .answer ≡ Refused r → performOf m c .after ≡ m
 
@@ -65,12 +62,96 @@ RefusedUnchanged = (m : Module) (c : Call) (r : Refusal) → performOf m c .answ
 abbrev pub RefusedExactly : Type 0
 RefusedExactly = (m : Module) (c : Call) → refusalIn (performOf m c .answer) ≡ firstRow testOrder m c
 
--- No two outcomes satisfy a call's contract, which says that the outcome equals performOf.
+-- The number that the answer says is that row's, and 0 where none applies; and the rows in their order have the paper's
+-- numbers 1 to 7.
+abbrev pub NumberSaid : Type 0
+NumberSaid = (m : Module) (c : Call) → saidOf (performOf m c .answer) .number ≡ numberDue (firstRow testOrder m c)
+
+abbrev pub PaperNumbers : Type 0
+PaperNumbers = map numberOf testOrder ≡ 1 ∷ 2 ∷ 3 ∷ 4 ∷ 5 ∷ 6 ∷ 7 ∷ []
+
+-- A call that is not refused is answered in kind: a read with a value, a write, a pin call and a clear with "done", a tick
+-- with an edge or none.
+abbrev pub kindFits : Call → Answer → Bool
+kindFits c (Refused r) = true
+kindFits (Read register) (Value v) = true
+kindFits (Read register) Done = false
+kindFits (Read register) NoEdge = false
+kindFits (Read register) Edge = false
+kindFits (Write register v) Done = true
+kindFits (Write register v) (Value w) = false
+kindFits (Write register v) NoEdge = false
+kindFits (Write register v) Edge = false
+kindFits (Tick sdi) Done = false
+kindFits (Tick sdi) (Value v) = false
+kindFits (Tick sdi) NoEdge = true
+kindFits (Tick sdi) Edge = true
+kindFits (Pin sck sdi ss) Done = true
+kindFits (Pin sck sdi ss) (Value v) = false
+kindFits (Pin sck sdi ss) NoEdge = false
+kindFits (Pin sck sdi ss) Edge = false
+kindFits Clear Done = true
+kindFits Clear (Value v) = false
+kindFits Clear NoEdge = false
+kindFits Clear Edge = false
+
+abbrev pub AnsweredInKind : Type 0
+AnsweredInKind = (m : Module) (c : Call) → kindFits c (performOf m c .answer) ≡ true
+
+-- Demand 2.
+
+-- Every register value, pin level, flag and interrupt after every call is what document 01's rules say: the rules are the
+-- definitions of this folder, and the contract of each call in crates/spi_module and crates/spi_views is an equation with
+-- one of them:
+--     power_up   poweredUp         interrupt        interruptOf
+--     read       readOf            sck              sckOf
+--     write      writeOf           sdo              sdoOf
+--     tick       tickOf            refusal_number   numberOf
+--     pins       pinsOf            said             saidOf
+--     clear      clearOf
+--     perform    performOf
+-- docs/TRACE.md sets each rule beside its definition. The definitions are run on the paper's own examples a to l, on
+-- examples of the other rules, and on its eight interrupt conditions.
+abbrev pub PaperExamples : Type 0
+PaperExamples = (examples ≡ true) × (furtherExamples ≡ true) × (sisels ≡ true)
+
+-- An equation with a function leaves no two outcomes.
 abbrev pub OneOutcome : Type 0
 OneOutcome = (m : Module) (c : Call) (x y : Outcome) → x ≡ performOf m c → y ≡ performOf m c → x ≡ y
 
--- Demand 3. A module is watched from power-up on: the ledger of specs/Ledger.antt is kept beside it, in plain lists, by
--- somebody who sees the calls, their answers and the pins, and never looks into the buffers or the shift register.
+-- Only a register write that is done changes settings, and it changes them as written: SPIEN too.
+abbrev pub settingsAfter : Settings → Call → Answer → Settings
+settingsAfter s (Write register v) Done =
+    if eqb register 0 then statSettings v s
+    else if eqb register 1 then withCon1 s (con1From v)
+    else if eqb register 2 then withCon2 s (con2From v)
+    else s
+settingsAfter s (Write register v) (Refused r) = s
+settingsAfter s (Write register v) (Value w) = s
+settingsAfter s (Write register v) NoEdge = s
+settingsAfter s (Write register v) Edge = s
+settingsAfter s (Read register) a = s
+settingsAfter s (Tick sdi) a = s
+settingsAfter s (Pin sck sdi ss) a = s
+settingsAfter s Clear a = s
+
+abbrev pub SettingsAsWritten : Type 0
+SettingsAsWritten =
+    (m : Module) (c : Call) → performOf m c .after .settings ≡ settingsAfter (m .settings) c (performOf m c .answer)
+
+-- The SDO pin has the level that the rules keep for it, unless it is undriven.
+abbrev pub pinLevel : Bool → Sdo
+pinLevel false = Low
+pinLevel true = High
+
+abbrev pub SdoPin : Type 0
+SdoPin = (m : Module) → (undriven m ≡ false → sdoOf m ≡ pinLevel (m .engine .pins .sdo)) × (undriven m ≡ true → sdoOf m ≡ Undriven)
+
+-- Demand 3.
+
+-- A module is watched from power-up on: the ledger of specs/Ledger.antt is kept beside it, in plain lists, by somebody who
+-- sees the calls, their answers, the settings and the level that SDO has or would have, and never looks into the buffers or
+-- the shift register.
 
 -- Sending: the accepted words are those fully sent, then the one that left the transmit buffer and is not finished, then
 -- those waiting.
@@ -81,7 +162,7 @@ Sending x = x .ledger .accepted ≡ x .ledger .sent ++ (leftBuffer (x .now) ++ w
 abbrev pub Receiving : Watched → Type 0
 Receiving x = undropped (x .ledger .received) ≡ x .ledger .read ++ unreadIn (x .now)
 
--- A loss: one more received word is in the ledger after the call, and it was dropped.
+-- A loss: some word more is in the ledger as received after the call, and it was dropped.
 abbrev pub Loses : Watched → Call → Type 0
 Loses x c =
     (word : ℕ)
@@ -117,50 +198,8 @@ pub record WordOrder (x : Watched) : Type 0 where
 abbrev pub fromPowerUp : Watched
 fromPowerUp = record { now = poweredUp; ledger = opened (poweredUp .settings) }
 
-abbrev pub Demand3 : Type 0
-Demand3 = (cs : List Call) → watchedCalls fromPowerUp cs .now .settings .spien ≡ true → WordOrder (watchedCalls fromPowerUp cs)
-
--- The same from the middle of a module's life: the ledger opens with what the module then holds.
-
--- The highest bits of a word of the given width, highest first.
-abbrev pub topBits : ℕ → ℕ → ℕ → List Bool
-topBits width zero word = []
-topBits width (suc count) word = topBits width count word ++ (bitOf word (width - 1 - count) ∷ [])
-
-abbrev pub wireOf : Settings → Shift → Wire
-wireOf s Free = quiet
-wireOf s (Loaded word) = quiet
-wireOf s (Begun p) =
-    let bits : ℕ = sampled (s .con1 .cke) (p .edges) in
-    busy
-    (record {
-      filler = p .filler;
-      edges = p .edges;
-      shown = topBits (widthOf s) bits (p .word);
-      seen = topBits bits bits (p .received);
-    })
-
-abbrev pub undroppedArrivals : List ℕ → List Arrival
-undroppedArrivals [] = []
-undroppedArrivals (word ∷ words) = record { word = word; dropped = false } ∷ undroppedArrivals words
-
-abbrev pub resumed : Module → Ledger
-resumed m =
-    record {
-      accepted = leftBuffer m ++ waitingIn m;
-      sent = [];
-      received = undroppedArrivals (unreadIn m);
-      read = [];
-      wire = wireOf (m .settings) (m .engine .shift);
-      sck = m .engine .pins .sck;
-      ss = m .engine .pins .ss;
-    }
-
-abbrev pub Demand3FromAnyState : Type 0
-Demand3FromAnyState =
-    (m : Module) → ModuleHolds m → m .settings .spien ≡ true → (cs : List Call) →
-    watchedCalls (record { now = m; ledger = resumed m }) cs .now .settings .spien ≡ true →
-    WordOrder (watchedCalls (record { now = m; ledger = resumed m }) cs)
+abbrev pub WordOrderFromPowerUp : Type 0
+WordOrderFromPowerUp = (cs : List Call) → watchedCalls fromPowerUp cs .now .settings .spien ≡ true → WordOrder (watchedCalls fromPowerUp cs)
 
 -- Edges owed by a host with its own clock: 2w for each unfinished word, less those given to the current one.
 abbrev pub edgesGiven : Shift → ℕ
@@ -172,7 +211,7 @@ abbrev pub owed : Module → ℕ
 owed m =
     2 * widthOf (m .settings) * (length (leftBuffer m) + length (waitingIn m)) - edgesGiven (m .engine .shift)
 
--- A call that leaves an enabled module enabled and accepts no word.
+-- A call accepts no word for sending.
 abbrev pub acceptsNone : Call → Answer → Bool
 acceptsNone (Write register v) Done = not (eqb register 3)
 acceptsNone (Write register v) (Refused r) = true
@@ -184,9 +223,10 @@ acceptsNone (Tick sdi) a = true
 acceptsNone (Pin sck sdi ss) a = true
 acceptsNone Clear a = true
 
+-- A call that leaves the module enabled and accepts no word.
 pub record Undisturbed (m : Module) (c : Call) : Type 0 where
   pub enabled : performOf m c .after .settings .spien ≡ true
-  pub none : acceptsNone c (performOf m c .answer) ≡ true
+  pub noWord : acceptsNone c (performOf m c .answer) ≡ true
 
 abbrev pub AllUndisturbed : Module → List Call → Type 0
 AllUndisturbed m [] = Unit {0}
@@ -231,22 +271,75 @@ ticks (sdi ∷ rest) = Tick sdi ∷ ticks rest
 
 -- A host with its own clock, left enabled and given no new word, falls idle after exactly the edges that it owes: it never
 -- makes more, with fewer it is not idle, and with these it is. That many ticks make them, whatever their SDI levels.
-abbrev pub FallsIdle : Type 0
-FallsIdle =
-    (m : Module) → ModuleHolds m → m .settings .spien ≡ true → ownClock (m .settings) ≡ true →
+abbrev pub FallsIdleFrom : Module → Type 0
+FallsIdleFrom m =
+    m .settings .spien ≡ true → ownClock (m .settings) ≡ true →
     ((cs : List Call) → AllUndisturbed m cs →
     (edgesMade m cs ≤ owed m)
     × (edgesMade m cs < owed m → IsBusy (afterCalls m cs))
     × (edgesMade m cs ≡ owed m → IsIdle (afterCalls m cs)))
     × ((sdis : List Bool) → length sdis ≡ owed m → AllUndisturbed m (ticks sdis) × (edgesMade m (ticks sdis) ≡ owed m))
 
+abbrev pub FallsIdle : Type 0
+FallsIdle = (cs : List Call) → FallsIdleFrom (afterCalls poweredUp cs)
+
+-- All of it also holds from the middle of a module's life: of any module that has the invariant of specs/Invariant.antt,
+-- as every module has that calls reach from power-up. The ledger then opens with what the module holds.
+
+-- The highest bits of a word of the given width, highest first.
+abbrev pub topBits : ℕ → ℕ → ℕ → List Bool
+topBits width zero word = []
+topBits width (suc count) word = topBits width count word ++ (bitOf word (width - 1 - count) ∷ [])
+
+abbrev pub wireOf : Settings → Shift → Wire
+wireOf s Free = quiet
+wireOf s (Loaded word) = quiet
+wireOf s (Begun p) =
+    let bits : ℕ = sampled (s .con1 .cke) (p .edges) in
+    busy
+    (record {
+      filler = p .filler;
+      edges = p .edges;
+      shown = topBits (widthOf s) bits (p .word);
+      seen = topBits bits bits (p .received);
+    })
+
+abbrev pub undroppedArrivals : List ℕ → List Arrival
+undroppedArrivals [] = []
+undroppedArrivals (word ∷ words) = record { word = word; dropped = false } ∷ undroppedArrivals words
+
+abbrev pub resumed : Module → Ledger
+resumed m =
+    record {
+      accepted = leftBuffer m ++ waitingIn m;
+      sent = [];
+      received = undroppedArrivals (unreadIn m);
+      read = [];
+      wire = wireOf (m .settings) (m .engine .shift);
+      sck = m .engine .pins .sck;
+      ss = m .engine .pins .ss;
+    }
+
+abbrev pub WordOrderFromAnyState : Type 0
+WordOrderFromAnyState =
+    (m : Module) → ModuleHolds m → m .settings .spien ≡ true → (cs : List Call) →
+    watchedCalls (record { now = m; ledger = resumed m }) cs .now .settings .spien ≡ true →
+    WordOrder (watchedCalls (record { now = m; ledger = resumed m }) cs)
+
 -- Everything at once: what the buyer signs for.
 pub record Demands : Type 0 where
   pub refusedUnchanged : RefusedUnchanged
   pub refusedExactly : RefusedExactly
+  pub numberSaid : NumberSaid
+  pub paperNumbers : PaperNumbers
+  pub answeredInKind : AnsweredInKind
+  pub paperExamples : PaperExamples
   pub oneOutcome : OneOutcome
-  pub wordOrder : Demand3
-  pub wordOrderFromAnyState : Demand3FromAnyState
+  pub settingsAsWritten : SettingsAsWritten
+  pub sdoPin : SdoPin
+  pub wordOrder : WordOrderFromPowerUp
   pub edgesOwed : EdgesOwed
   pub fallsIdle : FallsIdle
+  pub wordOrderFromAnyState : WordOrderFromAnyState
+  pub fallsIdleFromAnyState : (m : Module) → ModuleHolds m → FallsIdleFrom m
   pub reached : (cs : List Call) → ModuleHolds (afterCalls poweredUp cs)

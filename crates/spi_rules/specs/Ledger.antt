@@ -1,5 +1,5 @@
--- A history of one module since it was last enabled, kept in plain lists by somebody who watches the calls, their answers
--- and the pins, and never looks into the module's buffers or its shift register. What demand 3 says is said of these
+-- A history of one module since it was last enabled, kept in plain lists by somebody who watches the calls, their answers,
+-- the settings and the level that SDO has or would have, and never looks into the module's buffers or its shift register. What demand 3 says is said of these
 -- lists.
 use Prim.Native.Nat.{ℕ, _+_, _*_}
 use mathlib.Core.Bool.{Bool, true, false, not, _&&_, Bool·beq}
@@ -123,7 +123,7 @@ unfoldable pub carried : Settings → Bool → Ledger → Wire → Wire
 carried s sck l quiet = if Bool·beq sck (s .con1 .ckp) then quiet else begins s l
 carried s sck l (busy w) = busy w
 
--- An edge to the level `sck`. Deselected, it is only remembered.
+-- The clock level is remembered.
 unfoldable pub clockedTo : Bool → Ledger → Ledger
 clockedTo sck l =
     record {
@@ -136,6 +136,7 @@ clockedTo sck l =
       ss = l .ss;
     }
 
+-- An edge to the level `sck`. Deselected, it is only remembered.
 unfoldable pub edgeNoted : Settings → Bool → Bool → Bool → Ledger → Ledger
 edgeNoted s sdo sck sdi l =
     if deselected s (l .ss) then clockedTo sck l

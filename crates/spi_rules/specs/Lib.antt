@@ -14,8 +14,8 @@ pub mod Select
 pub mod Edge
 pub mod Calls
 pub mod Invariant
+pub mod Figures
+pub mod Examples
 pub mod RefusalTable
 pub mod Ledger
 pub mod Demands
-pub mod Figures
-pub mod Examples

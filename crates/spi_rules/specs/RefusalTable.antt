@@ -1,5 +1,6 @@
 -- Document 01, "What each refusal number says", rows 1 to 7 once more, each by itself and in the paper's words, and the
 -- order in which the rows are tested. specs/Demands.antt says that a call is refused exactly so.
+use Prim.Native.Nat.{ℕ}
 use mathlib.Core.Bool.{Bool, true, false, not, _&&_, _||_}
 use mathlib.Core.List.{List, [], _∷_}
 use lib.Dec.{eqb, ltb, leb}
@@ -12,6 +13,7 @@ use Rattle.spi_rules.specs.declared.Call.{Call}
 use Rattle.spi_rules.specs.declared.Call.the-variants.{Read, Write, Tick, Pin, Clear}
 use Rattle.spi_rules.specs.Choice.{if_then_else_}
 use Rattle.spi_rules.specs.Settings.{depthOf}
+use Rattle.spi_rules.specs.Refusals.{numberOf}
 use Rattle.spi_rules.specs.Registers.{bitOf}
 
 -- What a call asks for.
@@ -97,18 +99,23 @@ testOrder =
 
 -- A refusal, or none.
 pub data Due : Type 0 where
-  accepted : Due
+  noRefusal : Due
   refusal : Refusal → Due
 
 -- The first row of a list that applies.
 abbrev pub firstRow : List Refusal → Module → Call → Due
-firstRow [] m c = accepted
+firstRow [] m c = noRefusal
 firstRow (r ∷ rs) m c = if row r m c then refusal r else firstRow rs m c
 
 -- What an answer tells of it.
 abbrev pub refusalIn : Answer → Due
 refusalIn (Refused r) = refusal r
-refusalIn Done = accepted
-refusalIn (Value v) = accepted
-refusalIn NoEdge = accepted
-refusalIn Edge = accepted
+refusalIn Done = noRefusal
+refusalIn (Value v) = noRefusal
+refusalIn NoEdge = noRefusal
+refusalIn Edge = noRefusal
+
+-- The number of a refusal that is due, 0 if none is.
+abbrev pub numberDue : Due → ℕ
+numberDue noRefusal = 0
+numberDue (refusal r) = numberOf r
