@@ -1,6 +1,7 @@
 -- The definitions are run on document 01's figures.
 --     examples-hold            its checked examples a to l and its worked script, as one list
 --     further-examples-hold    examples of rules that those do not touch
+--     link-examples-hold       linked runs: the limits 288 and 289, short limits, wires and refusals
 --     sisels-hold              its eight interrupt conditions, event by event
 -- Assumes nothing.
 use mathlib.Core.Bool.{true}
@@ -12,6 +13,7 @@ use Rattle.spi_rules.specs.Choice.{if_then_else_}
 use Rattle.spi_rules.specs.Edge.{wordEdges, begun, shifted, advanced, advancedIfBegun, underWay, clocked, edged, stepped}
 use Rattle.spi_rules.specs.Finish.{overflowed, wordAppended, isLost, delivered, sentDropped, freed, finished}
 use Rattle.spi_rules.specs.Interrupts.{raises, noted}
+use Rattle.spi_rules.specs.Link.{levelRead, madeEdge, hostTicked, clientSees, ended, oneMore, clientTurn, handedOver, hostTurn, runOf, refuseLink, toldOf, linkedOf, linkSaidOf}
 use Rattle.spi_rules.specs.Loading.{wordLeaves, moved, canLoad, loaded, nextTop, sdoAt, rested}
 use Rattle.spi_rules.specs.Refusals.{numberOf, saidOf}
 use Rattle.spi_rules.specs.Registers.{bitOf, weighed, con1From, con1Value, con2From, con2Value, lowBits, spitbf, spirbf, srxmpt, srmpt, atMost7, spibec, statValue, statSettings, spirovAfter, statEngine, enabledEngine, disabledEngine}
@@ -19,19 +21,23 @@ use Rattle.spi_rules.specs.Ring.{next}
 use Rattle.spi_rules.specs.Select.{selectRemembered, aborted, selectSeen}
 use Rattle.spi_rules.specs.Settings.{widthOf, depthOf}
 use Rattle.spi_rules.specs.Figures.{sisels}
-use Rattle.spi_rules.specs.Examples.{examples, furtherExamples}
+use Rattle.spi_rules.specs.Examples.{examples, furtherExamples, linkExamples}
 
-both-lists : (examples ≡ true) × (furtherExamples ≡ true)
-unfolding samples shiftedIn receivedAfter shownBit sdoAfter progressed emptyTransmit emptyReceive firstWaiting firstUnread written departed appended taken refuse answering poweredUp wordTaken readBuf readOf turnsOn turnsOff statWritten writeStat withCon1 withCon2 configured wordWritten writeBuf writeOf tickOf pinsOf clearOf performOf interruptOf sckOf undriven sdoOf if_then_else_ wordEdges begun shifted advanced advancedIfBegun underWay clocked edged stepped overflowed wordAppended isLost delivered sentDropped freed finished raises noted wordLeaves moved canLoad loaded nextTop sdoAt rested numberOf saidOf bitOf weighed con1From con1Value con2From con2Value lowBits spitbf spirbf srxmpt srmpt atMost7 spibec statValue statSettings spirovAfter statEngine enabledEngine disabledEngine next selectRemembered aborted selectSeen widthOf depthOf
-both-lists = (refl, refl)
+lists : (examples ≡ true) × (furtherExamples ≡ true) × (linkExamples ≡ true)
+unfolding samples shiftedIn receivedAfter shownBit sdoAfter progressed emptyTransmit emptyReceive firstWaiting firstUnread written departed appended taken refuse answering poweredUp wordTaken readBuf readOf turnsOn turnsOff statWritten writeStat withCon1 withCon2 configured wordWritten writeBuf writeOf tickOf pinsOf clearOf performOf interruptOf sckOf undriven sdoOf if_then_else_ wordEdges begun shifted advanced advancedIfBegun underWay clocked edged stepped overflowed wordAppended isLost delivered sentDropped freed finished raises noted wordLeaves moved canLoad loaded nextTop sdoAt rested numberOf saidOf bitOf weighed con1From con1Value con2From con2Value lowBits spitbf spirbf srxmpt srmpt atMost7 spibec statValue statSettings spirovAfter statEngine enabledEngine disabledEngine next selectRemembered aborted selectSeen widthOf depthOf levelRead madeEdge hostTicked clientSees ended oneMore clientTurn handedOver hostTurn runOf refuseLink toldOf linkedOf linkSaidOf
+lists = (refl, refl, refl)
 
 -- Examples a to l and the worked script.
 pub examples-hold : examples ≡ true
-examples-hold = both-lists .0
+examples-hold = lists .0
 
 -- SPIROV, CKE 1, select, flag, filler, registers and clocks.
 pub further-examples-hold : furtherExamples ≡ true
-further-examples-hold = both-lists .1
+further-examples-hold = lists .1
+
+-- Limits, wires and refusals of linked runs.
+pub link-examples-hold : linkExamples ≡ true
+link-examples-hold = lists .2
 
 -- SISEL 0 to 7.
 pub sisels-hold : sisels ≡ true

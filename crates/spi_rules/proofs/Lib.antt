@@ -41,6 +41,13 @@ pub mod WordOrderHolds
 pub mod OwedParts
 pub mod EdgeOwes
 pub mod EdgesOwedHold
+-- Two modules on one wire:
+pub mod LinkRuns
+pub mod LinkIdle
+pub mod LinkSelect
+pub mod LinkRefusals
+-- The clock report:
+pub mod ClockExact
 -- The paper's figures:
 pub mod ExamplesHold
 -- The demands, all of them:

@@ -1,12 +1,13 @@
 -- The customer's three demands on one module, over all sequences of calls: register reads and writes of any number and
 -- value, ticks, pin calls and clears, each refused or not. The record Demands at the end holds every statement, and
 -- proofs/DemandsHold.antt proves it. The step is performOf of specs/Calls.antt, one line for each call.
-use Prim.Native.Nat.{ℕ, zero, suc, _+_, _*_, _-_, _<_, _≤_}
+use Prim.Native.Nat.{ℕ, zero, suc, _+_, _*_, _-_, _^_, _<_, _≤_}
 use mathlib.Core.Bool.{Bool, true, false, not, _||_}
 use mathlib.Core.List.{List, [], _∷_, _++_, map}
 use mathlib.Core.Path.{_≡_}
 use lib.Dec.{eqb}
 use lib.ListN.{length, getD}
+use lib.Ieee.{binary64, round}
 use Rattle.spi_rules.specs.declared.Settings.{Settings}
 use Rattle.spi_rules.specs.declared.Module.{Module}
 use Rattle.spi_rules.specs.declared.Outcome.{Outcome}
@@ -18,18 +19,21 @@ use Rattle.spi_rules.specs.declared.Answer.{Answer}
 use Rattle.spi_rules.specs.declared.Answer.the-variants.{Refused, Done, Value, NoEdge, Edge}
 use Rattle.spi_rules.specs.declared.Call.{Call}
 use Rattle.spi_rules.specs.declared.Call.the-variants.{Read, Write, Tick, Pin, Clear}
+use Rattle.spi_rules.specs.declared.LinkAnswer.the-variants as linked
 use Rattle.spi_rules.specs.declared.Sdo.{Sdo}
 use Rattle.spi_rules.specs.declared.Sdo.the-variants.{Low, High, Undriven}
 use Rattle.spi_rules.specs.Choice.{if_then_else_}
 use Rattle.spi_rules.specs.Refusals.{numberOf, saidOf}
 use Rattle.spi_rules.specs.Figures.{sisels}
-use Rattle.spi_rules.specs.Examples.{examples, furtherExamples}
+use Rattle.spi_rules.specs.Examples.{examples, furtherExamples, linkExamples}
 use Rattle.spi_rules.specs.Settings.{widthOf, depthOf, ssenClient, ownClock}
 use Rattle.spi_rules.specs.Registers.{bitOf, con1From, con2From, statSettings}
 use Rattle.spi_rules.specs.Buffers.{waiting, unread}
 use Rattle.spi_rules.specs.Calls.{poweredUp, performOf, withCon1, withCon2, afterCalls, undriven, sdoOf}
 use Rattle.spi_rules.specs.Invariant.{ModuleHolds, sampled}
-use Rattle.spi_rules.specs.RefusalTable.{testOrder, firstRow, refusalIn, numberDue}
+use Rattle.spi_rules.specs.RefusalTable.{testOrder, firstRow, refusalIn, numberDue, linkOrder, firstLinkRow, linkRefusalIn}
+use Rattle.spi_rules.specs.Clock.{dividerOf, floatOf, reportOf, saidRefused, saidInternal, saidExternal, saidNone, saidClock}
+use Rattle.spi_rules.specs.Link.{linkedOf, runHostCalls, runClientCalls}
 use Rattle.spi_rules.specs.Ledger.{Ledger, Wire, quiet, busy, Arrival, Watched, undropped, opened, watchedCall, watchedCalls}
 
 -- Words in a module.
@@ -101,19 +105,19 @@ AnsweredInKind = (m : Module) (c : Call) → kindFits c (performOf m c .answer) 
 -- Demand 2.
 
 -- Every register value, pin level, flag and interrupt after every call is what document 01's rules say: the rules are the
--- definitions of this folder, and the contract of each call in crates/spi_module and crates/spi_views is an equation with
--- one of them:
+-- definitions of this folder, and the contract of each call in crates/spi_module, spi_views, spi_link and spi_clock is an
+-- equation with one of them:
 --     power_up   poweredUp         interrupt        interruptOf
 --     read       readOf            sck              sckOf
 --     write      writeOf           sdo              sdoOf
 --     tick       tickOf            refusal_number   numberOf
 --     pins       pinsOf            said             saidOf
---     clear      clearOf
---     perform    performOf
+--     clear      clearOf           linked           linkedOf
+--     perform    performOf         report           reportOf
 -- docs/TRACE.md sets each rule beside its definition. The definitions are run on the paper's own examples a to l, on
 -- examples of the other rules, and on its eight interrupt conditions.
 abbrev pub PaperExamples : Type 0
-PaperExamples = (examples ≡ true) × (furtherExamples ≡ true) × (sisels ≡ true)
+PaperExamples = (examples ≡ true) × (furtherExamples ≡ true) × (linkExamples ≡ true) × (sisels ≡ true)
 
 -- An equation with a function leaves no two outcomes.
 abbrev pub OneOutcome : Type 0
@@ -326,6 +330,46 @@ WordOrderFromAnyState =
     watchedCalls (record { now = m; ledger = resumed m }) cs .now .settings .spien ≡ true →
     WordOrder (watchedCalls (record { now = m; ledger = resumed m }) cs)
 
+-- Two modules on one wire. A refused run leaves both ends unchanged, and is refused exactly so. Otherwise it does to each
+-- end what its list of calls does, so that all of the above reaches modules that were linked: each tick of the host carries
+-- the client's SDO, each pin call of the client the host's levels with SS low. The edges used are those that the host made;
+-- they are never more than the limit, and all that the host owed if the limit allows it, after which it is idle. The limit
+-- 288 always does. The client stays selected.
+pub record LinkedRuns : Type 0 where
+  pub refusedUnchanged : (host client : Module) (limit : ℕ) (r : Refusal) →
+      linkedOf host client limit .answer ≡ linked.Refused r →
+      (linkedOf host client limit .host ≡ host) × (linkedOf host client limit .client ≡ client)
+  pub refusedExactly : (host client : Module) (limit : ℕ) →
+      linkRefusalIn (linkedOf host client limit .answer) ≡ firstLinkRow linkOrder host client limit
+  pub paperNumbers : map numberOf linkOrder ≡ 11 ∷ 2 ∷ 7 ∷ 10 ∷ []
+  pub doesItsCalls : (host client : Module) (limit n : ℕ) → linkedOf host client limit .answer ≡ linked.Used n →
+      (linkedOf host client limit .host ≡ afterCalls host (runHostCalls host client limit))
+      × (linkedOf host client limit .client ≡ afterCalls client (runClientCalls host client limit))
+  pub countsEdges : (host client : Module) (limit n : ℕ) → linkedOf host client limit .answer ≡ linked.Used n →
+      n ≡ edgesMade host (runHostCalls host client limit)
+  pub withinLimit : (host client : Module) (limit n : ℕ) → linkedOf host client limit .answer ≡ linked.Used n → n ≤ limit
+  pub usesOwed : (host client : Module) (limit n : ℕ) → ModuleHolds host →
+      linkedOf host client limit .answer ≡ linked.Used n → owed host ≤ limit →
+      (n ≡ owed host) × IsIdle (linkedOf host client limit .host)
+  pub endsIdle : (host client : Module) (n : ℕ) → ModuleHolds host → linkedOf host client 288 .answer ≡ linked.Used n →
+      (n ≡ owed host) × IsIdle (linkedOf host client 288 .host)
+  pub staysSelected : (host client : Module) (limit n : ℕ) → linkedOf host client limit .answer ≡ linked.Used n →
+      linkedOf host client limit .client .engine .pins .ss ≡ false
+
+-- The clock report for an instruction rate F of 32 bits. The rate 0 gives 8, of any module. Otherwise a disabled module
+-- answers none; a host with its own clock answers internal with F / D and D / F, each the fraction rounded once to a
+-- 64-bit float, and where D divides F the rate is the whole quotient; any other module answers external with F.
+pub record ClockReports : Type 0 where
+  pub refused : (m : Module) → saidClock (reportOf m 0) ≡ saidRefused 8
+  pub none : (m : Module) (f : ℕ) → 0 < f → m .settings .spien ≡ false → saidClock (reportOf m f) ≡ saidNone
+  pub internal : (m : Module) (f : ℕ) → 0 < f → f < 2 ^ 32 → m .settings .spien ≡ true → ownClock (m .settings) ≡ true →
+      saidClock (reportOf m f)
+      ≡ saidInternal (round binary64 false f (dividerOf (m .settings))) (round binary64 false (dividerOf (m .settings)) f)
+  pub exact : (m : Module) (f q : ℕ) → f < 2 ^ 32 → f ≡ q * dividerOf (m .settings) →
+      round binary64 false f (dividerOf (m .settings)) ≡ floatOf q
+  pub external : (m : Module) (f : ℕ) → 0 < f → m .settings .spien ≡ true → ownClock (m .settings) ≡ false →
+      saidClock (reportOf m f) ≡ saidExternal (floatOf f)
+
 -- Everything at once: what the buyer signs for.
 pub record Demands : Type 0 where
   pub refusedUnchanged : RefusedUnchanged
@@ -343,3 +387,5 @@ pub record Demands : Type 0 where
   pub wordOrderFromAnyState : WordOrderFromAnyState
   pub fallsIdleFromAnyState : (m : Module) → ModuleHolds m → FallsIdleFrom m
   pub reached : (cs : List Call) → ModuleHolds (afterCalls poweredUp cs)
+  pub linkedRuns : LinkedRuns
+  pub clockReports : ClockReports

@@ -1,18 +1,21 @@
 -- Document 01, "Checked examples": each as calls from power-up with what they must answer and show.
 -- proofs/ExamplesHold.antt proves them together, as one list.
-use Prim.Native.Nat.{ℕ, zero, suc}
+use Prim.Native.Nat.{ℕ}
 use mathlib.Core.Bool.{Bool, true, false, not, _&&_, Bool·beq}
 use mathlib.Core.List.{List, [], _∷_, _++_}
 use lib.Dec.{eqb}
 use lib.ListN.{replicate}
 use Rattle.spi_rules.specs.declared.Module.{Module}
 use Rattle.spi_rules.specs.declared.Said.{Said}
+use Rattle.spi_rules.specs.declared.LinkSaid.{LinkSaid}
+use Rattle.spi_rules.specs.declared.Linked.{Linked}
 use Rattle.spi_rules.specs.declared.Call.{Call}
 use Rattle.spi_rules.specs.declared.Call.the-variants.{Read, Write, Tick, Pin, Clear}
 use Rattle.spi_rules.specs.declared.Sdo.{Sdo}
 use Rattle.spi_rules.specs.declared.Sdo.the-variants.{Low, High, Undriven}
 use Rattle.spi_rules.specs.Refusals.{saidOf}
-use Rattle.spi_rules.specs.Calls.{poweredUp, performOf, interruptOf, sdoOf, sckOf}
+use Rattle.spi_rules.specs.Calls.{poweredUp, performOf, interruptOf, sdoOf}
+use Rattle.spi_rules.specs.Link.{linkedOf, linkSaidOf}
 
 -- One line of an example: a call with what its answer must say, what SDO must show, or how the interrupt flag must stand.
 pub data Line : Type 0 where
@@ -152,38 +155,35 @@ exampleK =
     ∷ answers bitsOfA5
     ++ (says (Read 3) (value 0x00FF) ∷ says (Read 3) (refused 6) ∷ [])))
 
--- A level of SDO as the other end of the wire reads it.
-abbrev pub wire : Sdo → Bool
-wire Low = false
-wire High = true
-wire Undriven = false
+-- A linked run: what its answer must say, and lines that must hold at each end after it.
+abbrev pub used : ℕ → LinkSaid
+used n = record { number = 0; edges = n }
 
--- Two modules on one wire, the client selected.
-pub record Pair : Type 0 where
-  pub host : Module
-  pub client : Module
+abbrev pub linkRefused : ℕ → LinkSaid
+linkRefused n = record { number = n; edges = 0 }
 
--- Edges of the host, each seen by the client.
-abbrev pub linked : ℕ → Pair → Pair
-linked zero p = p
-linked (suc k) p =
-    let host : Module = performOf (p .host) (Tick (wire (sdoOf (p .client)))) .after in
-    let client : Module = performOf (p .client) (Pin (sckOf host) (wire (sdoOf host)) false) .after in
-    linked k (record { host = host; client = client })
+abbrev pub linkHolds : Linked → LinkSaid → List Line → List Line → Bool
+linkHolds l said host client =
+    (eqb (linkSaidOf (l .answer) .number) (said .number) && eqb (linkSaidOf (l .answer) .edges) (said .edges))
+    && (allHold (l .host) host && allHold (l .client) client)
+
+-- A module configured, enabled and given some equal words to send.
+abbrev pub ready : ℕ → ℕ → ℕ → ℕ → Module
+ready con1 con2 words word =
+    afterLines poweredUp (set-up con1 con2 ++ replicate words (says (Write 3 word) ok))
 
 -- l. A host with A5 and a client with 3C, linked, 16 edges: the host reads 3C, the client A5.
-abbrev pub pairL : Pair
-pairL =
-    linked 16
-    (record {
-      host = afterLines poweredUp (set-up 0x0020 0x0000 ++ (says (Write 3 0x00A5) ok ∷ []));
-      client = afterLines poweredUp (set-up 0x0000 0x0000 ++ (says (Write 3 0x003C) ok ∷ []));
-    })
+abbrev pub hostL : Module
+hostL = ready 0x0020 0x0000 1 0x00A5
+
+abbrev pub clientL : Module
+clientL = ready 0x0000 0x0000 1 0x003C
 
 abbrev pub exampleL : Bool
 exampleL =
-    allHold (pairL .host) (says (Read 3) (value 0x003C) ∷ says (Tick true) ok ∷ [])
-    && allHold (pairL .client) (says (Read 3) (value 0x00A5) ∷ [])
+    linkHolds (linkedOf hostL clientL 16) (used 16)
+    (says (Read 3) (value 0x003C) ∷ says (Tick true) ok ∷ [])
+    (says (Read 3) (value 0x00A5) ∷ [])
 
 -- The worked script of "The script program", by its calls.
 abbrev pub workedScript : List Line
@@ -321,3 +321,62 @@ furtherClocks =
 abbrev pub furtherExamples : Bool
 furtherExamples =
     everyHolds (furtherSpirov ∷ furtherCke1 ∷ furtherSelect ∷ furtherFlag ∷ furtherFiller ∷ furtherRegisters ∷ furtherClocks ∷ [])
+
+-- Linked runs: the limits 288 and 289, limits short of what the host owes, the refusals, and what the wires carry.
+
+-- Nothing was read, and the host still owes its word.
+abbrev pub unreadHost : List Line
+unreadHost = says (Read 3) (refused 6) ∷ says (Tick true) edge ∷ []
+
+abbrev pub unreadClient : List Line
+unreadClient = says (Read 3) (refused 6) ∷ []
+
+-- The limit 288 is allowed and uses no more than the host owes; 289 gives 11.
+abbrev pub linkLimits : Bool
+linkLimits =
+    linkHolds (linkedOf hostL clientL 288) (used 16)
+    (says (Read 3) (value 0x003C) ∷ says (Tick true) ok ∷ [])
+    (says (Read 3) (value 0x00A5) ∷ [])
+    && linkHolds (linkedOf hostL clientL 289) (linkRefused 11) unreadHost unreadClient
+
+-- Nine words of 16 bits owe 288 edges, and the limit 288 sends them all.
+abbrev pub linkNine : Bool
+linkNine =
+    linkHolds (linkedOf (ready 0x0420 0x0001 9 0xA5C3) (ready 0x0400 0x0001 0 0) 288) (used 288)
+    (says (Tick true) ok ∷ [])
+    (replicate 8 (says (Read 3) (value 0xA5C3)) ++ (says (Read 3) (refused 6) ∷ []))
+
+-- With the limit 0 nothing is used, and with 15 no word is finished.
+abbrev pub linkShort : Bool
+linkShort =
+    linkHolds (linkedOf hostL clientL 0) (used 0) unreadHost unreadClient
+    && linkHolds (linkedOf hostL clientL 15) (used 15) unreadHost unreadClient
+
+-- A client whose SDO is undriven is read as zeros. An SSEN client is selected, and stays so after the run. With CKE 1 its
+-- top bit is on the wire before the first edge.
+abbrev pub linkWires : Bool
+linkWires =
+    linkHolds (linkedOf hostL (ready 0x0800 0x0000 1 0x003C) 16) (used 16)
+    (says (Read 3) (value 0x0000) ∷ [])
+    (says (Read 3) (value 0x00A5) ∷ [])
+    && linkHolds (linkedOf hostL (ready 0x0080 0x0000 1 0x003C) 16) (used 16)
+    (says (Read 3) (value 0x003C) ∷ [])
+    (shows Low ∷ says (Read 3) (value 0x00A5) ∷ [])
+    && linkHolds (linkedOf (ready 0x0120 0x0000 1 0x00A5) (ready 0x0180 0x0000 1 0x00BC) 16) (used 16)
+    (says (Read 3) (value 0x00BC) ∷ [])
+    (says (Read 3) (value 0x00A5) ∷ [])
+
+-- 2 for either end before 7, 7 for a host in the client's place and for a DISSCK host, then 10 for each of the three.
+abbrev pub linkRefusals : Bool
+linkRefusals =
+    linkHolds (linkedOf poweredUp clientL 16) (linkRefused 2) [] unreadClient
+    && linkHolds (linkedOf clientL poweredUp 16) (linkRefused 2) unreadClient []
+    && linkHolds (linkedOf clientL hostL 16) (linkRefused 7) unreadClient unreadHost
+    && linkHolds (linkedOf (ready 0x1020 0x0000 1 0x00A5) clientL 16) (linkRefused 7) [] unreadClient
+    && linkHolds (linkedOf hostL (ready 0x1020 0x0000 1 0x00A5) 16) (linkRefused 7) unreadHost []
+    && linkHolds (linkedOf hostL (ready 0x0040 0x0000 1 0x003C) 16) (linkRefused 10) unreadHost unreadClient
+    && linkHolds (linkedOf hostL (ready 0x0180 0x0000 1 0x003C) 16) (linkRefused 10) unreadHost unreadClient
+    && linkHolds (linkedOf hostL (ready 0x0400 0x0000 1 0x003C) 16) (linkRefused 10) unreadHost unreadClient
+
+abbrev pub linkExamples : Bool
+linkExamples = linkLimits && (linkNine && (linkShort && (linkWires && linkRefusals)))

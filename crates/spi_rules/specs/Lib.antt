@@ -13,6 +13,8 @@ pub mod Finish
 pub mod Select
 pub mod Edge
 pub mod Calls
+pub mod Clock
+pub mod Link
 pub mod Invariant
 pub mod Figures
 pub mod Examples

@@ -1,18 +1,20 @@
--- Document 01, "What each refusal number says", rows 1 to 7 once more, each by itself and in the paper's words, and the
+-- Document 01, "What each refusal number says", the rows once more, each by itself and in the paper's words, and the
 -- order in which the rows are tested. specs/Demands.antt says that a call is refused exactly so.
 use Prim.Native.Nat.{ℕ}
-use mathlib.Core.Bool.{Bool, true, false, not, _&&_, _||_}
+use mathlib.Core.Bool.{Bool, true, false, not, _&&_, _||_, Bool·beq}
 use mathlib.Core.List.{List, [], _∷_}
 use lib.Dec.{eqb, ltb, leb}
 use Rattle.spi_rules.specs.declared.Module.{Module}
 use Rattle.spi_rules.specs.declared.Refusal.{Refusal}
-use Rattle.spi_rules.specs.declared.Refusal.the-variants.{NoSuchRegister, Disabled, Enabled, BadSettings, TransmitFull, ReceiveEmpty, WrongClock}
+use Rattle.spi_rules.specs.declared.Refusal.the-variants.{NoSuchRegister, Disabled, Enabled, BadSettings, TransmitFull, ReceiveEmpty, WrongClock, NoRate, DifferentModes, TooManyEdges}
 use Rattle.spi_rules.specs.declared.Answer.{Answer}
 use Rattle.spi_rules.specs.declared.Answer.the-variants.{Refused, Done, Value, NoEdge, Edge}
 use Rattle.spi_rules.specs.declared.Call.{Call}
 use Rattle.spi_rules.specs.declared.Call.the-variants.{Read, Write, Tick, Pin, Clear}
+use Rattle.spi_rules.specs.declared.LinkAnswer.{LinkAnswer}
+use Rattle.spi_rules.specs.declared.LinkAnswer.the-variants as linked
 use Rattle.spi_rules.specs.Choice.{if_then_else_}
-use Rattle.spi_rules.specs.Settings.{depthOf}
+use Rattle.spi_rules.specs.Settings.{widthOf, depthOf}
 use Rattle.spi_rules.specs.Refusals.{numberOf}
 use Rattle.spi_rules.specs.Registers.{bitOf}
 
@@ -91,6 +93,10 @@ row ReceiveEmpty m c = readsBuf c && eqb (m .engine .receive .count) 0
 row WrongClock m c =
     let ownClock = m .settings .con1 .msten && not (m .settings .con1 .dissck) in
     (isTick c && not ownClock) || (isPinCall c && ownClock)
+-- 8 is given by the clock report alone, 10 and 11 by a linked run
+row NoRate m c = false
+row DifferentModes m c = false
+row TooManyEdges m c = false
 
 -- The order of the tests: 1, then 2 or 3, then 4, 5 or 6 for register calls; 2, then 7 for tick and pin calls.
 abbrev pub testOrder : List Refusal
@@ -119,3 +125,38 @@ refusalIn Edge = noRefusal
 abbrev pub numberDue : Due → ℕ
 numberDue noRefusal = 0
 numberDue (refusal r) = numberOf r
+
+-- The rows for a linked run of a host and a client with an edge limit, and their order: 11, then 2 for the host and the
+-- client, 7, 10.
+abbrev pub linkRow : Refusal → Module → Module → ℕ → Bool
+-- 11: asked for more than 288 edges
+linkRow TooManyEdges host client limit = ltb 288 limit
+-- 2: either module disabled
+linkRow Disabled host client limit = not (host .settings .spien) || not (client .settings .spien)
+-- 7: wrong roles: the host has no clock of its own, or the client is a host
+linkRow WrongClock host client limit =
+    not (host .settings .con1 .msten && not (host .settings .con1 .dissck)) || client .settings .con1 .msten
+-- 10: the modules differ in CKP, CKE or width
+linkRow DifferentModes host client limit =
+    not (Bool·beq (host .settings .con1 .ckp) (client .settings .con1 .ckp))
+    || (not (Bool·beq (host .settings .con1 .cke) (client .settings .con1 .cke))
+    || not (eqb (widthOf (host .settings)) (widthOf (client .settings))))
+-- the others belong to other calls
+linkRow NoSuchRegister host client limit = false
+linkRow Enabled host client limit = false
+linkRow BadSettings host client limit = false
+linkRow TransmitFull host client limit = false
+linkRow ReceiveEmpty host client limit = false
+linkRow NoRate host client limit = false
+
+abbrev pub linkOrder : List Refusal
+linkOrder = TooManyEdges ∷ Disabled ∷ WrongClock ∷ DifferentModes ∷ []
+
+abbrev pub firstLinkRow : List Refusal → Module → Module → ℕ → Due
+firstLinkRow [] host client limit = noRefusal
+firstLinkRow (r ∷ rs) host client limit =
+    if linkRow r host client limit then refusal r else firstLinkRow rs host client limit
+
+abbrev pub linkRefusalIn : LinkAnswer → Due
+linkRefusalIn (linked.Refused r) = refusal r
+linkRefusalIn (linked.Used n) = noRefusal

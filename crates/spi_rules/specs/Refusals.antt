@@ -1,10 +1,10 @@
--- Document 01, "What each refusal number says", 1 to 7, and what answers say in numbers.
+-- Document 01, "What each refusal number says", 1 to 8, 10 and 11, and what answers say in numbers.
 use Prim.Native.Nat.{ℕ}
 use mathlib.Core.Bool.{Bool, not, _&&_, _||_}
 use lib.Dec.{eqb}
 use Rattle.spi_rules.specs.declared.Settings.{Settings}
 use Rattle.spi_rules.specs.declared.Refusal.{Refusal}
-use Rattle.spi_rules.specs.declared.Refusal.the-variants.{NoSuchRegister, Disabled, Enabled, BadSettings, TransmitFull, ReceiveEmpty, WrongClock}
+use Rattle.spi_rules.specs.declared.Refusal.the-variants.{NoSuchRegister, Disabled, Enabled, BadSettings, TransmitFull, ReceiveEmpty, WrongClock, NoRate, DifferentModes, TooManyEdges}
 use Rattle.spi_rules.specs.declared.Answer.{Answer}
 use Rattle.spi_rules.specs.declared.Answer.the-variants.{Refused, Done, Value, NoEdge, Edge}
 use Rattle.spi_rules.specs.declared.Said.{Said}
@@ -14,7 +14,7 @@ use Rattle.spi_rules.specs.Settings.{ownClock}
 unfoldable pub numberOf : Refusal → ℕ
 -- the register number is above 3
 numberOf NoSuchRegister = 1
--- the module is disabled: BUF read or write, tick, pin call
+-- the module is disabled: BUF read or write, tick, pin call, linked run
 numberOf Disabled = 2
 -- CON1 or CON2 is written while SPIEN is 1
 numberOf Enabled = 3
@@ -24,8 +24,14 @@ numberOf BadSettings = 4
 numberOf TransmitFull = 5
 -- a BUF read finds the receive buffer empty
 numberOf ReceiveEmpty = 6
--- a tick on a module clocked from its pin, or a pin call on a host with its own clock
+-- a tick on a module clocked from its pin, a pin call on a host with its own clock, or wrong roles in a linked run
 numberOf WrongClock = 7
+-- a clock report is asked for the instruction rate 0
+numberOf NoRate = 8
+-- linked modules differ in CKP, CKE or width
+numberOf DifferentModes = 10
+-- a linked run is asked for more edges than one host can owe
+numberOf TooManyEdges = 11
 
 -- What an answer says in the paper's numbers.
 unfoldable pub saidOf : Answer → Said

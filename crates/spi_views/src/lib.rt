@@ -21,6 +21,9 @@ pub fn refusal_number(r: Refusal) -> u8
         Refusal::TransmitFull => 5,
         Refusal::ReceiveEmpty => 6,
         Refusal::WrongClock => 7,
+        Refusal::NoRate => 8,
+        Refusal::DifferentModes => 10,
+        Refusal::TooManyEdges => 11,
     }
 }
 

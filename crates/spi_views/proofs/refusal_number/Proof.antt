@@ -25,6 +25,15 @@ enum-told-6 c = search needs
 enum-told-7 : tie.Need-enum-told-7
 enum-told-7 c = search needs
 
+enum-told-8 : tie.Need-enum-told-8
+enum-told-8 c = search needs
+
+enum-told-9 : tie.Need-enum-told-9
+enum-told-9 c = search needs
+
+enum-told-10 : tie.Need-enum-told-10
+enum-told-10 c = search needs
+
 returns : tie.Need-returns
 unfolding numberOf
 returns c = cc
@@ -53,6 +62,18 @@ returns-7 : tie.Need-returns-7
 unfolding numberOf
 returns-7 c = cc
 
+returns-8 : tie.Need-returns-8
+unfolding numberOf
+returns-8 c = cc
+
+returns-9 : tie.Need-returns-9
+unfolding numberOf
+returns-9 c = cc
+
+returns-10 : tie.Need-returns-10
+unfolding numberOf
+returns-10 c = cc
+
 pub refusal-number-spec : {M : Type 1} → statement M
 refusal-number-spec =
     tie.close
@@ -64,10 +85,16 @@ refusal-number-spec =
     enum-told-5
     enum-told-6
     enum-told-7
+    enum-told-8
+    enum-told-9
+    enum-told-10
     returns
     returns-2
     returns-3
     returns-4
     returns-5
     returns-6
-    returns-7)
+    returns-7
+    returns-8
+    returns-9
+    returns-10)

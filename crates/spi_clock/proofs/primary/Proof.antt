@@ -1,0 +1,19 @@
+-- The table of the code is the table of the definition. Assumes nothing.
+use borrow.Author.Needs.{needs}
+use mathlib.Core.Path.{refl}
+use Rattle.spi_rules.specs.Clock.{primaryOf}
+use Rattle.spi_clock.proofs.primary.Statement.{statement}
+use Rattle.spi_clock.proofs.primary.Tie as tie
+
+cast-at : tie.Need-cast-at
+cast-at c = search needs
+
+array-read-result : tie.Need-array-read-result
+array-read-result c = search needs
+
+returns : tie.Need-returns
+unfolding primaryOf
+returns c = refl
+
+pub primary-spec : {M : Type 1} → statement M
+primary-spec = tie.close (tie.spec cast-at array-read-result returns)

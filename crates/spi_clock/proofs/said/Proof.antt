@@ -1,0 +1,61 @@
+-- Each arm is the clause of the definition for its case. Assumes nothing.
+use borrow.Author.Needs.{needs}
+use mathlib.Core.Path.{_≡_, refl}
+use lib.Ieee.{binary64, ofBits}
+use Rattle.spi_rules.specs.Clock.{nought, saidClock}
+use Rattle.spi_clock.proofs.said.Statement.{statement}
+use Rattle.spi_clock.proofs.said.Tie as tie
+
+-- the code's 0.0, which is written by its bits
+zero-is-nought : ofBits binary64 0 ≡ nought
+unfolding ofBits
+zero-is-nought = refl
+
+enum-known-r : tie.Need-enum-known-r
+enum-known-r c = search needs
+
+refusal-number-requires : tie.Need-refusal-number-requires
+refusal-number-requires c κs = search needs
+
+enum-known-r-2 : tie.Need-enum-known-r-2
+enum-known-r-2 c = search needs
+
+enum-known-clock : tie.Need-enum-known-clock
+enum-known-clock c = search needs
+
+enum-known-clock-2 : tie.Need-enum-known-clock-2
+enum-known-clock-2 c = search needs
+
+enum-told : tie.Need-enum-told
+enum-told c = search needs
+
+returns : tie.Need-returns
+unfolding saidClock
+returns c = cc zero-is-nought
+
+returns-2 : tie.Need-returns-2
+unfolding saidClock
+returns-2 c = cc zero-is-nought
+
+returns-3 : tie.Need-returns-3
+unfolding saidClock
+returns-3 c = cc zero-is-nought
+
+returns-4 : tie.Need-returns-4
+unfolding saidClock
+returns-4 c = cc zero-is-nought
+
+pub said-spec : {M : Type 1} → statement M
+said-spec =
+    tie.close
+    (tie.spec
+    enum-known-r
+    refusal-number-requires
+    enum-known-r-2
+    enum-known-clock
+    enum-known-clock-2
+    enum-told
+    returns
+    returns-2
+    returns-3
+    returns-4)

@@ -1,0 +1,16 @@
+-- The code is the definition. Assumes nothing.
+use borrow.Author.Needs.{needs}
+use mathlib.Core.Path.{refl}
+use Rattle.spi_rules.specs.Clock.{secondaryOf}
+use Rattle.spi_clock.proofs.secondary.Statement.{statement}
+use Rattle.spi_clock.proofs.secondary.Tie as tie
+
+sub-result : tie.Need-sub-result
+sub-result c = search needs
+
+returns : tie.Need-returns
+unfolding secondaryOf
+returns c = refl
+
+pub secondary-spec : {M : Type 1} → statement M
+secondary-spec = tie.close (tie.spec sub-result returns)

@@ -1,0 +1,116 @@
+// The clock report: from the prescalers and the instruction rate to the two floats of a host's own clock.
+use spi_rules::Clock;
+use spi_rules::ClockSaid;
+use spi_rules::Module;
+use spi_rules::Rates;
+use spi_rules::Refusal;
+use spi_rules::Reported;
+use spi_rules::Settings;
+ghost use mathlib.Core.Path.{_≡_};
+ghost use Rattle.spi_rules.specs.Clock.{primaryOf, secondaryOf, dividerOf, ratesOf, clockOf, reportOf, saidClock};
+
+// The primary prescaler by PPRE.
+const PRIMARY: [u8; 4] = [64, 16, 4, 1];
+
+// The primary prescaler, looked up.
+pub fn primary(ppre: u8) -> u8
+    ensures { λ r. ⌜ r ≡ primaryOf ppre ⌝ }
+{
+    let at = (ppre % 4) as usize;
+    PRIMARY[at]
+}
+
+// The secondary prescaler.
+pub fn secondary(spre: u8) -> u8
+    ensures { λ r. ⌜ r ≡ secondaryOf spre ⌝ }
+{
+    8 - spre % 8
+}
+
+// The divider D: both prescalers together.
+pub fn divider(s: Settings) -> u16
+    ensures { λ r. ⌜ r ≡ dividerOf s ⌝ }
+{
+    primary(s.con1.ppre) as u16 * secondary(s.con1.spre) as u16
+}
+
+// The rate F / D and the bit time D / F, each by one division.
+pub fn rates(s: Settings, f: u32) -> Rates
+    ensures { λ r. ⌜ r ≡ ratesOf s f ⌝ }
+{
+    let instruction = f as f64;
+    let d = divider(s) as f64;
+    Rates {
+        rate: instruction / d,
+        bittime: d / instruction,
+    }
+}
+
+// Where the module's clock comes from, for an instruction rate.
+pub fn clock_of(s: Settings, f: u32) -> Clock
+    ensures { λ r. ⌜ r ≡ clockOf s f ⌝ }
+{
+    if !s.spien {
+        return Clock::None;
+    }
+    if spi_settings::own_clock(s) {
+        Clock::Internal(rates(s, f))
+    } else {
+        let bound = f as f64;
+        Clock::External(bound)
+    }
+}
+
+// The report for an instruction rate. Refuses the rate 0, also on a disabled module.
+pub fn report(m: Module, f: u32) -> Reported
+    ensures { λ r. ⌜ r ≡ reportOf m f ⌝ }
+{
+    let s = m.settings;
+    if f == 0 {
+        Reported::Refused(Refusal::NoRate)
+    } else {
+        Reported::Answered(clock_of(s, f))
+    }
+}
+
+// A report in the paper's numbers.
+pub fn said(r: Reported) -> ClockSaid
+    ensures { λ x. ⌜ x ≡ saidClock r ⌝ }
+{
+    match r {
+        Reported::Refused(why) => ClockSaid {
+            number: spi_views::refusal_number(why),
+            internal: false,
+            external: false,
+            rate: 0.0,
+            bittime: 0.0,
+            below: 0.0,
+        },
+        Reported::Answered(clock) => match clock {
+            Clock::Internal(x) => ClockSaid {
+                number: 0,
+                internal: true,
+                external: false,
+                rate: x.rate,
+                bittime: x.bittime,
+                below: 0.0,
+            },
+            Clock::External(f) => ClockSaid {
+                number: 0,
+                internal: false,
+                external: true,
+                rate: 0.0,
+                bittime: 0.0,
+                below: f,
+            },
+            Clock::None => ClockSaid {
+                number: 0,
+                internal: false,
+                external: false,
+                rate: 0.0,
+                bittime: 0.0,
+                below: 0.0,
+            },
+        },
+    }
+}

@@ -1,0 +1,100 @@
+// Linked runs, run on the proved call: a pair in each clock mode and width moves a full buffer each way, and the limits 288
+// and 289. A line for a run is the mode (CKP, CKE, width), then the edges used or `E` and the refusal number; the lines
+// under it are the words that the host and the client then read.
+use libc::STDOUT_FILENO;
+use spi_rules::Answer;
+use spi_rules::Module;
+
+fn print(text: &[u8]) {
+    io::write_all(STDOUT_FILENO, text);
+}
+
+// One hexadecimal digit, in upper case.
+fn digit(n: u16) -> u8 {
+    let low = (n % 16) as u8;
+    if low < 10 { 48 + low } else { 55 + low }
+}
+
+// A space and what a read of BUF answers: four hexadecimal digits, or E.
+fn print_read(a: Answer) {
+    if let Answer::Value(v) = a {
+        let text = [
+            b' ',
+            digit(v / 4096),
+            digit(v / 256),
+            digit(v / 16),
+            digit(v),
+        ];
+        print(&text);
+    } else {
+        print(b" E");
+    }
+}
+
+// A module in enhanced operation with these CON1 bits, enabled.
+fn enabled(con1: u16) -> Module {
+    let m = spi_module::power_up();
+    let named = spi_module::write(m, 1, con1);
+    let deep = spi_module::write(named.after, 2, 0x0001);
+    let on = spi_module::write(deep.after, 0, 0x8000);
+    on.after
+}
+
+// The module with eight words written, the first `first` and each later one `step` more.
+fn filled(m: Module, first: u16, step: u16) -> Module {
+    let mut now = m;
+    let mut word = first;
+    for k in 0..8u32 {
+        let written = spi_module::write(now, 3, word);
+        now = written.after;
+        word = std::num::wrapping_add_u16(word, step);
+    }
+    now
+}
+
+// Nine reads of BUF on one line.
+fn print_reads(m: Module) {
+    let mut now = m;
+    for k in 0..9u32 {
+        let read = spi_module::read(now, 3);
+        let answer = read.answer;
+        print_read(answer);
+        now = read.after;
+    }
+    print(b"\n");
+}
+
+// A linked run of a full pair with these CON1 values and this limit: its line, and what both ends then read.
+fn pair(mode: &[u8], host_con1: u16, client_con1: u16, limit: u32) {
+    let host = filled(enabled(host_con1), 0xA5C3, 0x1111);
+    let client = filled(enabled(client_con1), 0x3C5A, 0x0F0F);
+    let run = spi_link::linked(host, client, limit);
+    let answer = run.answer;
+    let said = spi_link::link_said(answer);
+    print(mode);
+    if said.number == 0 {
+        print(b" used ");
+        io::print_decimal(STDOUT_FILENO, said.edges as u64);
+    } else {
+        print(b" E ");
+        io::print_decimal(STDOUT_FILENO, said.number as u64);
+    }
+    print(b"\n");
+    let sender = run.host;
+    let receiver = run.client;
+    print_reads(sender);
+    print_reads(receiver);
+}
+
+fn main() {
+    pair(b"CKP 0 CKE 0 w  8:", 0x0020, 0x0080, 288);
+    pair(b"CKP 0 CKE 1 w  8:", 0x0120, 0x0180, 288);
+    pair(b"CKP 1 CKE 0 w  8:", 0x0060, 0x00C0, 288);
+    pair(b"CKP 1 CKE 1 w  8:", 0x0160, 0x01C0, 288);
+    pair(b"CKP 0 CKE 0 w 16:", 0x0420, 0x0480, 288);
+    pair(b"CKP 0 CKE 1 w 16:", 0x0520, 0x0580, 288);
+    pair(b"CKP 1 CKE 0 w 16:", 0x0460, 0x04C0, 288);
+    pair(b"CKP 1 CKE 1 w 16:", 0x0560, 0x05C0, 288);
+    pair(b"CKP 0 CKE 0 w 16:", 0x0420, 0x0480, 289);
+    pair(b"CKP 0 CKE 0 w 16:", 0x0420, 0x0480, 32);
+}

@@ -1,0 +1,360 @@
+/* The figures of document 01 over the second model: the script worked in
+ * full, the lettered examples, and those that the paper only asks to run.
+ * Examples f, k and l are tried in more modes than the paper names. */
+#include "ref_spi.h"
+#include "script.h"
+
+#include <stdio.h>
+#include <stdlib.h>
+#include <string.h>
+
+static int failures;
+static int here;
+
+static void begin(void) { here = 0; }
+
+static void expect(int ok, const char *what, int line)
+{
+    if (!ok) {
+        here++;
+        failures++;
+        printf("  FAIL line %d: %s\n", line, what);
+    }
+}
+#define EXPECT(c) expect((c) != 0, #c, __LINE__)
+
+static void end(const char *name)
+{
+    printf("%-52s %s\n", name, here == 0 ? "ok" : "FAILED");
+}
+
+/* What a read returns, or E0000 plus the refusal number. */
+static unsigned get(struct ref_spi *m, unsigned reg)
+{
+    unsigned v = 0xFFFFFFFFu;
+    int r = ref_read(m, reg, &v);
+    return r == 0 ? v : 0xE0000u + (unsigned)r;
+}
+
+/* A module set up from power-up; *r is the answer to the STAT write. */
+static struct ref_spi fresh(unsigned con1, unsigned con2, unsigned stat, int *r)
+{
+    struct ref_spi m;
+    ref_power_up(&m);
+    EXPECT(ref_write(&m, 1, con1) == 0);
+    EXPECT(ref_write(&m, 2, con2) == 0);
+    *r = ref_write(&m, 0, stat);
+    return m;
+}
+
+/* Does this script print that? If not, both are shown. */
+static int script_is(const char *in, size_t n, const char *want)
+{
+    char got[4096];
+    size_t size;
+    FILE *f = tmpfile();
+    if (!f)
+        return 0;
+    script_run((const unsigned char *)in, n, f);
+    rewind(f);
+    size = fread(got, 1, sizeof got - 1, f);
+    got[size] = 0;
+    fclose(f);
+    if (strcmp(got, want) != 0) {
+        printf("--- got\n%s--- want\n%s---\n", got, want);
+        return 0;
+    }
+    return 1;
+}
+
+int main(void)
+{
+    int r;
+    unsigned i;
+
+    begin();
+    {
+        const char *in = "W 1 0020\nW 0 8000\nR 3\nW 3 00A5\nR 0\nW 3 003C\n"
+                         "R 0\nT 1\nT 0\nW 1 0000\n";
+        const char *want = "1 OK\n2 OK\n3 E 6\n4 OK\n5 8000\n6 OK\n7 8002\n"
+                           "8 1 1 0\n9 0 1 0\n10 E 3\n";
+        EXPECT(script_is(in, strlen(in), want));
+        EXPECT(script_is(in, strlen(in) - 1, want)); /* less its last LF */
+    }
+    end("worked script");
+
+    begin();
+    {
+        const char in[] = "\nW 4 0000\nR 9\nR 12\nw 1 0000\nW 1 00ab\nT 2\n"
+                          "P 0 0  0\nC \nC\r\nC\n\tC\nT 0\nR 3\nP 0 0 0\n"
+                          "W 1 0020\nW 0 8000\nT 0\nP 0 0 0\n"
+                          "C                                      x\nR 1";
+        EXPECT(script_is(in, sizeof in - 1,
+                         "1 E 9\n2 E 1\n3 E 1\n4 E 9\n5 E 9\n6 E 9\n7 E 9\n"
+                         "8 E 9\n9 E 9\n10 E 9\n11 OK\n12 E 9\n13 E 2\n14 E 2\n"
+                         "15 E 2\n16 OK\n17 OK\n18 N\n19 E 7\n20 E 9\n"
+                         "21 0020\n"));
+        EXPECT(script_is("", 0, ""));
+        EXPECT(script_is("\n", 1, "1 E 9\n"));
+        EXPECT(script_is("C\n\n", 3, "1 OK\n2 E 9\n"));
+        EXPECT(script_is("C\0\nC", 4, "1 E 9\n2 OK\n"));
+        /* P at a client under select control: Z until selected */
+        EXPECT(script_is("W 1 0080\nW 0 8000\nP 0 0 1\nP 0 0 0\nP 1 1 0\n", 42,
+                         "1 OK\n2 OK\n3 Z 0\n4 0 0\n5 0 0\n"));
+        /* T shows Z under DISSDO */
+        EXPECT(script_is("W 1 0820\nW 0 8000\nW 3 00FF\nT 0\n", 31,
+                         "1 OK\n2 OK\n3 OK\n4 1 Z 0\n"));
+    }
+    {
+        /* an input beyond the limit: its last line is cut short */
+        static char big[70000];
+        static char out[600000];
+        size_t n;
+        FILE *f = tmpfile();
+        memset(big, 'C', sizeof big);
+        for (i = 1; i < sizeof big; i += 2)
+            big[i] = '\n';
+        memcpy(big + 65532, "R 01\n", 5); /* "R 0" is left of it */
+        script_run((const unsigned char *)big, sizeof big, f);
+        rewind(f);
+        n = fread(out, 1, sizeof out - 1, f);
+        fclose(f);
+        out[n] = 0;
+        EXPECT(n > 11 && strcmp(out + n - 11, "32767 0000\n") == 0);
+    }
+    end("script lines: unreadable, ends, cut, undriven");
+
+    begin();
+    {
+        struct ref_spi m;
+        ref_power_up(&m);
+        EXPECT(get(&m, 0) == 0x0000);
+    }
+    end("a  STAT is 0000 at power-up");
+
+    begin();
+    {
+        struct ref_spi m = fresh(0x003F, 0, 0x8000, &r);
+        EXPECT(r == 4);
+        EXPECT(get(&m, 0) == 0);
+        EXPECT(get(&m, 1) == 0x003F);
+    }
+    end("b  CON1 003F is refused by 4");
+
+    begin();
+    {
+        struct ref_spi m = fresh(0x003B, 0, 0x8000, &r);
+        EXPECT(r == 0);
+        EXPECT(get(&m, 0) == 0x8000);
+    }
+    end("c  CON1 003B can be enabled");
+
+    begin();
+    {
+        struct ref_spi m = fresh(0x0100, 0, 0x8000, &r);
+        EXPECT(r == 4);
+        EXPECT(get(&m, 0) == 0);
+    }
+    end("d  CON1 0100 is refused by 4");
+
+    begin();
+    {
+        struct ref_spi m = fresh(0x0180, 0, 0x8000, &r);
+        EXPECT(r == 0);
+        EXPECT(get(&m, 0) == 0x8000);
+    }
+    end("e  CON1 0180 can be enabled");
+
+    begin();
+    {
+        unsigned mode;
+        for (mode = 0; mode < 4; mode++) { /* CKE, CKP */
+            unsigned cke = mode & 1, ckp = mode >> 1, got = 0, level;
+            struct ref_spi m =
+                fresh(0x0020 | cke << 8 | ckp << 6, 0, 0x8000, &r);
+            EXPECT(r == 0);
+            EXPECT(ref_write(&m, 3, 0x01A5) == 0);
+            for (i = 1; i <= 16; i++) {
+                level = (unsigned)ref_sdo(&m); /* before the edge */
+                if (cke && i % 2 == 1)
+                    got = got * 2 + level;
+                EXPECT(ref_tick(&m, 0) == 0);
+                EXPECT((unsigned)ref_sck(&m) == (ckp ^ (i % 2)));
+                level = (unsigned)ref_sdo(&m); /* after it */
+                if (!cke && i % 2 == 1)
+                    got = got * 2 + level;
+            }
+            EXPECT(ref_tick(&m, 0) == REF_NO_EDGE);
+            EXPECT(got == 0xA5);
+            /* CKE 0 keeps the last bit, CKE 1 has no next word to show */
+            EXPECT(ref_sdo(&m) == (cke ? 0 : 1));
+        }
+    }
+    end("f  01A5 goes out as A5 at 8 bits");
+
+    begin();
+    {
+        struct ref_spi m = fresh(0x0020, 0, 0x8000, &r);
+        EXPECT(ref_write(&m, 3, 1) == 0);
+        EXPECT(ref_write(&m, 3, 2) == 0);
+        EXPECT(ref_write(&m, 3, 3) == 5);
+    }
+    end("g  host, one deep: two words fit, 5 for a third");
+
+    begin();
+    {
+        struct ref_spi m = fresh(0x0020, 1, 0x8000, &r);
+        for (i = 0; i < 9; i++)
+            EXPECT(ref_write(&m, 3, i) == 0);
+        EXPECT(get(&m, 0) == 0x8722);
+        EXPECT(ref_write(&m, 3, 9) == 5);
+        EXPECT(get(&m, 0) == 0x8722);
+    }
+    end("h  host, eight deep: nine fit, 8722, 5 for a tenth");
+
+    begin();
+    {
+        struct ref_spi m = fresh(0x0020, 1, 0x8000, &r);
+        unsigned edges = 0;
+        for (i = 0; i < 9; i++)
+            EXPECT(ref_write(&m, 3, 0x10 + i) == 0);
+        /* SDO is looped back: an odd edge puts out the bit that the even
+         * edge after it takes in, so each word receives itself */
+        while (ref_tick(&m, ref_sdo(&m)) == 0)
+            edges++;
+        EXPECT(edges == 9 * 16);
+        EXPECT(get(&m, 0) == 0x80C1);
+        for (i = 0; i < 8; i++)
+            EXPECT(get(&m, 3) == 0x10 + i);
+        EXPECT(get(&m, 3) == 0xE0006);
+        EXPECT(ref_flag(&m) == 1); /* SISEL 0: the last one has been read */
+    }
+    end("i  the nine sent, none read: eight kept, 80C1");
+
+    begin();
+    {
+        struct ref_spi m = fresh(0x0020, 0, 0x8000, &r);
+        EXPECT(ref_write(&m, 3, 0x5A) == 0);
+        for (i = 0; i < 15; i++)
+            EXPECT(ref_tick(&m, 1) == 0);
+        EXPECT(get(&m, 0) == 0x8000);
+        EXPECT(ref_flag(&m) == 0);
+        EXPECT(ref_tick(&m, 1) == 0);
+        EXPECT(get(&m, 0) == 0x8001);
+        EXPECT(ref_flag(&m) == 1);
+        EXPECT(ref_tick(&m, 1) == REF_NO_EDGE);
+        EXPECT(get(&m, 3) == 0xFF);
+    }
+    end("j  at 8 bits edge 15 does not finish, edge 16 does");
+
+    begin();
+    {
+        unsigned mode;
+        for (mode = 0; mode < 8; mode++) { /* CKE, CKP, SPIBEN */
+            int cke = mode & 1, ckp = mode >> 1 & 1, ben = mode >> 2;
+            unsigned out = 0;
+            int sck = ckp;
+            unsigned in = 0x6C;
+            struct ref_spi m =
+                fresh(0x0080 | (unsigned)cke << 8 | (unsigned)ckp << 6,
+                      (unsigned)ben, 0x8004, &r);
+            EXPECT(r == 0);
+            EXPECT(ref_write(&m, 3, 0xA7) == 0);
+            EXPECT(ref_sdo(&m) == REF_UNDRIVEN);
+            EXPECT(ref_pins(&m, sck, 0, 0) == 0);
+            for (i = 0; i < 7; i++) {
+                sck = !sck;
+                EXPECT(ref_pins(&m, sck, 1, 0) == 0);
+            }
+            EXPECT(ref_pins(&m, sck, 1, 1) == 0); /* released */
+            EXPECT(ref_sdo(&m) == REF_UNDRIVEN);
+            sck = ckp;
+            EXPECT(ref_pins(&m, sck, 1, 1) == 0); /* clock at rest */
+            EXPECT(ref_pins(&m, sck, 1, 0) == 0); /* selected */
+            EXPECT(get(&m, 3) == 0xE0006);
+            EXPECT(ref_flag(&m) == 0);
+            for (i = 1; i <= 16; i++) {
+                int sdi = (int)(in >> (7 - (i - 1) / 2)) & 1;
+                if (cke && i % 2)
+                    out = out * 2 + (unsigned)ref_sdo(&m);
+                sck = !sck;
+                EXPECT(ref_pins(&m, sck, sdi, 0) == 0);
+                if (!cke && i % 2)
+                    out = out * 2 + (unsigned)ref_sdo(&m);
+            }
+            EXPECT(out == 0xA7);
+            EXPECT(ref_flag(&m) == 1);
+            EXPECT(get(&m, 3) == in);
+            EXPECT(get(&m, 3) == 0xE0006);
+            EXPECT(m.tx.n == 0);
+        }
+    }
+    end("k  an abort at edge 7, then the word from its start");
+
+    begin();
+    {
+        unsigned mode;
+        for (mode = 0; mode < 8; mode++) { /* CKE, CKP, SSEN */
+            unsigned common = (mode & 1) << 8 | (mode >> 1 & 1) << 6;
+            unsigned used = 999;
+            struct ref_spi h = fresh(0x0020 | common, 0, 0x8000, &r);
+            struct ref_spi c;
+            if ((mode & 1) && !(mode >> 2))
+                continue; /* cannot be enabled */
+            c = fresh((mode >> 2) << 7 | common, 0, 0x8000, &r);
+            EXPECT(r == 0);
+            EXPECT(ref_write(&h, 3, 0xA5) == 0);
+            EXPECT(ref_write(&c, 3, 0x3C) == 0);
+            EXPECT(ref_linked(&h, &c, 16, &used) == 0);
+            EXPECT(used == 16);
+            EXPECT(get(&h, 3) == 0x3C);
+            EXPECT(get(&c, 3) == 0xA5);
+        }
+    }
+    end("l  linked: A5 and 3C change places in 16 edges");
+
+    begin();
+    {
+        int kind = -1;
+        double rate = -1, bt = -1;
+        struct ref_spi m = fresh(0x0020 | 6 << 2 | 2, 0, 0x8000, &r);
+        EXPECT(ref_clock(&m, 40000000u, &kind, &rate, &bt) == 0);
+        EXPECT(kind == 1 && rate == 5000000.0 && bt == 8.0 / 40000000.0);
+        kind = -1;
+        EXPECT(ref_clock(&m, 0, &kind, &rate, &bt) == 8 && kind == -1);
+        m = fresh(0x1020, 0, 0x8000, &r);
+        EXPECT(ref_clock(&m, 4000000000u, &kind, &rate, &bt) == 0);
+        EXPECT(kind == 2 && rate == 4000000000.0);
+        EXPECT(ref_write(&m, 0, 0) == 0);
+        EXPECT(ref_clock(&m, 1, &kind, &rate, &bt) == 0 && kind == 0);
+        EXPECT(ref_clock(&m, 0, &kind, &rate, &bt) == 8);
+    }
+    end("also: the clock report");
+
+    begin();
+    {
+        unsigned used = 999;
+        struct ref_spi h = fresh(0x0420, 1, 0x8000, &r);
+        struct ref_spi c = fresh(0x0480, 1, 0x8000, &r);
+        for (i = 0; i < 9; i++)
+            EXPECT(ref_write(&h, 3, 0x8000 + i) == 0);
+        for (i = 0; i < 8; i++)
+            EXPECT(ref_write(&c, 3, 0x4000 + i) == 0);
+        EXPECT(ref_write(&c, 3, 0) == 5); /* eight are all it takes */
+        EXPECT(ref_linked(&h, &c, 289, &used) == 11);
+        EXPECT(used == 999);
+        EXPECT(ref_linked(&h, &c, 288, &used) == 0);
+        EXPECT(used == 288);
+        EXPECT(ref_tick(&h, 0) == REF_NO_EDGE);
+        EXPECT(get(&h, 0) == 0x80C1);
+        EXPECT(get(&c, 0) == 0x87C1);
+        for (i = 0; i < 8; i++) {
+            EXPECT(get(&h, 3) == 0x4000 + i);
+            EXPECT(get(&c, 3) == 0x8000 + i);
+        }
+    }
+    end("also: limits 288 and 289");
+
+    printf("%s\n", failures == 0 ? "all examples passed" : "EXAMPLES FAILED");
+    return failures != 0;
+}

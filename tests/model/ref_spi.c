@@ -1,0 +1,635 @@
+/* The second model itself. A comment names the section of document 01 that
+ * the code below it follows, and gives the rule in other words. */
+#include "ref_spi.h"
+
+#include <string.h>
+
+/* ---- lists ----------------------------------------------------------- */
+
+static void list_append(struct ref_list *l, unsigned word)
+{
+    l->word[l->n] = word;
+    l->n = l->n + 1;
+}
+
+static unsigned list_take_first(struct ref_list *l)
+{
+    unsigned first = l->word[0];
+    memmove(&l->word[0], &l->word[1], 7 * sizeof l->word[0]);
+    l->word[7] = 0;
+    l->n = l->n - 1;
+    return first;
+}
+
+static void list_empty(struct ref_list *l)
+{
+    memset(l, 0, sizeof *l);
+}
+
+/* ---- Registers: width, depth, roles ---------------------------------- */
+
+/* Registers: MODE16 chooses between words of 8 and of 16 bits. */
+static int width(const struct ref_spi *m)
+{
+    return m->mode16 ? 16 : 8;
+}
+
+/* Registers: SPIBEN makes both buffers eight words deep; without it there
+ * is room for a single word. */
+static int depth(const struct ref_spi *m)
+{
+    return m->spiben ? 8 : 1;
+}
+
+/* One edge at a time: only a host makes clock edges itself, and not under
+ * DISSCK; everything else is clocked through the pin. */
+static int own_clock(const struct ref_spi *m)
+{
+    return m->msten && !m->dissck;
+}
+
+/* The client for which the select level matters. */
+static int ssen_client(const struct ref_spi *m)
+{
+    return !m->msten && m->ssen;
+}
+
+/* Registers: the part of a value that BUF stores; at 8 bits the upper byte
+ * is lost. */
+static unsigned kept_bits(const struct ref_spi *m, unsigned value)
+{
+    return m->mode16 ? (value & 0xFFFFu) : (value & 0x00FFu);
+}
+
+static int top_bit(const struct ref_spi *m, unsigned word)
+{
+    return (int)((word >> (width(m) - 1)) & 1u);
+}
+
+/* ---- power-up, clear, viewers ---------------------------------------- */
+
+/* Registers: a module starts with every register, buffer and level at 0 and
+ * no interrupt. */
+void ref_power_up(struct ref_spi *m)
+{
+    memset(m, 0, sizeof *m);
+}
+
+/* One edge at a time, Interrupt flag: this call is the one way to take the
+ * flag down, and it works on a disabled module too. */
+void ref_clear(struct ref_spi *m)
+{
+    m->flag = 0;
+}
+
+int ref_flag(const struct ref_spi *m)
+{
+    return m->flag;
+}
+
+int ref_sck(const struct ref_spi *m)
+{
+    return m->sck;
+}
+
+/* One edge at a time, Bits: three things let go of the SDO pin: SPIEN off,
+ * DISSDO on, or a client that obeys the select pin and is not selected. */
+int ref_sdo(const struct ref_spi *m)
+{
+    if (!m->spien)
+        return REF_UNDRIVEN;
+    if (m->dissdo)
+        return REF_UNDRIVEN;
+    if (ssen_client(m) && m->ss == 1)
+        return REF_UNDRIVEN;
+    return m->sdo;
+}
+
+/* ---- One edge at a time, Interrupt flag: one function per event ------ */
+
+/* With SPIBEN the field SISEL picks the one event that raises the flag;
+ * without it only a finish does. */
+
+static void event_read(struct ref_spi *m)
+{
+    /* 0: the last unread word has just been read */
+    if (m->spiben && m->sisel == 0 && m->rx.n == 0)
+        m->flag = 1;
+}
+
+static void event_append(struct ref_spi *m)
+{
+    if (!m->spiben)
+        return;
+    /* 1: any word received and kept */
+    if (m->sisel == 1)
+        m->flag = 1;
+    /* 2: six to eight words are now unread */
+    if (m->sisel == 2 && m->rx.n >= 6)
+        m->flag = 1;
+    /* 3: the receive side is now full */
+    if (m->sisel == 3 && m->rx.n == 8)
+        m->flag = 1;
+}
+
+static void event_left_transmit_buffer(struct ref_spi *m)
+{
+    if (!m->spiben)
+        return;
+    /* 4: the full queue has lost one, seven still wait */
+    if (m->sisel == 4 && m->tx.n == 7)
+        m->flag = 1;
+    /* 6: the queue has lost its last word */
+    if (m->sisel == 6 && m->tx.n == 0)
+        m->flag = 1;
+}
+
+static void event_finish(struct ref_spi *m)
+{
+    /* without SPIBEN: each time a word ends */
+    if (!m->spiben)
+        m->flag = 1;
+    /* 5: a word ends and no other is queued or loaded */
+    if (m->spiben && m->sisel == 5 && m->tx.n == 0 && !m->loaded)
+        m->flag = 1;
+}
+
+static void event_write(struct ref_spi *m)
+{
+    /* 7: the queue has been filled by this write */
+    if (m->spiben && m->sisel == 7 && m->tx.n == 8)
+        m->flag = 1;
+}
+
+/* ---- One edge at a time, Loading; SDO between words ------------------ */
+
+/* Loading: the oldest queued word enters a free shift register at once. A
+ * client under select control never loads: its word is sent while still in
+ * the queue. A filler under way keeps the register busy. */
+static void load_if_free(struct ref_spi *m)
+{
+    if (ssen_client(m))
+        return;
+    if (m->loaded || m->begun)
+        return;
+    if (m->tx.n == 0)
+        return;
+    m->loaded_word = list_take_first(&m->tx);
+    m->loaded = 1;
+    event_left_transmit_buffer(m);
+}
+
+/* Can a word be sent, and which? Loading: under select control the head of
+ * the queue, otherwise the loaded word. */
+static int next_word(const struct ref_spi *m, unsigned *word)
+{
+    if (ssen_client(m)) {
+        if (m->tx.n == 0)
+            return 0;
+        *word = m->tx.word[0];
+        return 1;
+    }
+    if (!m->loaded)
+        return 0;
+    *word = m->loaded_word;
+    return 1;
+}
+
+/* Bits, for CKE 1: between words the pin already carries the first bit of
+ * whatever will go out next, or 0 when nothing will. */
+static void show_between_words(struct ref_spi *m)
+{
+    unsigned word;
+
+    if (!m->cke || m->begun)
+        return;
+    if (next_word(m, &word))
+        m->sdo = top_bit(m, word);
+    else
+        m->sdo = 0;
+}
+
+/* Back to "no word begun": no edges, no bits received. */
+static void forget_begun(struct ref_spi *m)
+{
+    m->begun = 0;
+    m->filler = 0;
+    m->edges = 0;
+    m->in_count = 0;
+    memset(m->in_bit, 0, sizeof m->in_bit);
+}
+
+/* ---- Registers: reading and writing ---------------------------------- */
+
+/* The bits of STAT, those stored and those worked out. */
+static unsigned stat_value(const struct ref_spi *m)
+{
+    unsigned v = 0;
+
+    if (m->spien)
+        v |= 1u << 15;
+    if (m->spisidl)
+        v |= 1u << 13;
+    if (m->spirov)
+        v |= 1u << 6;
+    v |= (unsigned)m->sisel << 2;
+    /* Registers: SPITBF and SPIRBF say that no more fits */
+    if (m->tx.n == depth(m))
+        v |= 1u << 1;
+    if (m->rx.n == depth(m))
+        v |= 1u << 0;
+    /* Registers: the next three are alive only with both SPIBEN and SPIEN */
+    if (m->spiben && m->spien) {
+        int count;
+        /* SRXMPT: nothing is unread */
+        if (m->rx.n == 0)
+            v |= 1u << 5;
+        /* SRMPT: the shift register is at rest and holds nothing */
+        if (!m->loaded && !m->begun)
+            v |= 1u << 7;
+        /* SPIBEC: a host counts what it has queued, a client what it has
+         * not read; three bits cannot show 8, so 7 stands for it */
+        count = m->msten ? m->tx.n : m->rx.n;
+        if (count == 8)
+            count = 7;
+        v |= (unsigned)count << 8;
+    }
+    return v;
+}
+
+static unsigned con1_value(const struct ref_spi *m)
+{
+    return (unsigned)m->dissck << 12 | (unsigned)m->dissdo << 11 |
+           (unsigned)m->mode16 << 10 | (unsigned)m->smp << 9 |
+           (unsigned)m->cke << 8 | (unsigned)m->ssen << 7 |
+           (unsigned)m->ckp << 6 | (unsigned)m->msten << 5 |
+           (unsigned)m->spre << 2 | (unsigned)m->ppre;
+}
+
+static unsigned con2_value(const struct ref_spi *m)
+{
+    return (unsigned)m->frmen << 15 | (unsigned)m->spifsd << 14 |
+           (unsigned)m->frmpol << 13 | (unsigned)m->frmdly << 1 |
+           (unsigned)m->spiben;
+}
+
+int ref_read(struct ref_spi *m, unsigned reg, unsigned *value)
+{
+    if (reg > 3)
+        return 1;
+    if (reg == 0) {
+        *value = stat_value(m);
+        return 0;
+    }
+    if (reg == 1) {
+        *value = con1_value(m);
+        return 0;
+    }
+    if (reg == 2) {
+        *value = con2_value(m);
+        return 0;
+    }
+    /* BUF; refusals: 2 comes before 6 */
+    if (!m->spien)
+        return 2;
+    if (m->rx.n == 0)
+        return 6;
+    *value = list_take_first(&m->rx);
+    event_read(m);
+    return 0;
+}
+
+static int bit(unsigned value, int number)
+{
+    return (int)((value >> number) & 1u);
+}
+
+/* What each refusal number says: the four settings that cannot be turned
+ * on, all answered by 4. */
+static int enabling_refused(const struct ref_spi *m)
+{
+    if (m->frmen)
+        return 1;
+    if (m->smp)
+        return 1;
+    /* a host making its own clock, undivided */
+    if (m->msten && !m->dissck && m->ppre == 3 && m->spre == 7)
+        return 1;
+    /* CKE at a client needs the select pin */
+    if (!m->msten && m->cke && !m->ssen)
+        return 1;
+    return 0;
+}
+
+static int write_stat(struct ref_spi *m, unsigned value)
+{
+    int was = m->spien;
+    int now = bit(value, 15);
+
+    if (!was && now && enabling_refused(m))
+        return 4;
+
+    /* Registers: three fields are stored as written. SPIROV can only be
+     * taken down, by writing it as 0. */
+    m->spien = now;
+    m->spisidl = bit(value, 13);
+    m->sisel = (int)((value >> 2) & 7u);
+    if (bit(value, 6) == 0)
+        m->spirov = 0;
+
+    if (was && !now) {
+        /* Registers: turning off throws away every word, queued, loaded,
+         * begun or unread; the interrupt flag is not touched */
+        list_empty(&m->tx);
+        list_empty(&m->rx);
+        m->loaded = 0;
+        m->loaded_word = 0;
+        forget_begun(m);
+    }
+    if (!was && now) {
+        /* Registers: turning on starts with the clock at rest, where CKP
+         * puts it, nobody selected and a low SDO */
+        m->sck = m->ckp;
+        m->ss = 1;
+        m->sdo = 0;
+    }
+    return 0;
+}
+
+/* A full queue gives refusal 5. */
+static int write_buf(struct ref_spi *m, unsigned value)
+{
+    if (m->tx.n == depth(m))
+        return 5;
+    list_append(&m->tx, kept_bits(m, value));
+    load_if_free(m);
+    event_write(m);
+    show_between_words(m);
+    return 0;
+}
+
+int ref_write(struct ref_spi *m, unsigned reg, unsigned value)
+{
+    if (reg > 3)
+        return 1;
+    if (reg == 0)
+        return write_stat(m, value);
+    if (reg == 3) {
+        if (!m->spien)
+            return 2;
+        return write_buf(m, value);
+    }
+    /* CON1 and CON2; refusal 3 */
+    if (m->spien)
+        return 3;
+    if (reg == 1) {
+        m->dissck = bit(value, 12);
+        m->dissdo = bit(value, 11);
+        m->mode16 = bit(value, 10);
+        m->smp = bit(value, 9);
+        m->cke = bit(value, 8);
+        m->ssen = bit(value, 7);
+        m->ckp = bit(value, 6);
+        m->msten = bit(value, 5);
+        m->spre = (int)((value >> 2) & 7u);
+        m->ppre = (int)(value & 3u);
+    } else {
+        m->frmen = bit(value, 15);
+        m->spifsd = bit(value, 14);
+        m->frmpol = bit(value, 13);
+        m->frmdly = bit(value, 1);
+        m->spiben = bit(value, 0);
+    }
+    return 0;
+}
+
+/* ---- One edge at a time: the edges ----------------------------------- */
+
+/* Finish: what happens at a word's last edge; the order counts. */
+static void finish(struct ref_spi *m)
+{
+    unsigned received = 0;
+    int was_filler = m->filler;
+    int i;
+
+    for (i = 0; i < width(m); i++)
+        received = received * 2 + (unsigned)m->in_bit[i];
+    forget_begun(m);
+
+    /* first the word received: kept if there is room, else lost, and
+     * SPIROV records the loss */
+    if (m->rx.n == depth(m)) {
+        m->spirov = 1;
+    } else {
+        list_append(&m->rx, received);
+        event_append(m);
+    }
+
+    /* then the word sent: under select control it leaves the queue only
+     * now, and a filler never was in it; elsewhere the shift register is
+     * free again */
+    if (ssen_client(m)) {
+        if (!was_filler) {
+            list_take_first(&m->tx);
+            event_left_transmit_buffer(m);
+        }
+    } else {
+        m->loaded = 0;
+        m->loaded_word = 0;
+    }
+
+    /* last, a queued word may move up */
+    load_if_free(m);
+
+    event_finish(m);
+    show_between_words(m);
+}
+
+/* Bits: one edge of a begun word, the most significant bit going first. The
+ * caller has stored the new clock level. */
+static void word_edge(struct ref_spi *m, int sdi)
+{
+    unsigned out = 0;
+    int w = width(m);
+    int odd;
+
+    if (!m->filler)
+        (void)next_word(m, &out);
+
+    m->edges = m->edges + 1;
+    odd = m->edges % 2;
+
+    if (m->cke == 0) {
+        /* Bits, CKE 0: put out a bit on the way to active, take one in on
+         * the way back */
+        if (odd) {
+            int place = (m->edges - 1) / 2; /* 0 is the top bit */
+            m->sdo = bit(out, w - 1 - place);
+        } else {
+            m->in_bit[m->in_count] = (char)sdi;
+            m->in_count = m->in_count + 1;
+        }
+    } else {
+        /* Bits, CKE 1: take a bit in on the way to active, put out the
+         * following one on the way back; the last edge has none to put */
+        if (odd) {
+            m->in_bit[m->in_count] = (char)sdi;
+            m->in_count = m->in_count + 1;
+        } else if (m->edges < 2 * w) {
+            int place = m->edges / 2;
+            m->sdo = bit(out, w - 1 - place);
+        }
+    }
+
+    if (m->edges == 2 * w)
+        finish(m);
+}
+
+/* One edge of a host's own clock; refusals: 2 comes before 7. */
+int ref_tick(struct ref_spi *m, int sdi)
+{
+    if (!m->spien)
+        return 2;
+    if (!own_clock(m))
+        return 7;
+    /* a clock with nothing to send stands still */
+    if (!m->loaded)
+        return REF_NO_EDGE;
+    m->sck = !m->sck;
+    m->begun = 1;
+    word_edge(m, sdi != 0);
+    return 0;
+}
+
+/* Abort: the select pin is released in the middle of a word. The bits so far
+ * count for nothing; the word itself is still at the head of the queue and
+ * will start over, while a filler is simply gone. */
+static void abort_word(struct ref_spi *m)
+{
+    if (!m->begun)
+        return;
+    forget_begun(m);
+    show_between_words(m); /* with CKE 0 this leaves SDO alone */
+}
+
+/* New levels at the pins of a module without a clock of its own; refusals:
+ * 2 comes before 7. */
+int ref_pins(struct ref_spi *m, int sck, int sdi, int ss)
+{
+    int edge, to_active;
+    unsigned word;
+
+    sck = sck != 0;
+    sdi = sdi != 0;
+    ss = ss != 0;
+
+    if (!m->spien)
+        return 2;
+    if (own_clock(m))
+        return 7;
+
+    /* the select level goes before the clock level; every module stores
+     * it, only a client under select control heeds it */
+    if (ssen_client(m) && m->ss == 0 && ss == 1)
+        abort_word(m);
+    m->ss = ss;
+
+    /* an edge is a change of the stored clock level */
+    edge = sck != m->sck;
+    m->sck = sck;
+    if (!edge)
+        return 0;
+
+    /* not selected: storing the level was all */
+    if (ssen_client(m) && m->ss == 1)
+        return 0;
+
+    to_active = sck != m->ckp;
+    if (!m->begun) {
+        /* no word starts on the way back to rest */
+        if (!to_active)
+            return 0;
+        /* a host clocked from outside starts none without a word */
+        if (m->msten && !m->loaded)
+            return 0;
+        /* Loading: here the word begins; a client that has none sends
+         * zeros in its place */
+        m->begun = 1;
+        m->filler = !next_word(m, &word);
+    }
+    word_edge(m, sdi);
+    return 0;
+}
+
+/* ---- Two modules on one wire ----------------------------------------- */
+
+/* What the other end reads: a pin that is let go counts as low. */
+static int wire(const struct ref_spi *m)
+{
+    int level = ref_sdo(m);
+    return level == REF_UNDRIVEN ? 0 : level;
+}
+
+int ref_linked(struct ref_spi *host, struct ref_spi *client, unsigned limit,
+               unsigned *used)
+{
+    unsigned count = 0;
+
+    /* What each refusal number says: limit, enabled, roles, settings */
+    if (limit > 288)
+        return 11;
+    if (!host->spien)
+        return 2;
+    if (!client->spien)
+        return 2;
+    if (!own_clock(host) || client->msten)
+        return 7;
+    if (host->ckp != client->ckp || host->cke != client->cke ||
+        width(host) != width(client))
+        return 10;
+
+    /* the client is selected and shown the wire as it stands */
+    (void)ref_pins(client, ref_sck(host), wire(host), 0);
+
+    while (count < limit) {
+        /* the host takes in what the client shows now */
+        if (ref_tick(host, wire(client)) == REF_NO_EDGE)
+            break;
+        count = count + 1;
+        /* and the client is shown what came of it */
+        (void)ref_pins(client, ref_sck(host), wire(host), 0);
+    }
+    *used = count;
+    return 0;
+}
+
+/* ---- The clock report ------------------------------------------------ */
+
+/* The divider is the product of the two prescalers; refusal 8 goes before
+ * everything else. */
+int ref_clock(const struct ref_spi *m, uint32_t f, int *kind, double *rate,
+              double *bit_time)
+{
+    static const int primary[4] = {64, 16, 4, 1};
+    int d;
+
+    if (f == 0)
+        return 8;
+    if (!m->spien) {
+        *kind = 0;
+        *rate = 0.0;
+        *bit_time = 0.0;
+        return 0;
+    }
+    if (!own_clock(m)) {
+        *kind = 2;
+        *rate = (double)f;
+        *bit_time = 0.0;
+        return 0;
+    }
+    d = primary[m->ppre] * (8 - m->spre);
+    *kind = 1;
+    *rate = (double)f / (double)d;
+    *bit_time = (double)d / (double)f;
+    return 0;
+}

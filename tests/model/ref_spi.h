@@ -1,0 +1,70 @@
+/* A second model of the SPI module, written from document 01 of the purchase
+ * and from nothing else. It keeps plain lists and takes one small step for
+ * each rule, so that it can be read beside the paper. */
+#ifndef REF_SPI_H
+#define REF_SPI_H
+
+#include <stdint.h>
+
+#define REF_NO_EDGE (-1)
+#define REF_UNDRIVEN 2
+
+/* A queue of words, the oldest in word[0]. Slots from n on hold 0, so two
+ * equal queues are equal byte for byte. */
+struct ref_list {
+    int n;
+    unsigned word[8];
+};
+
+struct ref_spi {
+    /* STAT: the stored bits; the rest are worked out when it is read */
+    int spien, spisidl, sisel, spirov;
+    /* CON1 */
+    int dissck, dissdo, mode16, smp, cke, ssen, ckp, msten, spre, ppre;
+    /* CON2 */
+    int frmen, spifsd, frmpol, frmdly, spiben;
+
+    struct ref_list tx; /* words queued for sending */
+    struct ref_list rx; /* words received and unread */
+
+    /* shift register */
+    int loaded;           /* it holds a word taken from the queue tx */
+    unsigned loaded_word; /* that word; 0 without one */
+    int begun;            /* a word or a filler is under way */
+    int filler;           /* what has begun is a filler */
+    int edges;            /* how many edges it has had; 0 if not begun */
+    int in_count;         /* how many bits have come in */
+    char in_bit[16];      /* those bits in the order they came */
+
+    /* levels */
+    int sck; /* clock level last seen at the pin, or last made here */
+    int ss;  /* select level last seen at the pin */
+    int sdo; /* level behind the SDO pin, kept even when not driven out */
+
+    int flag; /* the interrupt flag */
+};
+
+/* The calls. Each answers 0 or the paper's refusal number; a tick may also
+ * answer REF_NO_EDGE. */
+void ref_power_up(struct ref_spi *m);
+int ref_read(struct ref_spi *m, unsigned reg, unsigned *value);
+int ref_write(struct ref_spi *m, unsigned reg, unsigned value);
+int ref_tick(struct ref_spi *m, int sdi);
+int ref_pins(struct ref_spi *m, int sck, int sdi, int ss);
+void ref_clear(struct ref_spi *m);
+
+/* What can be seen from outside without changing anything. */
+int ref_flag(const struct ref_spi *m);
+int ref_sck(const struct ref_spi *m);
+int ref_sdo(const struct ref_spi *m); /* 0, 1 or REF_UNDRIVEN */
+
+/* Host and client on one wire; *used is set only if the answer is 0. */
+int ref_linked(struct ref_spi *host, struct ref_spi *client, unsigned limit,
+               unsigned *used);
+
+/* The clock report. *kind becomes 0 for none, 1 for internal (rate and bit
+ * time), 2 for external (the rate is f). */
+int ref_clock(const struct ref_spi *m, uint32_t f, int *kind, double *rate,
+              double *bit_time);
+
+#endif

@@ -1,0 +1,106 @@
+/* Document 01, The script program. Built without SCRIPT_NO_MAIN it is that
+ * program; with it, the two functions of script.h. */
+#include "ref_spi.h"
+#include "script.h"
+
+#include <stddef.h>
+#include <stdio.h>
+#include <string.h>
+
+static int is_level(unsigned char c) { return c == '0' || c == '1'; }
+static int is_digit(unsigned char c) { return c >= '0' && c <= '9'; }
+
+static int hex(unsigned char c)
+{
+    if (c >= '0' && c <= '9')
+        return c - '0';
+    if (c >= 'A' && c <= 'F')
+        return c - 'A' + 10;
+    return -1;
+}
+
+/* Has the line this shape? An x in the pattern takes any byte; every other
+ * character takes only itself. */
+static int shape(const unsigned char *s, size_t n, const char *pattern)
+{
+    size_t i;
+    if (n != strlen(pattern))
+        return 0;
+    for (i = 0; i < n; i++)
+        if (pattern[i] != 'x' && s[i] != (unsigned char)pattern[i])
+            return 0;
+    return 1;
+}
+
+static char sdo_letter(const struct ref_spi *m)
+{
+    int level = ref_sdo(m);
+    return level == REF_UNDRIVEN ? 'Z' : (char)('0' + level);
+}
+
+void script_line(struct ref_spi *m, unsigned long number,
+                 const unsigned char *s, size_t n, FILE *out)
+{
+    int r = 9; /* stays unless the line has one of the five shapes */
+
+    fprintf(out, "%lu ", number);
+    if (shape(s, n, "W x xxxx") && is_digit(s[2]) && hex(s[4]) >= 0 &&
+        hex(s[5]) >= 0 && hex(s[6]) >= 0 && hex(s[7]) >= 0) {
+        unsigned v = (unsigned)hex(s[4]) * 4096u + (unsigned)hex(s[5]) * 256u +
+                     (unsigned)hex(s[6]) * 16u + (unsigned)hex(s[7]);
+        r = ref_write(m, (unsigned)(s[2] - '0'), v);
+        if (r == 0)
+            fprintf(out, "OK\n");
+    } else if (shape(s, n, "R x") && is_digit(s[2])) {
+        unsigned v = 0;
+        r = ref_read(m, (unsigned)(s[2] - '0'), &v);
+        if (r == 0)
+            fprintf(out, "%04X\n", v);
+    } else if (shape(s, n, "T x") && is_level(s[2])) {
+        r = ref_tick(m, s[2] - '0');
+        if (r == REF_NO_EDGE)
+            fprintf(out, "N\n");
+        else if (r == 0)
+            fprintf(out, "%d %c %d\n", ref_sck(m), sdo_letter(m), ref_flag(m));
+    } else if (shape(s, n, "P x x x") && is_level(s[2]) && is_level(s[4]) &&
+               is_level(s[6])) {
+        r = ref_pins(m, s[2] - '0', s[4] - '0', s[6] - '0');
+        if (r == 0)
+            fprintf(out, "%c %d\n", sdo_letter(m), ref_flag(m));
+    } else if (shape(s, n, "C")) {
+        ref_clear(m);
+        r = 0;
+        fprintf(out, "OK\n");
+    }
+    if (r > 0)
+        fprintf(out, "E %d\n", r);
+}
+
+void script_run(const unsigned char *input, size_t size, FILE *out)
+{
+    struct ref_spi m;
+    unsigned long number = 0;
+    size_t at = 0;
+
+    ref_power_up(&m);
+    if (size > 65535) /* whatever follows is as if it were not there */
+        size = 65535;
+    while (at < size) {
+        size_t end = at;
+        while (end < size && input[end] != '\n')
+            end++;
+        number++;
+        script_line(&m, number, input + at, end - at, out);
+        at = end < size ? end + 1 : end;
+    }
+}
+
+#ifndef SCRIPT_NO_MAIN
+int main(void)
+{
+    static unsigned char input[65535];
+    size_t size = fread(input, 1, sizeof input, stdin);
+    script_run(input, size, stdout);
+    return fflush(stdout) == 0 ? 0 : 1;
+}
+#endif
