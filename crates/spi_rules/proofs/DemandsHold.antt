@@ -16,7 +16,11 @@ use Rattle.spi_rules.proofs.LinkIdle.{link-uses-owed, link-ends-idle}
 use Rattle.spi_rules.proofs.LinkSelect.{link-selected}
 use Rattle.spi_rules.proofs.LinkRefusals.{link-refused-exactly, link-numbers}
 use Rattle.spi_rules.proofs.ClockExact.{rate-0-is-refused, disabled-has-none, own-clock-says, pin-clock-says, rate-rounds-once, rate-exact}
-use Rattle.spi_rules.proofs.ExamplesHold.{examples-hold, further-examples-hold, link-examples-hold, sisels-hold}
+use Rattle.spi_rules.proofs.ScriptLines.{reads-all, reads-no-more, too-long}
+use Rattle.spi_rules.proofs.ScriptSizes.{piece-fits}
+use Rattle.spi_rules.proofs.ScriptText.{every-line, in-order}
+use Rattle.spi_rules.proofs.SessionWhole.{in-pieces, ends-there}
+use Rattle.spi_rules.proofs.ExamplesHold.{examples-hold, further-examples-hold, link-examples-hold, script-examples-hold, sisels-hold}
 
 pub demands-hold : Demands
 demands-hold =
@@ -26,7 +30,7 @@ demands-hold =
       numberSaid = number-said;
       paperNumbers = paper-numbers;
       answeredInKind = answered-in-kind;
-      paperExamples = (examples-hold, further-examples-hold, link-examples-hold, sisels-hold);
+      paperExamples = (examples-hold, further-examples-hold, link-examples-hold, script-examples-hold, sisels-hold);
       oneOutcome = one-outcome;
       settingsAsWritten = settings-as-written;
       sdoPin = sdo-pin;
@@ -55,5 +59,16 @@ demands-hold =
             internal = own-clock-says;
             exact = λ m f q h e. sym (rate-rounds-once (m .settings) f h) ∙ rate-exact (m .settings) f q h e .0;
             external = pin-clock-says;
+          };
+      scripts =
+          record {
+            readsAll = reads-all;
+            readsNoMore = reads-no-more;
+            everyLine = every-line;
+            inOrder = in-order;
+            tooLong = too-long;
+            inPieces = in-pieces;
+            endsThere = ends-there;
+            pieceFits = piece-fits;
           };
     }

@@ -5,7 +5,10 @@
 --     if-true, if-false               a choice whose test is settled is one of its values
 --     and-left, and-right, and-both   the parts of a conjunction that is true
 --     and-rest, and-rest-first        the part of a false conjunction that is false, the other being true
+--     and-false                       a conjunction with a false second part
 --     or-left, or-right               the parts of a false disjunction
+--     or-rest                         the part of a true disjunction that is true, the first being false
+--     by-test                         what follows from a test that is true, and from one that is false
 --     clash                           a test is not both true and false
 --     unlike, like                    two levels that differ, and two that agree
 -- Assumes nothing.
@@ -66,6 +69,11 @@ pub and-rest : (a b : Bool) → (a && b) ≡ false → a ≡ true → b ≡ fals
 and-rest true b e f = e
 and-rest false b e f = clash false f refl
 
+-- A conjunction whose second part is false is false.
+pub and-false : (a b : Bool) → b ≡ false → (a && b) ≡ false
+and-false true b e = e
+and-false false b e = refl
+
 -- The first part of a false disjunction is false.
 pub or-left : (a b : Bool) → (a || b) ≡ false → a ≡ false
 or-left true b e = e
@@ -75,6 +83,16 @@ or-left false b e = refl
 pub or-right : (a b : Bool) → (a || b) ≡ false → b ≡ false
 or-right true b e = clash true refl e
 or-right false b e = e
+
+-- A true disjunction whose first part is false has a true second part.
+pub or-rest : (a b : Bool) → (a || b) ≡ true → a ≡ false → b ≡ true
+or-rest true b e f = clash true refl f
+or-rest false b e f = e
+
+-- A test is true or false.
+pub by-test : {A : Type 0} (b : Bool) → (b ≡ true → A) → (b ≡ false → A) → A
+by-test true h k = h refl
+by-test false h k = k refl
 
 -- A level unlike another is its opposite.
 pub unlike : (a b : Bool) → Bool·beq a b ≡ false → a ≡ not b

@@ -48,6 +48,11 @@ pub mod LinkSelect
 pub mod LinkRefusals
 -- The clock report:
 pub mod ClockExact
+-- The script program:
+pub mod ScriptLines
+pub mod ScriptSizes
+pub mod ScriptText
+pub mod SessionWhole
 -- The paper's figures:
 pub mod ExamplesHold
 -- The demands, all of them:

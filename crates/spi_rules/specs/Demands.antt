@@ -6,7 +6,7 @@ use mathlib.Core.Bool.{Bool, true, false, not, _||_}
 use mathlib.Core.List.{List, [], _∷_, _++_, map}
 use mathlib.Core.Path.{_≡_}
 use lib.Dec.{eqb}
-use lib.ListN.{length, getD}
+use lib.ListN.{length, take, getD}
 use lib.Ieee.{binary64, round}
 use Rattle.spi_rules.specs.declared.Settings.{Settings}
 use Rattle.spi_rules.specs.declared.Module.{Module}
@@ -20,12 +20,15 @@ use Rattle.spi_rules.specs.declared.Answer.the-variants.{Refused, Done, 
 use Rattle.spi_rules.specs.declared.Call.{Call}
 use Rattle.spi_rules.specs.declared.Call.the-variants.{Read, Write, Tick, Pin, Clear}
 use Rattle.spi_rules.specs.declared.LinkAnswer.the-variants as linked
+use Rattle.spi_rules.specs.declared.Line.the-variants.{Unreadable}
+use Rattle.spi_rules.specs.declared.Session.{Session}
 use Rattle.spi_rules.specs.declared.Sdo.{Sdo}
 use Rattle.spi_rules.specs.declared.Sdo.the-variants.{Low, High, Undriven}
 use Rattle.spi_rules.specs.Choice.{if_then_else_}
 use Rattle.spi_rules.specs.Refusals.{numberOf, saidOf}
 use Rattle.spi_rules.specs.Figures.{sisels}
 use Rattle.spi_rules.specs.Examples.{examples, furtherExamples, linkExamples}
+use Rattle.spi_rules.specs.ScriptExamples.{scriptExamples}
 use Rattle.spi_rules.specs.Settings.{widthOf, depthOf, ssenClient, ownClock}
 use Rattle.spi_rules.specs.Registers.{bitOf, con1From, con2From, statSettings}
 use Rattle.spi_rules.specs.Buffers.{waiting, unread}
@@ -34,6 +37,8 @@ use Rattle.spi_rules.specs.Invariant.{ModuleHolds, sampled}
 use Rattle.spi_rules.specs.RefusalTable.{testOrder, firstRow, refusalIn, numberDue, linkOrder, firstLinkRow, linkRefusalIn}
 use Rattle.spi_rules.specs.Clock.{dividerOf, floatOf, reportOf, saidRefused, saidInternal, saidExternal, saidNone, saidClock}
 use Rattle.spi_rules.specs.Link.{linkedOf, runHostCalls, runClientCalls}
+use Rattle.spi_rules.specs.Script.{space, readFrom, linesOf, readingOf, decimalOf, lineText, scriptOutput, scriptCalls, callsOf}
+use Rattle.spi_rules.specs.Session.{started, pieceText, pieces, piecesText}
 use Rattle.spi_rules.specs.Ledger.{Ledger, Wire, quiet, busy, Arrival, Watched, undropped, opened, watchedCall, watchedCalls}
 
 -- Words in a module.
@@ -117,7 +122,8 @@ AnsweredInKind = (m : Module) (c : Call) → kindFits c (performOf m c .answer) 
 -- docs/TRACE.md sets each rule beside its definition. The definitions are run on the paper's own examples a to l, on
 -- examples of the other rules, and on its eight interrupt conditions.
 abbrev pub PaperExamples : Type 0
-PaperExamples = (examples ≡ true) × (furtherExamples ≡ true) × (linkExamples ≡ true) × (sisels ≡ true)
+PaperExamples =
+    (examples ≡ true) × (furtherExamples ≡ true) × (linkExamples ≡ true) × (scriptExamples ≡ true) × (sisels ≡ true)
 
 -- An equation with a function leaves no two outcomes.
 abbrev pub OneOutcome : Type 0
@@ -370,6 +376,25 @@ pub record ClockReports : Type 0 where
   pub external : (m : Module) (f : ℕ) → 0 < f → m .settings .spien ≡ true → ownClock (m .settings) ≡ false →
       saidClock (reportOf m f) ≡ saidExternal (floatOf f)
 
+-- The script program. It reads the first 65,535 bytes and no more. Every line has one line in the output, in order: its
+-- number, a space, and what it tells of the module that the lines before it left. A line of more than 16 bytes cannot be
+-- read. The output is written in pieces: 256 of them make the whole of it, they end in the module that the script's calls
+-- reach from power-up, and each fits a buffer of 4,096 bytes.
+pub record Scripts : Type 0 where
+  pub readsAll : (input : List ℕ) → length input ≤ 65535 → readFrom input ≡ input
+  pub readsNoMore : (input more : List ℕ) → length input ≡ 65535 → readFrom (input ++ more) ≡ input
+  pub everyLine : (input : List ℕ) → length (linesOf (scriptOutput input)) ≡ length (linesOf (readFrom input))
+  pub inOrder : (input : List ℕ) (k : ℕ) → k < length (linesOf (readFrom input)) →
+      getD (linesOf (scriptOutput input)) k []
+      ≡ decimalOf (k + 1)
+      ++ (space
+      ∷ lineText (afterCalls poweredUp (callsOf (take k (linesOf (readFrom input)))))
+      (readingOf (getD (linesOf (readFrom input)) k [])))
+  pub tooLong : (line : List ℕ) → 16 < length line → readingOf line ≡ Unreadable
+  pub inPieces : (input : List ℕ) → piecesText 256 input started ≡ scriptOutput input
+  pub endsThere : (input : List ℕ) → pieces 256 input started .spi ≡ afterCalls poweredUp (scriptCalls input)
+  pub pieceFits : (input : List ℕ) (s : Session) → length (pieceText input s) ≤ 4096
+
 -- Everything at once: what the buyer signs for.
 pub record Demands : Type 0 where
   pub refusedUnchanged : RefusedUnchanged
@@ -389,3 +414,4 @@ pub record Demands : Type 0 where
   pub reached : (cs : List Call) → ModuleHolds (afterCalls poweredUp cs)
   pub linkedRuns : LinkedRuns
   pub clockReports : ClockReports
+  pub scripts : Scripts

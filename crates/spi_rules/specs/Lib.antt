@@ -15,9 +15,12 @@ pub mod Edge
 pub mod Calls
 pub mod Clock
 pub mod Link
+pub mod Script
+pub mod Session
 pub mod Invariant
 pub mod Figures
 pub mod Examples
+pub mod ScriptExamples
 pub mod RefusalTable
 pub mod Ledger
 pub mod Demands

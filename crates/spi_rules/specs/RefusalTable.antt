@@ -6,7 +6,7 @@ use mathlib.Core.List.{List, [], _∷_}
 use lib.Dec.{eqb, ltb, leb}
 use Rattle.spi_rules.specs.declared.Module.{Module}
 use Rattle.spi_rules.specs.declared.Refusal.{Refusal}
-use Rattle.spi_rules.specs.declared.Refusal.the-variants.{NoSuchRegister, Disabled, Enabled, BadSettings, TransmitFull, ReceiveEmpty, WrongClock, NoRate, DifferentModes, TooManyEdges}
+use Rattle.spi_rules.specs.declared.Refusal.the-variants.{NoSuchRegister, Disabled, Enabled, BadSettings, TransmitFull, ReceiveEmpty, WrongClock, NoRate, UnreadableLine, DifferentModes, TooManyEdges}
 use Rattle.spi_rules.specs.declared.Answer.{Answer}
 use Rattle.spi_rules.specs.declared.Answer.the-variants.{Refused, Done, Value, NoEdge, Edge}
 use Rattle.spi_rules.specs.declared.Call.{Call}
@@ -93,8 +93,9 @@ row ReceiveEmpty m c = readsBuf c && eqb (m .engine .receive .count) 0
 row WrongClock m c =
     let ownClock = m .settings .con1 .msten && not (m .settings .con1 .dissck) in
     (isTick c && not ownClock) || (isPinCall c && ownClock)
--- 8 is given by the clock report alone, 10 and 11 by a linked run
+-- 8 is given by the clock report alone, 9 by a script, 10 and 11 by a linked run
 row NoRate m c = false
+row UnreadableLine m c = false
 row DifferentModes m c = false
 row TooManyEdges m c = false
 
@@ -148,6 +149,7 @@ linkRow BadSettings host client limit = false
 linkRow TransmitFull host client limit = false
 linkRow ReceiveEmpty host client limit = false
 linkRow NoRate host client limit = false
+linkRow UnreadableLine host client limit = false
 
 abbrev pub linkOrder : List Refusal
 linkOrder = TooManyEdges ∷ Disabled ∷ WrongClock ∷ DifferentModes ∷ []

@@ -1,10 +1,10 @@
--- Document 01, "What each refusal number says", 1 to 8, 10 and 11, and what answers say in numbers.
+-- Document 01, "What each refusal number says", and what answers say in numbers.
 use Prim.Native.Nat.{ℕ}
 use mathlib.Core.Bool.{Bool, not, _&&_, _||_}
 use lib.Dec.{eqb}
 use Rattle.spi_rules.specs.declared.Settings.{Settings}
 use Rattle.spi_rules.specs.declared.Refusal.{Refusal}
-use Rattle.spi_rules.specs.declared.Refusal.the-variants.{NoSuchRegister, Disabled, Enabled, BadSettings, TransmitFull, ReceiveEmpty, WrongClock, NoRate, DifferentModes, TooManyEdges}
+use Rattle.spi_rules.specs.declared.Refusal.the-variants.{NoSuchRegister, Disabled, Enabled, BadSettings, TransmitFull, ReceiveEmpty, WrongClock, NoRate, UnreadableLine, DifferentModes, TooManyEdges}
 use Rattle.spi_rules.specs.declared.Answer.{Answer}
 use Rattle.spi_rules.specs.declared.Answer.the-variants.{Refused, Done, Value, NoEdge, Edge}
 use Rattle.spi_rules.specs.declared.Said.{Said}
@@ -28,6 +28,8 @@ numberOf ReceiveEmpty = 6
 numberOf WrongClock = 7
 -- a clock report is asked for the instruction rate 0
 numberOf NoRate = 8
+-- a script line cannot be read
+numberOf UnreadableLine = 9
 -- linked modules differ in CKP, CKE or width
 numberOf DifferentModes = 10
 -- a linked run is asked for more edges than one host can owe

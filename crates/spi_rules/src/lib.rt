@@ -122,6 +122,7 @@ pub enum Refusal {
     ReceiveEmpty,
     WrongClock,
     NoRate,
+    UnreadableLine,
     DifferentModes,
     TooManyEdges,
 }
@@ -222,4 +223,23 @@ pub struct Linked {
     pub answer: LinkAnswer,
     pub host: Module,
     pub client: Module,
+}
+
+// A line of a script: it cannot be read, or it asks for a call.
+pub enum Line {
+    Unreadable,
+    Asked(Call),
+}
+
+// Where a script that is being played stands: the module so far, the lines answered, and the place of the next line.
+pub struct Session {
+    pub spi: Module,
+    pub lines: u32,
+    pub at: usize,
+}
+
+// What playing a piece of a script returns: where the script stands after it, and how many bytes were written.
+pub struct Piece {
+    pub session: Session,
+    pub written: usize,
 }

@@ -22,6 +22,7 @@ pub fn refusal_number(r: Refusal) -> u8
         Refusal::ReceiveEmpty => 6,
         Refusal::WrongClock => 7,
         Refusal::NoRate => 8,
+        Refusal::UnreadableLine => 9,
         Refusal::DifferentModes => 10,
         Refusal::TooManyEdges => 11,
     }

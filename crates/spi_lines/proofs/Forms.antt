@@ -1,0 +1,125 @@
+-- What the forms of a line say.
+--     fits-length    a line that has a form has its length
+--     fits-at        each byte of a line that has a form fits its place
+--     not-write, not-read, not-tick, not-pin, not-clear    a line of another length does not have the form
+--     as-write, as-read, as-tick, as-pin, as-clear         a line of the form reads as the form's call
+--     unread         a line of none of the forms cannot be read
+--     write-tests, read-tests, tick-tests, pin-tests, clear-tests    a line of the form's length has the form if every byte
+--                    passes its test
+-- Assumes nothing.
+use Prim.Native.Nat.{ℕ, zero, suc, _<_}
+use Prim.Native.Char.{code}
+use native.Mathlib.Omega.{arith}
+use mathlib.Core.Bool.{Bool, true, false, _&&_}
+use mathlib.Core.List.{List, [], _∷_}
+use mathlib.Core.Path.{_≡_, refl, ap}
+use lib.Dec.{eqb}
+use lib.ListN.{length, getD}
+use Rattle.spi_rules.specs.declared.Line.the-variants.{Unreadable, Asked}
+use Rattle.spi_rules.specs.declared.Call.the-variants.{Read, Write, Tick, Pin, Clear}
+use Rattle.spi_rules.specs.Choice.{if_then_else_}
+use Rattle.spi_rules.specs.Script.{Place, digit, hexDigit, level, space, fitsPlace, fits, writeForm, readForm, tickForm, pinForm, clearForm, digitValue, fourHexValue, levelValue, at, readingOf}
+use Rattle.spi_rules.proofs.Keeps.{clash, and-left, and-right}
+
+-- A test is true or false.
+either : {A : Type 0} (b : Bool) → (b ≡ true → A) → (b ≡ false → A) → A
+either true h k = h refl
+either false h k = k refl
+
+pub fits-length : (form : List Place) (line : List ℕ) → fits form line ≡ true → length line ≡ length form
+unfolding fits
+fits-length [] [] e = refl
+fits-length [] (b ∷ bs) e = clash false e refl
+fits-length (p ∷ ps) [] e = clash false e refl
+fits-length (p ∷ ps) (b ∷ bs) e = ap suc (fits-length ps bs (and-right (fitsPlace p b) (fits ps bs) e))
+
+not-fits : (form : List Place) (line : List ℕ) → (length line ≡ length form → ⊥) → fits form line ≡ false
+not-fits form line h = either (fits form line) (λ e. absurd (h (fits-length form line e))) (λ e. e)
+
+pub fits-at : (form : List Place) (line : List ℕ) → fits form line ≡ true → (k : ℕ) → k < length form →
+    fitsPlace (getD form k level) (getD line k 0) ≡ true
+unfolding fits
+fits-at [] [] e k h = absurd (omega arith)
+fits-at [] (b ∷ bs) e k h = clash false e refl
+fits-at (p ∷ ps) [] e k h = clash false e refl
+fits-at (p ∷ ps) (b ∷ bs) e zero h = and-left (fitsPlace p b) (fits ps bs) e
+fits-at (p ∷ ps) (b ∷ bs) e (suc k) h = fits-at ps bs (and-right (fitsPlace p b) (fits ps bs) e) k (omega arith)
+
+module _ (line : List ℕ) where
+  pub not-write : (length line ≡ 8 → ⊥) → fits writeForm line ≡ false
+  unfolding writeForm
+  not-write h = not-fits writeForm line h
+
+  pub not-read : (length line ≡ 3 → ⊥) → fits readForm line ≡ false
+  unfolding readForm
+  not-read h = not-fits readForm line h
+
+  pub not-tick : (length line ≡ 3 → ⊥) → fits tickForm line ≡ false
+  unfolding tickForm
+  not-tick h = not-fits tickForm line h
+
+  pub not-pin : (length line ≡ 7 → ⊥) → fits pinForm line ≡ false
+  unfolding pinForm
+  not-pin h = not-fits pinForm line h
+
+  pub not-clear : (length line ≡ 1 → ⊥) → fits clearForm line ≡ false
+  unfolding clearForm
+  not-clear h = not-fits clearForm line h
+
+  pub as-write : fits writeForm line ≡ true →
+      readingOf line ≡ Asked (Write (digitValue (at line 2)) (fourHexValue (at line 4) (at line 5) (at line 6) (at line 7)))
+  unfolding readingOf if_then_else_
+  as-write e = rw e
+
+  pub as-read : length line ≡ 3 → fits readForm line ≡ true → readingOf line ≡ Asked (Read (digitValue (at line 2)))
+  unfolding readingOf if_then_else_
+  as-read n e = rw (not-write (λ k. omega arith), e)
+
+  pub as-tick : length line ≡ 3 → fits readForm line ≡ false → fits tickForm line ≡ true →
+      readingOf line ≡ Asked (Tick (levelValue (at line 2)))
+  unfolding readingOf if_then_else_
+  as-tick n r e = rw (not-write (λ k. omega arith), r, e)
+
+  pub as-pin : length line ≡ 7 → fits pinForm line ≡ true →
+      readingOf line ≡ Asked (Pin (levelValue (at line 2)) (levelValue (at line 4)) (levelValue (at line 6)))
+  unfolding readingOf if_then_else_
+  as-pin n e = rw (not-write (λ k. omega arith), not-read (λ k. omega arith), not-tick (λ k. omega arith), e)
+
+  pub as-clear : length line ≡ 1 → fits clearForm line ≡ true → readingOf line ≡ Asked Clear
+  unfolding readingOf if_then_else_
+  as-clear n e =
+      rw (not-write (λ k. omega arith), not-read (λ k. omega arith), not-tick (λ k. omega arith), not-pin (λ k. omega arith), e)
+
+  pub unread : fits writeForm line ≡ false → fits readForm line ≡ false → fits tickForm line ≡ false → fits pinForm line ≡ false →
+      fits clearForm line ≡ false → readingOf line ≡ Unreadable
+  unfolding readingOf if_then_else_
+  unread w r t p c = rw (w, r, t, p, c)
+
+-- The last byte's test ends the row.
+and-true : (b : Bool) → (b && true) ≡ b
+and-true true = refl
+and-true false = refl
+
+pub write-tests : (k s n t a b c d : ℕ) → fits writeForm (k ∷ s ∷ n ∷ t ∷ a ∷ b ∷ c ∷ d ∷ [])
+    ≡ (eqb k (code "W") && (eqb s space && (fitsPlace digit n && (eqb t space
+    && (fitsPlace hexDigit a && (fitsPlace hexDigit b && (fitsPlace hexDigit c && fitsPlace hexDigit d)))))))
+unfolding fits writeForm fitsPlace
+write-tests k s n t a b c d = rw (and-true (fitsPlace hexDigit d))
+
+pub read-tests : (k s n : ℕ) → fits readForm (k ∷ s ∷ n ∷ []) ≡ (eqb k (code "R") && (eqb s space && fitsPlace digit n))
+unfolding fits readForm fitsPlace
+read-tests k s n = rw (and-true (fitsPlace digit n))
+
+pub tick-tests : (k s n : ℕ) → fits tickForm (k ∷ s ∷ n ∷ []) ≡ (eqb k (code "T") && (eqb s space && fitsPlace level n))
+unfolding fits tickForm fitsPlace
+tick-tests k s n = rw (and-true (fitsPlace level n))
+
+pub pin-tests : (k s a t b u c : ℕ) → fits pinForm (k ∷ s ∷ a ∷ t ∷ b ∷ u ∷ c ∷ [])
+    ≡ (eqb k (code "P") && (eqb s space && (fitsPlace level a && (eqb t space
+    && (fitsPlace level b && (eqb u space && fitsPlace level c))))))
+unfolding fits pinForm fitsPlace
+pin-tests k s a t b u c = rw (and-true (fitsPlace level c))
+
+pub clear-tests : (k : ℕ) → fits clearForm (k ∷ []) ≡ eqb k (code "C")
+unfolding fits clearForm fitsPlace
+clear-tests k = and-true (eqb k (code "C"))

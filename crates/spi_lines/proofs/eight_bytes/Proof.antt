@@ -1,0 +1,120 @@
+-- `spi_lines::eight_bytes` meets its contract: of the forms, one alone is of eight bytes. Assumes nothing.
+use Prim.Native.Nat.{ℕ}
+use native.Mathlib.Omega.{arith}
+use borrow.Author.Needs.{needs}
+use mathlib.Core.Bool.{true}
+use mathlib.Core.List.{List, [], _∷_}
+use mathlib.Core.Path.{_≡_, sym}
+use Rattle.spi_rules.specs.Script.{fits, writeForm, digitValue, fourHexValue}
+use Rattle.spi_lines.proofs.Digits.{digit-range}
+use Rattle.spi_lines.proofs.Forms.{fits-at, not-read, not-tick, not-pin, not-clear, as-write, unread, write-tests}
+use Rattle.spi_lines.proofs.eight_bytes.Statement.{statement}
+use Rattle.spi_lines.proofs.eight_bytes.Tie as tie
+
+-- The line of the eight bytes.
+abbrev line : tie.Then1 → List ℕ
+line c =
+    let a = c .before .before .before .before .before .before .args in
+    a .k ∷ a .s ∷ a .n ∷ a .t ∷ a .a ∷ a .b ∷ a .c ∷ a .d ∷ []
+
+-- The test is whether the line has the form of a write.
+is-write : (c : tie.Then1) → fits writeForm (line c) ≡ true
+is-write c =
+    let a = c .before .before .before .before .before .before .args in
+    cc (write-tests (a .k) (a .s) (a .n) (a .t) (a .a) (a .b) (a .c) (a .d))
+
+is-hex-requires : tie.Need-is-hex-requires
+is-hex-requires c κs = search needs
+
+is-hex-requires-2 : tie.Need-is-hex-requires-2
+is-hex-requires-2 c κs = search needs
+
+is-hex-requires-3 : tie.Need-is-hex-requires-3
+is-hex-requires-3 c κs = search needs
+
+is-hex-requires-4 : tie.Need-is-hex-requires-4
+is-hex-requires-4 c κs = search needs
+
+is-digit-requires : tie.Need-is-digit-requires
+is-digit-requires c κs = search needs
+
+hex-value-requires : tie.Need-hex-value-requires
+unfolding writeForm
+hex-value-requires c κs = fits-at writeForm (line c) (is-write c) 4 (omega arith)
+
+mul-v : tie.Need-mul-v
+mul-v c = search needs
+
+hex-value-requires-2 : tie.Need-hex-value-requires-2
+unfolding writeForm
+hex-value-requires-2 c κs = fits-at writeForm (line (c .before)) (is-write (c .before)) 5 (omega arith)
+
+mul-v-2 : tie.Need-mul-v-2
+mul-v-2 c = search needs
+
+add-v : tie.Need-add-v
+add-v c = search needs
+
+hex-value-requires-3 : tie.Need-hex-value-requires-3
+unfolding writeForm
+hex-value-requires-3 c κs = fits-at writeForm (line (c .before .before)) (is-write (c .before .before)) 6 (omega arith)
+
+mul-v-3 : tie.Need-mul-v-3
+mul-v-3 c = search needs
+
+add-v-2 : tie.Need-add-v-2
+add-v-2 c = search needs
+
+hex-value-requires-4 : tie.Need-hex-value-requires-4
+unfolding writeForm
+hex-value-requires-4 c κs = fits-at writeForm (line (c .before .before .before)) (is-write (c .before .before .before)) 7 (omega arith)
+
+add-v-3 : tie.Need-add-v-3
+add-v-3 c = search needs
+
+sub-t28 : tie.Need-sub-t28
+unfolding writeForm
+sub-t28 c =
+    let t = c .before .before .before .before in
+    let n = t .before .before .before .before .before .before .args .n in
+    omega (arith, digit-range n (fits-at writeForm (line t) (is-write t) 2 (omega arith)) .0)
+
+cast-t29 : tie.Need-cast-t29
+cast-t29 c = search needs
+
+returns : tie.Need-returns
+unfolding digitValue fourHexValue
+returns c =
+    let t = c .before .before .before .before in
+    cc (as-write (line t) (is-write t))
+
+returns-2 : tie.Need-returns-2
+returns-2 c =
+    let a = c .before .before .before .before .before .before .args in
+    sym
+    (unread _ (cc (write-tests (a .k) (a .s) (a .n) (a .t) (a .a) (a .b) (a .c) (a .d))) (not-read _ (λ e. omega arith))
+    (not-tick _ (λ e. omega arith)) (not-pin _ (λ e. omega arith)) (not-clear _ (λ e. omega arith)))
+
+pub eight-bytes-spec : {M : Type 1} → statement M
+eight-bytes-spec =
+    tie.close
+    (tie.spec
+    is-hex-requires
+    is-hex-requires-2
+    is-hex-requires-3
+    is-hex-requires-4
+    is-digit-requires
+    hex-value-requires
+    mul-v
+    hex-value-requires-2
+    mul-v-2
+    add-v
+    hex-value-requires-3
+    mul-v-3
+    add-v-2
+    hex-value-requires-4
+    add-v-3
+    sub-t28
+    cast-t29
+    returns
+    returns-2)

@@ -1,0 +1,12 @@
+-- `spi_lines::is_hex` meets its contract: the test is the definition. Assumes nothing.
+use mathlib.Core.Path.{refl}
+use Rattle.spi_rules.specs.Script.{between, fitsPlace}
+use Rattle.spi_lines.proofs.is_hex.Statement.{statement}
+use Rattle.spi_lines.proofs.is_hex.Tie as tie
+
+returns : tie.Need-returns
+unfolding fitsPlace between
+returns c = refl
+
+pub is-hex-spec : {M : Type 1} → statement M
+is-hex-spec = tie.close (tie.spec returns)

@@ -1,0 +1,17 @@
+-- Each branch is a value of the choice.
+use Rattle.spi_rules.specs.Choice.{if_then_else_}
+use Rattle.spi_rules.specs.Script.{levelOf}
+use Rattle.spi_rules.proofs.Choices.{so, not-so}
+use Rattle.spi_session.proofs.level_letter.Statement.{statement}
+use Rattle.spi_session.proofs.level_letter.Tie as tie
+
+returns : tie.Need-returns
+unfolding levelOf
+returns c = so _ _ _ (cc) (cc)
+
+returns-2 : tie.Need-returns-2
+unfolding levelOf
+returns-2 c = not-so _ _ _ (cc) (cc)
+
+pub level-letter-spec : {M : Type 1} → statement M
+level-letter-spec = tie.close (tie.spec returns returns-2)

@@ -1,0 +1,20 @@
+-- The letter is the digit of the definition.
+use borrow.Author.Needs.{needs}
+use mathlib.Core.List.{List, [], _∷_}
+use Prim.Native.Nat.{ℕ}
+use mathlib.Core.Path.{sym}
+use Rattle.spi_session.proofs.Texts.{written-case}
+use Rattle.spi_session.proofs.put_hex.Statement.{statement}
+use Rattle.spi_session.proofs.put_hex.Tie as tie
+
+hex-letter-requires : tie.Need-hex-letter-requires
+hex-letter-requires c κs = search needs
+
+put-requires : tie.Need-put-requires
+put-requires c κs = search needs
+
+returns : tie.Need-returns
+returns c = written-case (λ (b : ℕ). b ∷ []) (sym (c .before .hex-letter .ensures)) (c .put .ensures)
+
+pub put-hex-spec : {M : Type 1} → statement M
+put-hex-spec = tie.close (tie.spec hex-letter-requires put-requires returns)

@@ -1,0 +1,41 @@
+-- The letter E, a space and the number, one behind the other.
+use borrow.Author.Needs.{needs}
+use mathlib.Core.Path.{sym}
+use native.Mathlib.Omega.{arith}
+use Rattle.spi_rules.specs.Script.{decimalOf, refusedText}
+use Rattle.spi_session.proofs.Texts.{written-then, written-case, refusal-number-short}
+use Rattle.spi_session.proofs.put_refused.Statement.{statement}
+use Rattle.spi_session.proofs.put_refused.Tie as tie
+
+put-requires : tie.Need-put-requires
+put-requires c κs = search needs
+
+put-requires-2 : tie.Need-put-requires-2
+put-requires-2 c κs = search needs
+
+refusal-number-requires : tie.Need-refusal-number-requires
+refusal-number-requires c κs = search needs
+
+cast-put-decimal : tie.Need-cast-put-decimal
+cast-put-decimal c = search needs
+
+put-decimal-requires : tie.Need-put-decimal-requires
+put-decimal-requires c κs = omega (arith, refusal-number-short _ _ (c .refusal-number .ensures))
+
+returns : tie.Need-returns
+unfolding refusedText
+returns c =
+    written-then (c .before .before .before .before .before .put .ensures)
+    (written-then (c .before .before .before .put2 .ensures)
+    (written-case decimalOf (sym (c .before .refusal-number .ensures)) (c .put-decimal .ensures)))
+
+pub put-refused-spec : {M : Type 1} → statement M
+put-refused-spec =
+    tie.close
+    (tie.spec
+    put-requires
+    put-requires-2
+    refusal-number-requires
+    cast-put-decimal
+    put-decimal-requires
+    returns)

@@ -1,0 +1,2 @@
+-- What the functions that write say of the buffer.
+pub mod Written
