@@ -1,0 +1,69 @@
+/* Runs every case for the proved library and for plain C in turn, many short
+ * rounds, and prints the best processor time of each.
+ *
+ * usage: bench [rounds]
+ */
+#define _POSIX_C_SOURCE 199309L
+#include "cases.h"
+
+#include <stdio.h>
+#include <stdlib.h>
+#include <time.h>
+
+static const struct {
+    const char *name, *unit;
+    uint32_t times;
+} cases[CASES] = {
+    {"busy host, 16 bits", "edge", 2000},
+    {"SSEN client, 8 bits", "edge", 4000},
+    {"SSEN client, 16 bits, CKE 1", "edge", 2000},
+    {"linked pair, 8 words of 16 bits", "edge", 150},
+    {"register calls", "call", 1000},
+};
+
+static const struct side *const sides[2] = {&library_side, &plain_side};
+
+static double seconds(void)
+{
+    struct timespec t;
+
+    clock_gettime(CLOCK_PROCESS_CPUTIME_ID, &t);
+    return (double)t.tv_sec + (double)t.tv_nsec / 1e9;
+}
+
+int main(int argc, char **argv)
+{
+    int rounds = argc > 1 ? atoi(argv[1]) : 50;
+    int failed = 0, i, r, s;
+
+    if (rounds < 1)
+        rounds = 1;
+    printf("%-32s %20s %20s\n", "", sides[0]->name, sides[1]->name);
+    for (i = 0; i < CASES; i++) {
+        struct outcome o[2] = {{0, 0}, {0, 0}};
+        double best[2] = {0, 0};
+
+        for (r = 0; r < rounds; r++) {
+            for (s = 0; s < 2; s++) {
+                double took = seconds();
+                o[s] = sides[s]->run[i](cases[i].times);
+                took = seconds() - took;
+                if (r == 0 || took < best[s])
+                    best[s] = took;
+            }
+            if (o[0].units != o[1].units || o[0].sum != o[1].sum)
+                break;
+        }
+        if (r < rounds) {
+            printf("%-32s FAILED: the two sides answer differently\n",
+                   cases[i].name);
+            failed = 1;
+            continue;
+        }
+        printf("%-32s %9.2f ns / %s %9.2f ns / %s   ratio %.2f\n",
+               cases[i].name, best[0] * 1e9 / o[0].units, cases[i].unit,
+               best[1] * 1e9 / o[1].units, cases[i].unit, best[0] / best[1]);
+        fflush(stdout);
+    }
+    return failed;
+}

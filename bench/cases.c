@@ -1,0 +1,150 @@
+/* The cases, for the proved library if built with LIBRARY, else for plain C. */
+#include "cases.h"
+
+#include "side.h"
+
+static uint32_t mixed(uint32_t sum, uint32_t answer)
+{
+    return sum * 31 + answer;
+}
+
+/* Words and levels that vary: the next number of a plain sequence. */
+static uint32_t next(uint32_t seed) { return seed * 1664525u + 1013904223u; }
+
+/* What is left to see of a module at the end of a run. */
+#define SEEN(m, sum)                                                          \
+    mixed(mixed(sum, read_register(OF(m), STAT)), levels(OF(m)))
+
+/* A host with its own clock, 16 bits: four words waiting throughout, each
+ * received word is read when it has come in, and one is written for it. */
+static struct outcome busy_host(uint32_t times)
+{
+    struct outcome o = {0, 0};
+    uint32_t seed = 1, bits;
+    module m;
+    int i;
+
+    START(m, MSTEN | MODE16);
+    for (i = 0; i < 5; i++)
+        o.sum = mixed(o.sum, write_register(OF(m), BUF, seed = next(seed)));
+    while (times-- > 0) {
+        bits = seed = next(seed);
+        for (i = 0; i < 32; i++) {
+            o.units += tick(OF(m), bits & 1);
+            bits >>= 1;
+        }
+        o.sum = mixed(o.sum, read_register(OF(m), BUF));
+        o.sum = mixed(o.sum, write_register(OF(m), BUF, seed >> 7));
+    }
+    o.sum = SEEN(m, o.sum);
+    return o;
+}
+
+/* A selected client that obeys SS: a word is written, clocked by pin calls and
+ * the received one is read. */
+static struct outcome client(uint32_t con1, int edges, uint32_t times)
+{
+    struct outcome o = {0, 0};
+    uint32_t seed = 1, bits;
+    module m;
+    int i;
+
+    START(m, SSEN | con1);
+    o.sum = mixed(o.sum, pins(OF(m), 0, 0, 0));
+    while (times-- > 0) {
+        bits = seed = next(seed);
+        o.sum = mixed(o.sum, write_register(OF(m), BUF, seed >> 7));
+        for (i = 0; i < edges; i++) {
+            o.sum += pins(OF(m), ~(uint32_t)i & 1, bits & 1, 0);
+            bits >>= 1;
+        }
+        o.units += (uint32_t)edges;
+        o.sum = mixed(o.sum, read_register(OF(m), BUF));
+    }
+    o.sum = SEEN(m, o.sum);
+    return o;
+}
+
+static struct outcome client_8(uint32_t times) { return client(0, 16, times); }
+
+static struct outcome client_16(uint32_t times)
+{
+    return client(MODE16 | CKE, 32, times);
+}
+
+/* Eight words are written at both ends, one linked run exchanges them, and
+ * they are read at both ends. */
+static struct outcome linked_pair(uint32_t times)
+{
+    struct outcome o = {0, 0};
+    uint32_t seed = 1;
+    module host, end;
+    int i;
+
+    START(host, MSTEN | MODE16);
+    START(end, SSEN | MODE16);
+    while (times-- > 0) {
+        for (i = 0; i < 8; i++) {
+            seed = next(seed);
+            o.sum = mixed(o.sum, write_register(OF(host), BUF, seed));
+            o.sum = mixed(o.sum, write_register(OF(end), BUF, seed >> 16));
+        }
+        o.units += linked(OF(host), OF(end), 288);
+        for (i = 0; i < 8; i++) {
+            o.sum = mixed(o.sum, read_register(OF(host), BUF));
+            o.sum = mixed(o.sum, read_register(OF(end), BUF));
+        }
+    }
+    o.sum = SEEN(end, SEEN(host, o.sum));
+    return o;
+}
+
+/* Register calls on a host: it is disabled, set up and enabled, nine words are
+ * written between looks at STAT, one word of 8 bits is sent between looks at
+ * all registers, and what came in is read; five calls are refused. */
+static struct outcome registers(uint32_t times)
+{
+    struct outcome o = {0, 0};
+    uint32_t seed = 1;
+    module m;
+    int i;
+
+#define SAID(call) (o.sum = mixed(o.sum, (call)), o.units++)
+    power_up(OF(m));
+    while (times-- > 0) {
+        seed = next(seed);
+        SAID(write_register(OF(m), STAT, 0));
+        SAID(write_register(OF(m), CON1, MSTEN | (seed >> 20 & 0x015F)));
+        SAID(write_register(OF(m), CON2, 1));
+        SAID(read_register(OF(m), CON1));
+        SAID(read_register(OF(m), BUF)); /* refused, 2 */
+        SAID(write_register(OF(m), CON1, MSTEN | (seed >> 20 & 0x0140)));
+        SAID(write_register(OF(m), STAT, 0x8000 | (seed >> 16 & 0x1C)));
+        for (i = 0; i < 9; i++) {
+            SAID(write_register(OF(m), BUF, seed >> i));
+            SAID(read_register(OF(m), STAT));
+        }
+        SAID(write_register(OF(m), BUF, 0)); /* refused, 5 */
+        SAID(write_register(OF(m), CON2, 0)); /* refused, 3 */
+        SAID(read_register(OF(m), 4)); /* refused, 1 */
+        for (i = 0; i < 4; i++) {
+            SAID(tick(OF(m), seed >> i & 1));
+            SAID(tick(OF(m), seed >> (i + 4) & 1));
+            SAID(read_register(OF(m), STAT));
+            SAID(read_register(OF(m), CON1));
+            SAID(tick(OF(m), seed >> (i + 8) & 1));
+            SAID(tick(OF(m), seed >> (i + 12) & 1));
+            SAID(read_register(OF(m), CON2));
+        }
+        SAID(read_register(OF(m), BUF));
+        SAID(read_register(OF(m), BUF)); /* refused, 6 */
+        SAID(write_register(OF(m), BUF, seed));
+        SAID(read_register(OF(m), STAT));
+    }
+    o.sum = SEEN(m, o.sum);
+    return o;
+}
+
+const struct side EITHER(library_side, plain_side) = {
+    EITHER("library", "plain C"),
+    {busy_host, client_8, client_16, linked_pair, registers}};

@@ -1,0 +1,24 @@
+/* What is measured. cases.c is compiled once for each side, so that both make
+ * the same calls, directly and from code that is alike. */
+#ifndef CASES_H
+#define CASES_H
+
+#include <stdint.h>
+
+/* What a run came to: the edges or calls made, and a sum over all answers,
+ * which must be the same for both sides. */
+struct outcome {
+    uint32_t units, sum;
+};
+
+enum { BUSY_HOST, CLIENT_8, CLIENT_16, LINKED_PAIR, REGISTERS, CASES };
+
+/* One run of each case; `times` is how often its round of calls is made. */
+struct side {
+    const char *name;
+    struct outcome (*run[CASES])(uint32_t times);
+};
+
+extern const struct side library_side, plain_side;
+
+#endif

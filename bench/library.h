@@ -1,0 +1,25 @@
+/* The functions of the proved library that the benchmark calls. A module is
+ * memory of 96 numbers that the caller holds. */
+#ifndef LIBRARY_H
+#define LIBRARY_H
+
+#include <stdint.h>
+
+#define THURAFEQA_NUMBERS 96
+
+void thurafeqa_power_up(uint16_t *m);
+uint32_t thurafeqa_read(uint16_t *m, uint32_t reg);
+uint32_t thurafeqa_write(uint16_t *m, uint32_t reg, uint32_t value);
+uint32_t thurafeqa_tick(uint16_t *m, uint32_t sdi);
+uint32_t thurafeqa_pins(uint16_t *m, uint32_t sck, uint32_t sdi, uint32_t ss);
+void thurafeqa_clear(uint16_t *m);
+uint32_t thurafeqa_levels(const uint16_t *m);
+uint32_t thurafeqa_linked(uint16_t *host, uint16_t *client, uint32_t limit);
+
+struct thurafeqa_clock {
+    uint32_t number, kind;
+    double rate, bittime, below;
+};
+struct thurafeqa_clock thurafeqa_clock(const uint16_t *m, uint32_t rate);
+
+#endif

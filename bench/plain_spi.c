@@ -1,0 +1,400 @@
+/* The module itself. Settings cannot change while a module is enabled, so what
+ * they decide is worked out once, when it is enabled, and an edge within a word
+ * looks at a few bytes only. */
+#include "plain_spi.h"
+
+#include <string.h>
+
+#define BIT(n) (1u << (n))
+
+/* STAT */
+#define SPIEN BIT(15)
+#define SPISIDL BIT(13)
+#define SRMPT BIT(7)
+#define SPIROV BIT(6)
+#define SRXMPT BIT(5)
+#define SISEL (7u << 2)
+#define SPITBF BIT(1)
+#define SPIRBF BIT(0)
+/* CON1 */
+#define DISSCK BIT(12)
+#define DISSDO BIT(11)
+#define MODE16 BIT(10)
+#define SMP BIT(9)
+#define CKE BIT(8)
+#define SSEN BIT(7)
+#define CKP BIT(6)
+#define MSTEN BIT(5)
+#define PRESCALERS 0x1Fu
+#define CON1_BITS 0x1FFFu
+/* CON2 */
+#define FRMEN BIT(15)
+#define SPIBEN BIT(0)
+#define CON2_BITS 0xE003u
+
+enum { OFF, OWN, PIN };
+enum { STANDARD = 8 };
+
+static uint32_t refuse(uint32_t number) { return number << 16; }
+
+/* ---- rings; the caller has looked at the count ------------------------- */
+
+static void append(struct plain_ring *r, uint8_t *at, uint16_t word)
+{
+    r->word[*at] = word;
+    *at = (*at + 1) & 7;
+    r->count++;
+}
+
+static uint16_t take(struct plain_ring *r, uint8_t *at)
+{
+    uint16_t word = r->word[*at];
+    *at = (*at + 1) & 7;
+    r->count--;
+    return word;
+}
+
+/* ---- between words ------------------------------------------------------ */
+
+/* A word has left the transmit buffer. */
+static void left(struct plain_spi *m)
+{
+    if ((m->raises == 4 && m->tx.count == 7) ||
+        (m->raises == 6 && m->tx.count == 0))
+        m->flag = 1;
+}
+
+/* The first waiting word moves to the free shift register. With CKE 1 its top
+ * bit goes out at once. */
+static void load(struct plain_spi *m)
+{
+    m->out = take(&m->tx, &m->tx.spi);
+    m->loaded = 1;
+    left(m);
+    if (m->cke) {
+        m->sdo = (uint8_t)(m->out >> 15);
+        m->out = (uint16_t)(m->out << 1);
+    }
+}
+
+/* A client that obeys SS with no word begun: with CKE 1 SDO shows the top bit
+ * of its first waiting word. */
+static void show(struct plain_spi *m)
+{
+    if (m->cke)
+        m->sdo = m->tx.count && m->tx.word[m->tx.spi] >> 15;
+}
+
+/* A word begins at a client: the loaded word, the first waiting one if the
+ * client obeys SS, or a filler of zeros. */
+static void begin(struct plain_spi *m)
+{
+    if (m->select) {
+        m->filler = m->tx.count == 0;
+        m->out = m->filler ? 0 : m->tx.word[m->tx.spi] << m->cke & 0xFFFF;
+    } else if (!m->loaded) {
+        m->out = 0;
+    }
+}
+
+static void finish(struct plain_spi *m)
+{
+    m->edges = 0;
+    if (m->rx.count == m->depth) {
+        m->stat |= SPIROV;
+    } else {
+        append(&m->rx, &m->rx.spi, m->in & (0xFFFF >> m->spare));
+        if (m->raises == 1 || (m->raises == 2 && m->rx.count >= 6) ||
+            (m->raises == 3 && m->rx.count == 8))
+            m->flag = 1;
+    }
+    if (m->select && !m->filler) {
+        take(&m->tx, &m->tx.spi);
+        left(m);
+    }
+    if (m->raises == STANDARD || (m->raises == 5 && m->tx.count == 0))
+        m->flag = 1;
+    if (m->select) {
+        show(m);
+    } else if (m->tx.count) {
+        load(m);
+    } else {
+        m->loaded = 0;
+        if (m->cke)
+            m->sdo = 0;
+    }
+}
+
+/* ---- edges -------------------------------------------------------------- */
+
+/* One edge of a word: SDO moves on odd edges with CKE 0 and on even ones with
+ * CKE 1, SDI is sampled on the others. */
+static inline void edge(struct plain_spi *m, unsigned sdi)
+{
+    unsigned k = ++m->edges;
+
+    if ((k ^ m->cke) & 1) {
+        m->sdo = (uint8_t)(m->out >> 15);
+        m->out = (uint16_t)(m->out << 1);
+    } else {
+        m->in = (uint16_t)(m->in << 1 | sdi);
+    }
+    if (k == m->last)
+        finish(m);
+}
+
+static inline void shown(struct plain_spi *m, unsigned sck, unsigned sdi,
+                         unsigned ss)
+{
+    unsigned changed = sck ^ m->sck;
+
+    m->ss = (uint8_t)ss;
+    m->sck = (uint8_t)sck;
+    if (m->select && ss) {
+        if (m->edges) {
+            m->edges = 0;
+            show(m);
+        }
+        return;
+    }
+    if (!changed)
+        return;
+    if (m->edges == 0) {
+        if (sck == m->ckp)
+            return;
+        if (!m->host)
+            begin(m);
+        else if (!m->loaded)
+            return;
+    }
+    edge(m, sdi);
+}
+
+uint32_t plain_tick(struct plain_spi *m, uint32_t sdi)
+{
+    if (m->clock != OWN)
+        return refuse(m->clock == OFF ? 2 : 7);
+    if (!m->loaded)
+        return 0;
+    m->sck ^= 1;
+    edge(m, sdi != 0);
+    return 1;
+}
+
+uint32_t plain_pins(struct plain_spi *m, uint32_t sck, uint32_t sdi,
+                    uint32_t ss)
+{
+    if (m->clock != PIN)
+        return refuse(m->clock == OFF ? 2 : 7);
+    shown(m, sck != 0, sdi != 0, ss != 0);
+    return 0;
+}
+
+/* ---- registers ---------------------------------------------------------- */
+
+static uint32_t read_stat(const struct plain_spi *m)
+{
+    uint32_t v = m->stat;
+
+    if (m->clock == OFF)
+        return v;
+    if (m->tx.count == m->depth)
+        v |= SPITBF;
+    if (m->rx.count == m->depth)
+        v |= SPIRBF;
+    if (m->raises != STANDARD) {
+        unsigned count = m->host ? m->tx.count : m->rx.count;
+        v |= (count > 7 ? 7 : count) << 8;
+        if (m->rx.count == 0)
+            v |= SRXMPT;
+        if (!m->loaded && m->edges == 0)
+            v |= SRMPT;
+    }
+    return v;
+}
+
+static uint32_t read_buf(struct plain_spi *m)
+{
+    uint32_t word;
+
+    if (m->clock == OFF)
+        return refuse(2);
+    if (m->rx.count == 0)
+        return refuse(6);
+    word = take(&m->rx, &m->rx.cpu);
+    if (m->raises == 0 && m->rx.count == 0)
+        m->flag = 1;
+    return word;
+}
+
+uint32_t plain_read(struct plain_spi *m, uint32_t reg)
+{
+    switch (reg) {
+    case 0:
+        return read_stat(m);
+    case 1:
+        return m->con1;
+    case 2:
+        return m->con2;
+    case 3:
+        return read_buf(m);
+    default:
+        return refuse(1);
+    }
+}
+
+static uint32_t write_buf(struct plain_spi *m, unsigned value)
+{
+    if (m->clock == OFF)
+        return refuse(2);
+    if (m->tx.count == m->depth)
+        return refuse(5);
+    append(&m->tx, &m->tx.cpu, (uint16_t)(value << m->spare));
+    if (m->select) {
+        if (m->tx.count == 1 && m->edges == 0)
+            show(m);
+    } else if (!m->loaded && m->edges == 0) {
+        load(m);
+    }
+    if (m->raises == 7 && m->tx.count == 8)
+        m->flag = 1;
+    return 0;
+}
+
+static int bad_settings(const struct plain_spi *m)
+{
+    if (m->con2 & FRMEN || m->con1 & SMP)
+        return 1;
+    if (m->con1 & MSTEN)
+        return !(m->con1 & DISSCK) && (m->con1 & PRESCALERS) == PRESCALERS;
+    return m->con1 & CKE && !(m->con1 & SSEN);
+}
+
+static void enable(struct plain_spi *m)
+{
+    unsigned c = m->con1;
+
+    m->host = (c & MSTEN) != 0;
+    m->clock = m->host && !(c & DISSCK) ? OWN : PIN;
+    m->select = !m->host && c & SSEN;
+    m->cke = (c & CKE) != 0;
+    m->ckp = (c & CKP) != 0;
+    m->last = c & MODE16 ? 32 : 16;
+    m->spare = c & MODE16 ? 0 : 8;
+    m->depth = m->con2 & SPIBEN ? 8 : 1;
+    m->sck = m->ckp;
+    m->ss = 1;
+    m->sdo = 0;
+}
+
+static void disable(struct plain_spi *m)
+{
+    m->clock = OFF;
+    m->tx.cpu = m->tx.spi = m->tx.count = 0;
+    m->rx.cpu = m->rx.spi = m->rx.count = 0;
+    m->loaded = m->filler = m->edges = 0;
+}
+
+static uint32_t write_stat(struct plain_spi *m, unsigned value)
+{
+    if (value & SPIEN) {
+        if (m->clock == OFF) {
+            if (bad_settings(m))
+                return refuse(4);
+            enable(m);
+        }
+    } else if (m->clock != OFF) {
+        disable(m);
+    }
+    m->stat = (uint16_t)((value & (SPIEN | SPISIDL | SISEL)) |
+                         (m->stat & value & SPIROV));
+    m->raises = m->con2 & SPIBEN ? value >> 2 & 7 : STANDARD;
+    return 0;
+}
+
+uint32_t plain_write(struct plain_spi *m, uint32_t reg, uint32_t value)
+{
+    value &= 0xFFFF;
+    switch (reg) {
+    case 0:
+        return write_stat(m, value);
+    case 1:
+        if (m->clock != OFF)
+            return refuse(3);
+        m->con1 = value & CON1_BITS;
+        return 0;
+    case 2:
+        if (m->clock != OFF)
+            return refuse(3);
+        m->con2 = value & CON2_BITS;
+        return 0;
+    case 3:
+        return write_buf(m, value);
+    default:
+        return refuse(1);
+    }
+}
+
+void plain_power_up(struct plain_spi *m) { memset(m, 0, sizeof *m); }
+
+void plain_clear(struct plain_spi *m) { m->flag = 0; }
+
+/* ---- the pins, the wire, the clock -------------------------------------- */
+
+static int driven(const struct plain_spi *m)
+{
+    return m->clock != OFF && !(m->con1 & DISSDO) && !(m->select && m->ss);
+}
+
+uint32_t plain_levels(const struct plain_spi *m)
+{
+    uint32_t v = m->flag | (uint32_t)m->sck << 1;
+
+    return driven(m) ? v | (uint32_t)m->sdo << 2 | 8 : v;
+}
+
+uint32_t plain_linked(struct plain_spi *host, struct plain_spi *client,
+                      uint32_t limit)
+{
+    /* SDO of either end reads 0 under DISSDO; nothing else lets go of it here */
+    unsigned from_host = !(host->con1 & DISSDO);
+    unsigned from_client = !(client->con1 & DISSDO);
+    uint32_t used = 0;
+
+    if (limit > 288)
+        return refuse(11);
+    if (host->clock == OFF || client->clock == OFF)
+        return refuse(2);
+    if (host->clock != OWN || client->host)
+        return refuse(7);
+    if ((host->con1 ^ client->con1) & (CKP | CKE | MODE16))
+        return refuse(10);
+
+    shown(client, host->sck, host->sdo & from_host, 0);
+    while (used < limit && host->loaded) {
+        host->sck ^= 1;
+        edge(host, client->sdo & from_client);
+        shown(client, host->sck, host->sdo & from_host, 0);
+        used++;
+    }
+    return used;
+}
+
+struct plain_clock plain_report(const struct plain_spi *m, uint32_t rate)
+{
+    static const uint8_t primary[4] = {64, 16, 4, 1};
+    struct plain_clock said = {0, 0, 0.0, 0.0, 0.0};
+
+    if (rate == 0) {
+        said.number = 8;
+    } else if (m->clock == OWN) {
+        unsigned divider = primary[m->con1 & 3] * (8 - (m->con1 >> 2 & 7));
+        said.kind = 1;
+        said.rate = (double)rate / divider;
+        said.bittime = divider / (double)rate;
+    } else if (m->clock == PIN) {
+        said.kind = 2;
+        said.below = rate;
+    }
+    return said;
+}

@@ -1,0 +1,47 @@
+/* One name for the calls of either side: those of the proved library if built
+ * with LIBRARY, else those of plain C. */
+#ifndef SIDE_H
+#define SIDE_H
+
+#ifdef LIBRARY
+#include "library.h"
+#define EITHER(library, plain) library
+typedef uint16_t module[THURAFEQA_NUMBERS];
+#define OF(m) (m)
+#define power_up thurafeqa_power_up
+#define read_register thurafeqa_read
+#define write_register thurafeqa_write
+#define tick thurafeqa_tick
+#define pins thurafeqa_pins
+#define clear thurafeqa_clear
+#define levels thurafeqa_levels
+#define linked thurafeqa_linked
+#else
+#include "plain_spi.h"
+#define EITHER(library, plain) plain
+typedef struct plain_spi module;
+#define OF(m) (&(m))
+#define power_up plain_power_up
+#define read_register plain_read
+#define write_register plain_write
+#define tick plain_tick
+#define pins plain_pins
+#define clear plain_clear
+#define levels plain_levels
+#define linked plain_linked
+#endif
+
+enum { STAT, CON1, CON2, BUF };
+
+/* CON1 */
+#define MODE16 0x0400u
+#define CKE 0x0100u
+#define SSEN 0x0080u
+#define MSTEN 0x0020u
+
+/* A module in enhanced operation, enabled. */
+#define START(m, con1)                                                        \
+    (power_up(OF(m)), write_register(OF(m), CON1, con1),                      \
+     write_register(OF(m), CON2, 1), write_register(OF(m), STAT, 0x8000))
+
+#endif

@@ -1,0 +1,2 @@
+-- What the short ways say.
+pub mod Within

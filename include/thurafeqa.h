@@ -1,0 +1,190 @@
+/* Thurafeqa: a proved model of one dsPIC33/PIC24 SPI module, for programs in C
+ * or C++ on x86-64 Linux. Link with libthurafeqa.a, which needs nothing else:
+ *
+ *     cc -Iinclude program.c target/staticlib/libthurafeqa.a
+ *
+ * A host that sends one word and reads what came back with it:
+ *
+ *     thurafeqa m;
+ *     thurafeqa_power_up(&m);
+ *     thurafeqa_write(&m, THURAFEQA_CON1, THURAFEQA_CON1_MSTEN);
+ *     thurafeqa_write(&m, THURAFEQA_STAT, THURAFEQA_STAT_SPIEN);
+ *     thurafeqa_write(&m, THURAFEQA_BUF, 0xA5);
+ *     while (thurafeqa_tick(&m, sdi_level()) == 1)
+ *         ;
+ *     uint32_t answer = thurafeqa_read(&m, THURAFEQA_BUF);
+ *     if (thurafeqa_refusal(answer) == 0)
+ *         use(thurafeqa_value(answer));
+ *
+ * Memory. A module is memory that the caller holds and only the library
+ * understands. thurafeqa_power_up must set it first; before that it holds
+ * whatever module its numbers happen to mean. Copying the struct copies the
+ * module. A module needs no other care: nothing is allocated and no state is
+ * kept elsewhere, so a module that is no longer wanted is forgotten.
+ *
+ * Every call takes any module and any argument, and ends. It asks only this:
+ * - pointers are not null, and each points to a whole thurafeqa;
+ * - the two modules of a linked run are two different objects;
+ * - calls on one module do not run at the same time. Calls on different
+ *   modules may.
+ *
+ * Answers. The upper 16 bits of an answer are the refusal number, 0 if the call
+ * was done; the lower 16 bits are what the call tells, 0 if it was refused. A
+ * refused call leaves its modules and their interrupt flags as they were.
+ *
+ * Levels are numbers: 0 is low, anything else is high. */
+#ifndef THURAFEQA_H
+#define THURAFEQA_H
+
+#include <stdint.h>
+
+#ifdef __cplusplus
+extern "C" {
+#endif
+
+/* One module. */
+typedef struct {
+    uint16_t memory[96];
+} thurafeqa;
+
+/* Refusal numbers, as document 01 lists them. */
+#define THURAFEQA_NO_SUCH_REGISTER 1u /* the register number is above 3 */
+#define THURAFEQA_DISABLED 2u         /* SPIEN is 0 */
+#define THURAFEQA_ENABLED 3u          /* CON1 or CON2 written, SPIEN is 1 */
+#define THURAFEQA_BAD_SETTINGS 4u     /* these settings cannot be enabled */
+#define THURAFEQA_TRANSMIT_FULL 5u    /* BUF written, no room */
+#define THURAFEQA_RECEIVE_EMPTY 6u    /* BUF read, nothing unread */
+#define THURAFEQA_WRONG_CLOCK 7u      /* clocked otherwise, or wrong role */
+#define THURAFEQA_NO_RATE 8u          /* the instruction rate is 0 */
+#define THURAFEQA_UNREADABLE_LINE 9u  /* of scripts; no call here gives it */
+#define THURAFEQA_DIFFERENT_MODES 10u /* linked: CKP, CKE or width differ */
+#define THURAFEQA_TOO_MANY_EDGES 11u  /* linked: the limit is above 288 */
+
+/* The refusal number of an answer, 0 if the call was done. */
+static inline uint16_t thurafeqa_refusal(uint32_t answer)
+{
+    return (uint16_t)(answer >> 16);
+}
+
+/* What an answer tells: a register's value, or a number of edges. */
+static inline uint16_t thurafeqa_value(uint32_t answer)
+{
+    return (uint16_t)(answer & 0xFFFFu);
+}
+
+/* Register numbers. */
+#define THURAFEQA_STAT 0u
+#define THURAFEQA_CON1 1u
+#define THURAFEQA_CON2 2u
+#define THURAFEQA_BUF 3u
+
+/* STAT. A write takes SPIEN, SPISIDL and SISEL, and a 0 in SPIROV clears that
+ * bit; the others are read-only. */
+#define THURAFEQA_STAT_SPIEN 0x8000u   /* enabled */
+#define THURAFEQA_STAT_SPISIDL 0x2000u /* kept, without effect */
+#define THURAFEQA_STAT_SPIBEC 0x0700u  /* words waiting; a client's unread */
+#define THURAFEQA_STAT_SRMPT 0x0080u   /* the shift register is empty */
+#define THURAFEQA_STAT_SPIROV 0x0040u  /* a received word was lost */
+#define THURAFEQA_STAT_SRXMPT 0x0020u  /* the receive buffer is empty */
+#define THURAFEQA_STAT_SISEL 0x001Cu   /* which event sets the flag */
+#define THURAFEQA_STAT_SPITBF 0x0002u  /* the transmit buffer is full */
+#define THURAFEQA_STAT_SPIRBF 0x0001u  /* the receive buffer is full */
+
+/* CON1. */
+#define THURAFEQA_CON1_DISSCK 0x1000u /* a host is clocked from its pin */
+#define THURAFEQA_CON1_DISSDO 0x0800u /* SDO is not driven */
+#define THURAFEQA_CON1_MODE16 0x0400u /* words of 16 bits, else of 8 */
+#define THURAFEQA_CON1_SMP 0x0200u    /* not modelled: cannot be enabled */
+#define THURAFEQA_CON1_CKE 0x0100u    /* SDO changes on the way to idle */
+#define THURAFEQA_CON1_SSEN 0x0080u   /* a client heeds SS */
+#define THURAFEQA_CON1_CKP 0x0040u    /* the clock idles high */
+#define THURAFEQA_CON1_MSTEN 0x0020u  /* host, else client */
+#define THURAFEQA_CON1_SPRE 0x001Cu   /* secondary prescaler, 8 - SPRE */
+#define THURAFEQA_CON1_PPRE 0x0003u   /* primary prescaler: 64, 16, 4, 1 */
+
+/* CON2. */
+#define THURAFEQA_CON2_FRMEN 0x8000u  /* not modelled: cannot be enabled */
+#define THURAFEQA_CON2_SPIFSD 0x4000u /* kept, without effect */
+#define THURAFEQA_CON2_FRMPOL 0x2000u /* kept, without effect */
+#define THURAFEQA_CON2_FRMDLY 0x0002u /* kept, without effect */
+#define THURAFEQA_CON2_SPIBEN 0x0001u /* enhanced: buffers of 8 words, else 1 */
+
+/* Where the fields of more than one bit begin. */
+#define THURAFEQA_STAT_SPIBEC_SHIFT 8
+#define THURAFEQA_STAT_SISEL_SHIFT 2
+#define THURAFEQA_CON1_SPRE_SHIFT 2
+#define THURAFEQA_CON1_PPRE_SHIFT 0
+
+/* Power-up: every register 0, the interrupt flag clear, the module disabled.
+ * The memory may hold anything before. Never refused. */
+void thurafeqa_power_up(thurafeqa *m);
+
+/* Reads a register; the answer's value is the register's. Reading BUF takes the
+ * oldest unread word, and with SISEL 0 in enhanced operation the read that
+ * empties the receive buffer sets the interrupt flag. The other registers are
+ * read without effect.
+ * Refusals: 1; for BUF 2, then 6. */
+uint32_t thurafeqa_read(thurafeqa *m, uint32_t register_number);
+
+/* Writes the low 16 bits of a value to a register; the answer's value is 0.
+ * Writing BUF accepts a word for sending, of which 8-bit operation keeps the
+ * low 8 bits. Writing STAT with SPIEN 1 enables the module, with SPIEN 0
+ * disables it, which empties both buffers and the shift register.
+ * Refusals: 1; for BUF 2, then 5; for CON1 and CON2 3; for STAT 4. */
+uint32_t thurafeqa_write(thurafeqa *m, uint32_t register_number,
+                         uint32_t value);
+
+/* One tick of a host with its own clock, with the level at SDI; the answer's
+ * value is 1 if it made an edge, 0 if there was no word to send.
+ * Refusals: 2, then 7 (a client, or a host under DISSCK). */
+uint32_t thurafeqa_tick(thurafeqa *m, uint32_t sdi);
+
+/* Shows levels to the pins of a client or of a host under DISSCK; an SCK level
+ * unlike the last is an edge. The answer's value is 0.
+ * Refusals: 2, then 7 (a host with its own clock). */
+uint32_t thurafeqa_pins(thurafeqa *m, uint32_t sck, uint32_t sdi, uint32_t ss);
+
+/* Clears the interrupt flag, which nothing else does but power-up. Never
+ * refused. */
+void thurafeqa_clear(thurafeqa *m);
+
+/* The interrupt flag and the pin levels, as the bits below. Never refused, and
+ * the answer carries no refusal number. */
+uint32_t thurafeqa_levels(const thurafeqa *m);
+
+#define THURAFEQA_LEVELS_INTERRUPT 1u
+#define THURAFEQA_LEVELS_SCK 2u    /* last made here or seen at the pin */
+#define THURAFEQA_LEVELS_SDO 4u    /* 0 if SDO is not driven */
+#define THURAFEQA_LEVELS_DRIVEN 8u /* SDO is driven */
+
+/* Runs two modules on one wire until the host has no more to send, or for
+ * `limit` edges; the answer's value is the number of edges that the host made.
+ * Client and host must be two different objects. A limit of 288 always ends
+ * with an idle host.
+ * Refusals: 11, then 2 (either disabled), 7 (the host has no clock of its own,
+ * or the client is a host), 10. */
+uint32_t thurafeqa_linked(thurafeqa *host, thurafeqa *client, uint32_t limit);
+
+/* A clock report. What is not carried is 0. */
+typedef struct {
+    uint32_t number; /* the refusal number, 0 if not refused */
+    uint32_t kind;   /* one of the three below */
+    double rate;     /* internal: the clock's rate */
+    double bittime;  /* internal: the time of one bit */
+    double below;    /* external: what the clock must stay below */
+} thurafeqa_clock_report;
+
+#define THURAFEQA_CLOCK_NONE 0u     /* the module is disabled */
+#define THURAFEQA_CLOCK_INTERNAL 1u /* a host with its own clock */
+#define THURAFEQA_CLOCK_EXTERNAL 2u /* a module clocked from its pin */
+
+/* The clock report for an instruction rate: with the divider D of CON1, the
+ * rate is rate / D and the bit time D / rate, each rounded once.
+ * Refusal: 8, also of a disabled module. */
+thurafeqa_clock_report thurafeqa_clock(const thurafeqa *m, uint32_t rate);
+
+#ifdef __cplusplus
+}
+#endif
+
+#endif

@@ -1,0 +1,131 @@
+/* The library's calls as records, and random numbers. */
+#include "calls.h"
+
+#include <inttypes.h>
+#include <stdio.h>
+#include <string.h>
+
+const char *const kind_name[KINDS] = {"power-up", "read",  "write",  "tick",
+                                      "pins",     "clear", "linked", "clock"};
+const char *const view_name[VIEWS] = {"STAT", "CON1", "CON2", "levels"};
+
+int concerned(const struct call *c)
+{
+    return c->kind == LINKED ? 2 : 1;
+}
+
+void print_call(const struct call *c)
+{
+    printf("module %d: %s", c->module, kind_name[c->kind]);
+    switch (c->kind) {
+    case READ:
+    case TICK:
+    case CLOCK: printf(" %" PRIu32, c->x); break;
+    case WRITE: printf(" %" PRIu32 " %04" PRIX32, c->x, c->y); break;
+    case PINS:
+        printf(" %" PRIu32 " %" PRIu32 " %" PRIu32, c->x, c->y, c->z);
+        break;
+    case LINKED:
+        printf(" with client %d, limit %" PRIu32, c->other, c->x);
+        break;
+    default: break;
+    }
+}
+
+uint32_t refusal_of(const struct call *c, const struct outcome *o)
+{
+    return c->kind == CLOCK ? o->report.number : thurafeqa_refusal(o->answer);
+}
+
+void ask_library(thurafeqa *m, thurafeqa *other, const struct call *c,
+                 struct outcome *o)
+{
+    o->answer = 0;
+    switch (c->kind) {
+    case POWER_UP: thurafeqa_power_up(m); break;
+    case READ: o->answer = thurafeqa_read(m, c->x); break;
+    case WRITE: o->answer = thurafeqa_write(m, c->x, c->y); break;
+    case TICK: o->answer = thurafeqa_tick(m, c->x); break;
+    case PINS: o->answer = thurafeqa_pins(m, c->x, c->y, c->z); break;
+    case CLEAR: thurafeqa_clear(m); break;
+    case LINKED: o->answer = thurafeqa_linked(m, other, c->x); break;
+    case CLOCK: o->report = thurafeqa_clock(m, c->x); break;
+    case KINDS: break;
+    }
+}
+
+void see_library(thurafeqa *m, uint32_t seen[VIEWS])
+{
+    seen[STAT] = thurafeqa_read(m, THURAFEQA_STAT);
+    seen[CON1] = thurafeqa_read(m, THURAFEQA_CON1);
+    seen[CON2] = thurafeqa_read(m, THURAFEQA_CON2);
+    seen[LEVELS] = thurafeqa_levels(m);
+}
+
+int same_answer(const struct call *c, const struct outcome *a,
+                const struct outcome *b)
+{
+    const thurafeqa_clock_report *r = &a->report, *s = &b->report;
+
+    if (c->kind != CLOCK)
+        return a->answer == b->answer;
+    return r->number == s->number && r->kind == s->kind &&
+           memcmp(&r->rate, &s->rate, sizeof r->rate) == 0 &&
+           memcmp(&r->bittime, &s->bittime, sizeof r->bittime) == 0 &&
+           memcmp(&r->below, &s->below, sizeof r->below) == 0;
+}
+
+/* ---- random numbers -------------------------------------------------- */
+
+static uint64_t state;
+
+void start_numbers(uint64_t seed)
+{
+    state = seed;
+}
+
+uint32_t any_number(void)
+{
+    uint64_t z = state += UINT64_C(0x9E3779B97F4A7C15);
+
+    z = (z ^ (z >> 30)) * UINT64_C(0xBF58476D1CE4E5B9);
+    z = (z ^ (z >> 27)) * UINT64_C(0x94D049BB133111EB);
+    return (uint32_t)((z ^ (z >> 31)) >> 32);
+}
+
+uint32_t below(uint32_t n)
+{
+    return any_number() % n;
+}
+
+int one_in(uint32_t n)
+{
+    return below(n) == 0;
+}
+
+uint32_t some_level(int high)
+{
+    static const uint32_t other[] = {2, 256, 65536, 0x80000000u, 0xFFFFFFFFu};
+
+    if (!high)
+        return 0;
+    return one_in(16) ? other[below(5)] : 1;
+}
+
+uint32_t some_register(void)
+{
+    static const uint32_t far[] = {4,       5,       255,         256,
+                                   0x10000, 0x10003, 0x80000000u, 0xFFFFFFFFu};
+
+    return one_in(6) ? far[below(8)] : below(6);
+}
+
+uint32_t some_limit(void)
+{
+    static const uint32_t limit[] = {0,  1,  2,   15,  16,  17,
+                                     31, 32, 287, 288, 289, 0x10010};
+
+    if (one_in(100))
+        return any_number();
+    return one_in(2) ? limit[below(12)] : below(301);
+}

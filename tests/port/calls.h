@@ -1,0 +1,64 @@
+/* The library's calls as records, and random numbers to make them from: what
+ * compare.c and hostile.c share. */
+#ifndef CALLS_H
+#define CALLS_H
+
+#include "thurafeqa.h"
+
+/* ---- calls ----------------------------------------------------------- */
+
+enum kind { POWER_UP, READ, WRITE, TICK, PINS, CLEAR, LINKED, CLOCK, KINDS };
+extern const char *const kind_name[KINDS];
+
+struct call {
+    enum kind kind;
+    int module, other; /* the other one: a linked run's client */
+    uint32_t x, y, z;  /* the arguments in their order */
+};
+
+/* How many modules a call is made on. */
+int concerned(const struct call *c);
+
+void print_call(const struct call *c);
+
+/* ---- what comes of a call -------------------------------------------- */
+
+/* What is seen of a module without changing it. */
+enum view { STAT, CON1, CON2, LEVELS, VIEWS };
+extern const char *const view_name[VIEWS];
+
+struct outcome {
+    uint32_t answer;
+    thurafeqa_clock_report report; /* of a clock call only */
+    uint32_t seen[2][VIEWS];       /* of the module; of the other one */
+};
+
+/* The refusal number in an outcome, 0 if the call was done. */
+uint32_t refusal_of(const struct call *c, const struct outcome *o);
+
+/* Makes a call; `seen` is left as it is. */
+void ask_library(thurafeqa *m, thurafeqa *other, const struct call *c,
+                 struct outcome *o);
+
+/* Looks at a module, by three register reads and the levels. */
+void see_library(thurafeqa *m, uint32_t seen[VIEWS]);
+
+/* Are the answers the same, the floats bit for bit? */
+int same_answer(const struct call *c, const struct outcome *a,
+                const struct outcome *b);
+
+/* ---- random numbers -------------------------------------------------- */
+
+void start_numbers(uint64_t seed);
+uint32_t any_number(void);
+uint32_t below(uint32_t n);
+int one_in(uint32_t n);
+
+/* A level as a caller may give it: 0, or anything else for high. */
+uint32_t some_level(int high);
+
+/* Register numbers, most of them real; edge limits, most of them allowed. */
+uint32_t some_register(void);
+uint32_t some_limit(void);
+
+#endif

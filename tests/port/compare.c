@@ -1,0 +1,807 @@
+/* The exported library beside the second model (tests/model): random calls go
+ * to both, and after every call the answers, the registers STAT, CON1 and CON2,
+ * the levels and the interrupt flags must agree.
+ *
+ * usage: compare CALLS SEED
+ *
+ * It prints how often each case was reached. Exit 0: no difference, and every
+ * case was reached. Exit 1: a case was not reached, or a difference; then it
+ * prints a short list of calls that shows the difference from power-up on.
+ * Exit 2: bad usage. */
+#include "calls.h"
+#include "ref_spi.h"
+
+#include <inttypes.h>
+#include <stdio.h>
+#include <stdlib.h>
+#include <string.h>
+
+/* Modules 0 and 1 are partners in linked runs, and so are 2 and 3. */
+#define MODULES 4
+
+/* The most calls from one power-up of all modules to the next. */
+#define LONGEST 4000
+
+/* ---- the model's answers in the library's form ----------------------- */
+
+static uint32_t as_answer(int number, unsigned value)
+{
+    return number > 0 ? (uint32_t)number << 16 : (uint32_t)value;
+}
+
+static thurafeqa_clock_report model_report(const struct ref_spi *m, uint32_t f)
+{
+    thurafeqa_clock_report r = {0, THURAFEQA_CLOCK_NONE, 0, 0, 0};
+    double rate = 0, bit_time = 0;
+    int kind = 0;
+
+    r.number = (uint32_t)ref_clock(m, f, &kind, &rate, &bit_time);
+    if (r.number != 0)
+        return r;
+    if (kind == 1) {
+        r.kind = THURAFEQA_CLOCK_INTERNAL;
+        r.rate = rate;
+        r.bittime = bit_time;
+    } else if (kind == 2) {
+        r.kind = THURAFEQA_CLOCK_EXTERNAL;
+        r.below = rate;
+    }
+    return r;
+}
+
+static uint32_t model_levels(const struct ref_spi *m)
+{
+    uint32_t levels = 0;
+
+    if (ref_flag(m))
+        levels |= THURAFEQA_LEVELS_INTERRUPT;
+    if (ref_sck(m))
+        levels |= THURAFEQA_LEVELS_SCK;
+    if (ref_sdo(m) != REF_UNDRIVEN)
+        levels |= THURAFEQA_LEVELS_DRIVEN;
+    if (ref_sdo(m) == 1)
+        levels |= THURAFEQA_LEVELS_SDO;
+    return levels;
+}
+
+static void see_model(struct ref_spi *m, uint32_t seen[VIEWS])
+{
+    int i;
+
+    for (i = STAT; i <= CON2; i++) {
+        unsigned value = 0;
+        int r = ref_read(m, (unsigned)i, &value);
+        seen[i] = as_answer(r, value);
+    }
+    seen[LEVELS] = model_levels(m);
+}
+
+static void ask_model(struct ref_spi *m, struct ref_spi *other,
+                      const struct call *c, struct outcome *o)
+{
+    unsigned value = 0;
+    int r = 0;
+
+    switch (c->kind) {
+    case POWER_UP: ref_power_up(m); break;
+    case READ: r = ref_read(m, c->x, &value); break;
+    case WRITE: r = ref_write(m, c->x, c->y & 0xFFFFu); break;
+    case TICK:
+        r = ref_tick(m, c->x != 0);
+        value = r == 0;
+        break;
+    case PINS: r = ref_pins(m, c->x != 0, c->y != 0, c->z != 0); break;
+    case CLEAR: ref_clear(m); break;
+    case LINKED: r = ref_linked(m, other, c->x, &value); break;
+    case CLOCK: o->report = model_report(m, c->x); break;
+    case KINDS: break;
+    }
+    o->answer = as_answer(r, value);
+}
+
+/* ---- both sides, from power-up --------------------------------------- */
+
+struct sides {
+    thurafeqa library[MODULES];
+    struct ref_spi model[MODULES];
+};
+
+/* Power-up of all modules; before it the library's memory is filled from
+ * `noise`, with zeros if that is 0. */
+static void power_up_all(struct sides *s, uint64_t noise)
+{
+    size_t i, k;
+
+    for (i = 0; i < MODULES; i++) {
+        for (k = 0; k < sizeof s->library[i].memory / sizeof(uint16_t); k++) {
+            noise *= UINT64_C(6364136223846793005);
+            s->library[i].memory[k] = (uint16_t)(noise >> 48);
+        }
+        thurafeqa_power_up(&s->library[i]);
+        ref_power_up(&s->model[i]);
+    }
+}
+
+/* Makes a call on both sides: do they agree in the answer, and in what is seen
+ * afterwards? */
+static int ask_both(struct sides *s, const struct call *c, struct outcome *l,
+                    struct outcome *m)
+{
+    const int at[2] = {c->module, c->other};
+    int i, same;
+
+    ask_library(&s->library[c->module], &s->library[c->other], c, l);
+    ask_model(&s->model[c->module], &s->model[c->other], c, m);
+    same = same_answer(c, l, m);
+    for (i = 0; i < concerned(c); i++) {
+        see_library(&s->library[at[i]], l->seen[i]);
+        see_model(&s->model[at[i]], m->seen[i]);
+        if (memcmp(l->seen[i], m->seen[i], sizeof l->seen[i]) != 0)
+            same = 0;
+    }
+    return same;
+}
+
+/* Plays a list of calls: how many it takes to the first difference, that call
+ * included; 0 if there is none. */
+static int play(const struct call *list, int n, uint64_t noise)
+{
+    static struct sides s;
+    struct outcome l, m;
+    int i;
+
+    power_up_all(&s, noise);
+    for (i = 0; i < n; i++) {
+        if (!ask_both(&s, &list[i], &l, &m))
+            return i + 1;
+    }
+    return 0;
+}
+
+/* Takes calls out of a list that shows a difference as long as it still shows
+ * one: how many are left. */
+static int shorten(struct call *list, int n, uint64_t noise)
+{
+    static struct call trial[LONGEST];
+    int part = n / 2;
+
+    while (part > 0) {
+        int at = 0, fewer = 0;
+        while (at + part <= n) {
+            int left = n - part, shows;
+            memcpy(trial, list, (size_t)at * sizeof *list);
+            memcpy(trial + at, list + at + part,
+                   (size_t)(left - at) * sizeof *list);
+            shows = play(trial, left, noise);
+            if (shows > 0) {
+                memcpy(list, trial, (size_t)shows * sizeof *list);
+                n = shows;
+                fewer = 1;
+            } else {
+                at += part;
+            }
+        }
+        if (!fewer)
+            part /= 2;
+    }
+    return n;
+}
+
+/* ---- telling of a difference ----------------------------------------- */
+
+static void print_report(const char *side, const thurafeqa_clock_report *r)
+{
+    printf("    report: %s %" PRIu32 ", kind %" PRIu32 ", %a, %a, %a\n", side,
+           r->number, r->kind, r->rate, r->bittime, r->below);
+}
+
+static void print_differences(const struct call *c, const struct outcome *l,
+                              const struct outcome *m)
+{
+    int i, v;
+
+    if (c->kind == CLOCK && !same_answer(c, l, m)) {
+        print_report("library", &l->report);
+        print_report("model", &m->report);
+    } else if (!same_answer(c, l, m)) {
+        printf("    answer: library %08" PRIX32 ", model %08" PRIX32 "\n",
+               l->answer, m->answer);
+    }
+    for (i = 0; i < concerned(c); i++) {
+        for (v = 0; v < VIEWS; v++) {
+            if (l->seen[i][v] == m->seen[i][v])
+                continue;
+            printf("    %s of module %d: library %04" PRIX32
+                   ", model %04" PRIX32 "\n",
+                   view_name[v], i == 0 ? c->module : c->other, l->seen[i][v],
+                   m->seen[i][v]);
+        }
+    }
+}
+
+/* The calls since the last power-up of all modules, shortened, each with what
+ * both sides answered. */
+static void tell(struct call *list, int n, uint64_t noise)
+{
+    static struct sides s;
+    struct outcome l, m;
+    int i;
+
+    if (play(list, n, 0) > 0)
+        noise = 0;
+    if (play(list, n, noise) == 0) {
+        printf("played again from power-up, the same calls do not show it\n");
+        return;
+    }
+    n = shorten(list, play(list, n, noise), noise);
+    printf("shown by %d of the calls, from power-up of all modules%s:\n", n,
+           noise == 0 ? "" : " over memory that was not all zero");
+    power_up_all(&s, noise);
+    for (i = 0; i < n; i++) {
+        (void)ask_both(&s, &list[i], &l, &m);
+        printf("  ");
+        print_call(&list[i]);
+        printf(": %08" PRIX32 "\n", l.answer);
+    }
+    print_differences(&list[n - 1], &l, &m);
+}
+
+/* ---- what the run has reached ---------------------------------------- */
+
+/* Counted on the model, before and after a call. */
+enum role { OWN_CLOCK, DISSCK_HOST, CLIENT, SSEN_CLIENT, ROLES };
+static const char *const role_name[ROLES] = {
+    "host, its own clock", "host under DISSCK", "client", "client under SSEN"};
+
+static struct {
+    unsigned long kinds[KINDS];
+    unsigned long refused[12];
+    unsigned long raised[9]; /* the flag, by SISEL; the last one: standard */
+    unsigned long overflow, filler, aborted_word, aborted_filler;
+    unsigned long edge, no_edge, linked_edges, clock[3];
+    /* finished words: enhanced, role, 16 bits, CKE, CKP */
+    unsigned long words[2][ROLES][2][2][2];
+} reached;
+
+static enum role role_of(const struct ref_spi *m)
+{
+    if (m->msten)
+        return m->dissck ? DISSCK_HOST : OWN_CLOCK;
+    return m->ssen ? SSEN_CLIENT : CLIENT;
+}
+
+static int word_edges(const struct ref_spi *m)
+{
+    return m->mode16 ? 32 : 16;
+}
+
+static int is_filler(const struct ref_spi *m)
+{
+    return m->begun && m->filler;
+}
+
+static void count_words(const struct ref_spi *m, unsigned n)
+{
+    reached.words[m->spiben][role_of(m)][m->mode16][m->cke][m->ckp] += n;
+}
+
+/* A module that a call has left with `after`. */
+static void count_module(const struct ref_spi *before,
+                         const struct ref_spi *after)
+{
+    if (!before->flag && after->flag)
+        reached.raised[after->spiben ? after->sisel : 8]++;
+    if (!before->spirov && after->spirov)
+        reached.overflow++;
+    if (!is_filler(before) && is_filler(after))
+        reached.filler++;
+}
+
+/* A tick or a pin call that was not refused. Select is looked at first, so a
+ * word that it aborts is not finished. */
+static void count_edge(const struct ref_spi *before,
+                       const struct ref_spi *after)
+{
+    int abort = role_of(before) == SSEN_CLIENT && !before->ss && after->ss;
+
+    if (abort && is_filler(before))
+        reached.aborted_filler++;
+    else if (abort && before->begun)
+        reached.aborted_word++;
+    if (!abort && before->edges == word_edges(before) - 1 && !after->begun)
+        count_words(before, 1);
+}
+
+static void count(const struct call *c, const struct outcome *o,
+                  const struct ref_spi *before, const struct ref_spi *pool)
+{
+    const struct ref_spi *m = &pool[c->module];
+    uint32_t number = refusal_of(c, o);
+    unsigned edges = thurafeqa_value(o->answer);
+
+    reached.kinds[c->kind]++;
+    count_module(&before[0], m);
+    if (concerned(c) == 2)
+        count_module(&before[1], &pool[c->other]);
+    if (number != 0) {
+        reached.refused[number]++;
+        return;
+    }
+    switch (c->kind) {
+    case TICK:
+        if (edges == 0)
+            reached.no_edge++;
+        else
+            reached.edge++;
+        count_edge(&before[0], m);
+        break;
+    case PINS: count_edge(&before[0], m); break;
+    case LINKED:
+        reached.linked_edges += edges;
+        count_words(m, ((unsigned)before[0].edges + edges) /
+                           (unsigned)word_edges(m));
+        break;
+    case CLOCK: reached.clock[o->report.kind]++; break;
+    default: break;
+    }
+}
+
+static int not_reached;
+
+static void print_count(const char *what, unsigned long n)
+{
+    printf(" %s%s%lu", what, *what ? " " : "", n);
+    if (n == 0)
+        not_reached++;
+}
+
+static void print_numbered(const char *what, int i, unsigned long n)
+{
+    char name[32];
+
+    sprintf(name, "%s%d:", what, i);
+    print_count(name, n);
+}
+
+/* One line of finished words, by CKE and CKP. */
+static void print_words(enum role role, int mode16, int spiben)
+{
+    int i;
+
+    printf("  %-19s %2d bits, %-8s  ", role_name[role], mode16 ? 16 : 8,
+           spiben ? "enhanced" : "standard");
+    for (i = 0; i < 4; i++) {
+        unsigned long n = reached.words[spiben][role][mode16][i / 2][i % 2];
+        if (role == CLIENT && i / 2 == 1) {
+            printf(" %9s", "refused"); /* CKE without SSEN */
+            continue;
+        }
+        printf(" %9lu", n);
+        if (n == 0)
+            not_reached++;
+    }
+    printf("\n");
+}
+
+static void print_reached(void)
+{
+    int i;
+
+    printf("calls:");
+    for (i = 0; i < KINDS; i++)
+        print_count(kind_name[i], reached.kinds[i]);
+    printf("\nrefused:");
+    for (i = 1; i <= 11; i++) {
+        if (i != (int)THURAFEQA_UNREADABLE_LINE)
+            print_numbered("", i, reached.refused[i]);
+    }
+    printf("\nflag raised:");
+    print_count("standard", reached.raised[8]);
+    for (i = 0; i < 8; i++)
+        print_numbered("SISEL ", i, reached.raised[i]);
+    printf("\nseen:");
+    print_count("overflow", reached.overflow);
+    print_count("filler", reached.filler);
+    print_count("abort of a word", reached.aborted_word);
+    print_count("of a filler", reached.aborted_filler);
+    printf("\nticks:");
+    print_count("an edge", reached.edge);
+    print_count("no edge", reached.no_edge);
+    print_count("edges in linked runs", reached.linked_edges);
+    printf("\nclock reports:");
+    print_count("none", reached.clock[THURAFEQA_CLOCK_NONE]);
+    print_count("internal", reached.clock[THURAFEQA_CLOCK_INTERNAL]);
+    print_count("external", reached.clock[THURAFEQA_CLOCK_EXTERNAL]);
+    printf("\n%-40s %9s %9s %9s %9s\n", "words finished, by CKE and CKP:",
+           "0 0", "0 1", "1 0", "1 1");
+    for (i = 0; i < 4 * ROLES; i++)
+        print_words((enum role)(i / 4), i / 2 % 2, i % 2);
+}
+
+/* ---- the run --------------------------------------------------------- */
+
+static unsigned long seed, wanted, made;
+static struct sides now;
+static struct call sequence[LONGEST]; /* since power-up of all modules */
+static int length;
+static uint64_t noise;
+
+/* Makes a call on both sides and holds them to each other. Once the sequence is
+ * as long as it may be, or all calls are made, nothing more happens. */
+static void make(enum kind kind, int module, int other, uint32_t x, uint32_t y,
+                 uint32_t z)
+{
+    struct ref_spi before[2];
+    struct outcome l, m;
+    struct call c;
+
+    if (length == LONGEST || made == wanted)
+        return;
+    c.kind = kind;
+    c.module = module;
+    c.other = other;
+    c.x = x;
+    c.y = y;
+    c.z = z;
+    sequence[length++] = c;
+    made++;
+    before[0] = now.model[module];
+    if (kind == LINKED)
+        before[1] = now.model[other];
+    if (!ask_both(&now, &c, &l, &m)) {
+        printf("call %lu of seed %lu: library and model differ\n  ", made,
+               seed);
+        print_call(&c);
+        printf("\n");
+        print_differences(&c, &l, &m);
+        tell(sequence, length, noise);
+        exit(1);
+    }
+    count(&c, &m, before, now.model);
+}
+
+static void power_up(int i) { make(POWER_UP, i, i, 0, 0, 0); }
+static void clear(int i) { make(CLEAR, i, i, 0, 0, 0); }
+static void clock_report(int i, uint32_t f) { make(CLOCK, i, i, f, 0, 0); }
+static void read_register(int i, uint32_t n) { make(READ, i, i, n, 0, 0); }
+
+static void write_register(int i, uint32_t n, uint32_t value)
+{
+    make(WRITE, i, i, n, value, 0);
+}
+
+static uint32_t any_level(void) { return some_level((int)below(2)); }
+static void tick(int i) { make(TICK, i, i, any_level(), 0, 0); }
+
+static void pins(int i, int sck, int ss)
+{
+    make(PINS, i, i, some_level(sck), any_level(), some_level(ss));
+}
+
+/* ---- random settings ------------------------------------------------- */
+
+/* CON1 of a role, in the modes MODE16, CKE and CKP; mostly one that can be
+ * enabled. */
+static uint32_t some_con1(enum role role, uint32_t modes)
+{
+    uint32_t c = modes;
+
+    c |= any_number() & (0xE000u | THURAFEQA_CON1_SPRE | THURAFEQA_CON1_PPRE);
+    switch (role) {
+    case OWN_CLOCK: c |= THURAFEQA_CON1_MSTEN; break;
+    case DISSCK_HOST: c |= THURAFEQA_CON1_MSTEN | THURAFEQA_CON1_DISSCK; break;
+    case SSEN_CLIENT: c |= THURAFEQA_CON1_SSEN; break;
+    default:
+        if (!one_in(8))
+            c &= ~THURAFEQA_CON1_CKE;
+        break;
+    }
+    if ((c & THURAFEQA_CON1_MSTEN) && one_in(4))
+        c |= THURAFEQA_CON1_SSEN; /* no effect on a host */
+    if (!(c & THURAFEQA_CON1_MSTEN) && one_in(8))
+        c |= THURAFEQA_CON1_DISSCK; /* no effect on a client */
+    if (one_in(8))
+        c |= THURAFEQA_CON1_DISSDO;
+    if (one_in(40))
+        c |= THURAFEQA_CON1_SMP;
+    return c;
+}
+
+static uint32_t some_modes(void)
+{
+    return any_number() &
+           (THURAFEQA_CON1_MODE16 | THURAFEQA_CON1_CKE | THURAFEQA_CON1_CKP);
+}
+
+static uint32_t some_con2(void)
+{
+    uint32_t c = any_number() & 0xFFFFu;
+
+    if (!one_in(40))
+        c &= ~THURAFEQA_CON2_FRMEN;
+    if (one_in(3))
+        c |= THURAFEQA_CON2_SPIBEN;
+    return c;
+}
+
+/* STAT with SPIEN 1 and anything else. */
+static uint32_t some_stat(void)
+{
+    return (any_number() & 0xFFFFu) | THURAFEQA_STAT_SPIEN;
+}
+
+static void set_up(int i, uint32_t con1)
+{
+    if (now.model[i].spien)
+        write_register(i, THURAFEQA_STAT,
+                       any_number() & 0xFFFFu & ~THURAFEQA_STAT_SPIEN);
+    write_register(i, THURAFEQA_CON1, con1);
+    write_register(i, THURAFEQA_CON2, some_con2());
+    write_register(i, THURAFEQA_STAT, some_stat());
+}
+
+static void set_up_alone(int i)
+{
+    set_up(i, some_con1((enum role)below(ROLES), some_modes()));
+}
+
+/* Partners that can be linked, but for a mode now and then. */
+static void set_up_partners(int i)
+{
+    uint32_t modes = some_modes();
+    uint32_t other = modes;
+    int host = i ^ (int)below(2);
+    enum role role = one_in(2) || (modes & THURAFEQA_CON1_CKE) ? SSEN_CLIENT
+                                                               : CLIENT;
+
+    if (one_in(12))
+        other ^= some_modes();
+    set_up(host, some_con1(OWN_CLOCK, modes));
+    set_up(host ^ 1, some_con1(role, other));
+}
+
+/* ---- random acts on an enabled module -------------------------------- */
+
+static uint32_t some_word(void)
+{
+    static const uint32_t word[] = {0, 0xFFFF, 0x8000, 0x0080, 0x0001, 0x5555};
+
+    return one_in(4) ? word[below(6)] : any_number();
+}
+
+static void write_words(int i)
+{
+    const struct ref_spi *m = &now.model[i];
+    int n = one_in(3) ? 10 : 1 + (int)below(3);
+
+    while (n-- > 0) {
+        write_register(i, THURAFEQA_BUF, some_word());
+        if (m->tx.n == (m->spiben ? 8 : 1) && !one_in(4))
+            return;
+    }
+}
+
+static void read_words(int i)
+{
+    int n = one_in(3) ? 9 : 1 + (int)below(3);
+
+    while (n-- > 0) {
+        read_register(i, THURAFEQA_BUF);
+        if (now.model[i].rx.n == 0 && !one_in(4))
+            return;
+    }
+}
+
+/* One edge, or a pin call much like one. An SSEN client is selected soon and
+ * deselected seldom. */
+static void give_edge(int i)
+{
+    const struct ref_spi *m = &now.model[i];
+    int sck = one_in(32) ? (int)below(2) : !m->sck;
+    int ss = (int)below(2);
+
+    if (role_of(m) == SSEN_CLIENT)
+        ss = m->ss ? one_in(8) : one_in(150);
+    if (role_of(m) == OWN_CLOCK)
+        tick(i);
+    else
+        pins(i, sck, ss);
+}
+
+static void give_edges(int i)
+{
+    const struct ref_spi *m = &now.model[i];
+    int word = word_edges(m);
+    int n;
+
+    if (m->msten && !m->loaded && one_in(2))
+        write_register(i, THURAFEQA_BUF, some_word());
+    switch (below(8)) {
+    case 0: case 1: n = 1 + (int)below(3); break;
+    case 2: n = (int)below((uint32_t)word); break;
+    case 3: n = word * (1 + (int)below(9)); break;
+    default: n = word - m->edges; break; /* to the end of the word */
+    }
+    while (n-- > 0) {
+        give_edge(i);
+        if (role_of(m) == OWN_CLOCK && !m->loaded && !one_in(4))
+            return;
+    }
+}
+
+static void change_select(int i)
+{
+    const struct ref_spi *m = &now.model[i];
+
+    pins(i, one_in(4) ? !m->sck : m->sck, !m->ss);
+}
+
+static uint32_t some_rate(const struct ref_spi *m)
+{
+    static const uint32_t rate[] = {0, 1, 7, 512, 40000000, 0xFFFFFFFFu};
+    static const uint32_t primary[4] = {64, 16, 4, 1};
+
+    if (one_in(3))
+        return rate[below(6)];
+    if (one_in(2))
+        return any_number();
+    return primary[m->ppre] * (8 - (uint32_t)m->spre) * below(1u << 22);
+}
+
+/* A linked run between partners, or between any two. */
+static void link_modules(int i)
+{
+    int host = role_of(&now.model[i]) == OWN_CLOCK ? i : i ^ 1;
+    int client = host ^ 1;
+
+    if (one_in(20)) {
+        host = (int)below(MODULES);
+        client = (host + 1 + (int)below(MODULES - 1)) % MODULES;
+    }
+    if (one_in(2))
+        write_words(host);
+    if (one_in(3))
+        write_words(client);
+    make(LINKED, host, client, some_limit(), 0, 0);
+}
+
+/* CON1 or CON2, with any value or with the one it has. */
+static void write_setting(int i)
+{
+    uint32_t n = 1 + below(2);
+    unsigned value = any_number();
+
+    if (one_in(2))
+        (void)ref_read(&now.model[i], n, &value);
+    write_register(i, n, value);
+}
+
+/* Any call, sensible or not. */
+static void do_anything(int i)
+{
+    switch (below(8)) {
+    case 0: clock_report(i, some_rate(&now.model[i])); break;
+    case 1: read_register(i, some_register()); break;
+    case 2: write_register(i, some_register(), any_number()); break;
+    case 3: tick(i); break;
+    case 4: pins(i, (int)below(2), (int)below(2)); break;
+    case 5: clear(i); break;
+    case 6: write_setting(i); break;
+    default: make(LINKED, i, i ^ 1, some_limit(), 0, 0); break;
+    }
+}
+
+/* What is done between writing, clocking and reading. */
+static void do_else(int i)
+{
+    switch (below(16)) {
+    case 0: case 1: clear(i); break;
+    case 2: case 3: case 4:
+        write_register(i, THURAFEQA_STAT, some_stat());
+        break;
+    case 5: link_modules(i); break;
+    case 6: case 7: clock_report(i, some_rate(&now.model[i])); break;
+    case 8: read_register(i, some_register()); break;
+    case 9: case 10: change_select(i); break;
+    case 11:
+        if (one_in(3))
+            write_register(i, THURAFEQA_STAT, any_number());
+        break;
+    case 12:
+        if (one_in(20))
+            power_up(i);
+        break;
+    default: do_anything(i); break;
+    }
+}
+
+/* How much of what is done is writing, clocking and reading, in parts of 100;
+ * the rest is anything else. */
+static const struct {
+    uint32_t writing, clocking, reading;
+} moods[] = {
+    {25, 40, 20}, /* a bit of each */
+    {60, 20, 3},  /* the transmit buffer fills */
+    {20, 65, 1},  /* the receive buffer fills and overflows */
+    {3, 75, 12},  /* too few words: fillers */
+    {4, 50, 36},  /* the receive buffer empties */
+};
+#define MOODS (sizeof moods / sizeof moods[0])
+
+static void act(int i, size_t mood)
+{
+    const struct ref_spi *m = &now.model[i];
+    uint32_t x = below(100);
+
+    if (!m->spien) {
+        if (one_in(3))
+            do_anything(i);
+        else
+            set_up_alone(i);
+        return;
+    }
+    if (x < moods[mood].writing)
+        write_words(i);
+    else if (x < moods[mood].writing + moods[mood].clocking)
+        give_edges(i);
+    else if (x < moods[mood].writing + moods[mood].clocking +
+                     moods[mood].reading)
+        read_words(i);
+    else
+        do_else(i);
+    if (m->flag && one_in(2))
+        clear(i);
+}
+
+/* A sequence of calls, from power-up of all modules on. */
+static void run_sequence(void)
+{
+    int linked = one_in(2);
+    int end = 500 + (int)below(LONGEST - 499);
+    int i;
+
+    length = 0;
+    noise = ((uint64_t)any_number() << 32 | any_number()) | 1;
+    power_up_all(&now, noise);
+    for (i = 0; i < MODULES; i++)
+        power_up(i);
+    while (length < end && made < wanted) {
+        int module = (int)below(MODULES);
+        int acts = 5 + (int)below(25);
+        size_t mood = below(MOODS);
+
+        if (linked && one_in(2))
+            set_up_partners(module);
+        else if (!one_in(4))
+            set_up_alone(module);
+        while (acts-- > 0) {
+            act(module, mood);
+            if (linked && one_in(3)) {
+                module ^= 1;
+                link_modules(module);
+            }
+        }
+    }
+}
+
+int main(int argc, char **argv)
+{
+    if (argc != 3) {
+        fprintf(stderr, "usage: compare CALLS SEED\n");
+        return 2;
+    }
+    wanted = strtoul(argv[1], 0, 10);
+    seed = strtoul(argv[2], 0, 10);
+    printf("seed %lu\n", seed);
+    start_numbers(seed);
+    while (made < wanted)
+        run_sequence();
+    print_reached();
+    if (not_reached > 0) {
+        printf("%lu calls, 0 differences, but %d cases were not reached\n",
+               made, not_reached);
+        return 1;
+    }
+    printf("%lu calls, 0 differences\n", made);
+    return 0;
+}

@@ -1,0 +1,515 @@
+/* A hostile caller: memory that no call has made, any arguments, all calls.
+ *
+ * usage: hostile CALLS SEED
+ *
+ * Every call is made twice, on two copies of the memory that lie differently,
+ * and this is held after it:
+ * - both copies gave the same answer and hold the same memory afterwards;
+ * - the numbers before and behind the memory are untouched. The page before or
+ *   the page behind cannot be touched at all, not even read;
+ * - the answer's shape is legal, and the refusal number is the one that the
+ *   table asks for, going by what the registers showed before the call;
+ * - what the registers and levels show is legal;
+ * - a call that is refused, or only looks, has no effect: the registers and
+ *   levels show the same as before, and a third copy that is spared all such
+ *   calls goes on giving the same answers;
+ * - the calls on constant memory leave it as it is, and work on memory that
+ *   cannot be written.
+ * Exit 0: all held. Exit 1: something did not, or a refusal was not reached.
+ * Exit 2: bad usage. */
+#define _DEFAULT_SOURCE
+#include "calls.h"
+
+#include <signal.h>
+#include <stdio.h>
+#include <stdlib.h>
+#include <string.h>
+#include <sys/mman.h>
+#include <unistd.h>
+
+static unsigned long seed, wanted, made;
+static struct call now; /* the call being made */
+
+static void fail(const char *what)
+{
+    printf("call %lu of seed %lu: %s\n  ", made, seed, what);
+    print_call(&now);
+    printf("\n");
+    exit(1);
+}
+
+static void hold(int held, const char *what)
+{
+    if (!held)
+        fail(what);
+}
+
+/* The library touched what it may not, or ran into a trap. */
+static void on_signal(int number)
+{
+    static const char said[] = "a call ended by a signal\n";
+
+    (void)number;
+    if (write(1, said, sizeof said - 1) < 0)
+        _exit(1);
+    fail("this is the call");
+}
+
+/* ---- memory between fences ------------------------------------------- */
+
+/* Large enough for every page size. */
+#define FENCE 65536u
+
+/* Numbers on either side of a module. */
+#define GUARDS 24u
+#define GUARD 0xA5C3u
+
+struct place {
+    uint16_t *area;         /* FENCE bytes; before and behind: no access */
+    size_t at;              /* where in it the module begins */
+    uint16_t *first, *last; /* the guards: first up to the module, and from */
+                            /* behind it up to last */
+    thurafeqa *m;
+};
+
+#define NUMBERS (sizeof(thurafeqa) / sizeof(uint16_t))
+#define AREA (FENCE / sizeof(uint16_t))
+
+static uint16_t *new_area(void)
+{
+    unsigned char *p = mmap(0, 4 * FENCE, PROT_NONE,
+                            MAP_PRIVATE | MAP_ANONYMOUS, -1, 0);
+    uintptr_t start;
+
+    if (p == MAP_FAILED) {
+        perror("mmap");
+        exit(1);
+    }
+    start = ((uintptr_t)p + 2 * FENCE - 1) / FENCE * FENCE;
+    p += start - (uintptr_t)p;
+    if (mprotect(p, FENCE, PROT_READ | PROT_WRITE) != 0) {
+        perror("mprotect");
+        exit(1);
+    }
+    return (uint16_t *)(void *)p;
+}
+
+/* Puts a module near one fence or the other, most often right beside it. */
+static void move(struct place *p)
+{
+    size_t gap = one_in(2) ? 0 : below(GUARDS);
+    uint16_t *g;
+
+    p->at = one_in(2) ? gap : AREA - NUMBERS - gap;
+    p->first = p->area + (p->at < GUARDS ? 0 : p->at - GUARDS);
+    p->last = p->area + (p->at + NUMBERS + GUARDS > AREA
+                             ? AREA
+                             : p->at + NUMBERS + GUARDS);
+    p->m = (thurafeqa *)(void *)(p->area + p->at);
+    for (g = p->first; g < p->last; g++)
+        *g = GUARD;
+}
+
+static int guarded(const struct place *p)
+{
+    const uint16_t *m = p->area + p->at;
+    const uint16_t *g;
+
+    for (g = p->first; g < m; g++) {
+        if (*g != GUARD)
+            return 0;
+    }
+    for (g = m + NUMBERS; g < p->last; g++) {
+        if (*g != GUARD)
+            return 0;
+    }
+    return 1;
+}
+
+/* ---- what the memory holds at first ---------------------------------- */
+
+/* An enabled module as calls make it, with some words under way. */
+static void make_real(thurafeqa *m, uint32_t con1)
+{
+    uint32_t n;
+
+    con1 &= ~(THURAFEQA_CON1_SMP | 1u); /* the primary prescaler is not 1:1 */
+    if (!(con1 & THURAFEQA_CON1_MSTEN) && (con1 & THURAFEQA_CON1_CKE))
+        con1 |= THURAFEQA_CON1_SSEN;
+    thurafeqa_power_up(m);
+    thurafeqa_write(m, THURAFEQA_CON1, con1);
+    thurafeqa_write(m, THURAFEQA_CON2, any_number() & ~THURAFEQA_CON2_FRMEN);
+    thurafeqa_write(m, THURAFEQA_STAT, any_number() | THURAFEQA_STAT_SPIEN);
+    for (n = below(10); n > 0; n--)
+        thurafeqa_write(m, THURAFEQA_BUF, any_number());
+    for (n = below(80); n > 0; n--) {
+        thurafeqa_tick(m, below(2));
+        thurafeqa_pins(m, n % 2, below(2), 0);
+    }
+}
+
+static uint16_t some_number(void)
+{
+    return (uint16_t)(one_in(2) ? any_number() : below(12));
+}
+
+/* Fills a module's memory; a real module gets this CON1. */
+static void fill(thurafeqa *m, uint32_t con1)
+{
+    uint32_t how = below(12);
+    uint32_t start = any_number(), step = any_number();
+    size_t i;
+
+    if (how >= 6) { /* a real one, with some numbers replaced */
+        make_real(m, con1);
+        for (i = one_in(2) ? below(3) : below(12); i > 0; i--)
+            m->memory[below(NUMBERS)] = some_number();
+        return;
+    }
+    for (i = 0; i < NUMBERS; i++) {
+        switch (how) {
+        case 0: m->memory[i] = (uint16_t)any_number(); break;
+        case 1: m->memory[i] = 0xFFFF; break;
+        case 2: m->memory[i] = (uint16_t)start; break;
+        case 3: m->memory[i] = (uint16_t)below(20); break;
+        case 4: m->memory[i] = (uint16_t)below(2); break;
+        default: m->memory[i] = (uint16_t)(start + i * step); break;
+        }
+    }
+}
+
+/* Fills two, of which the second would often make a client of the first. */
+static void fill_both(thurafeqa *m)
+{
+    uint32_t con1 = any_number();
+
+    fill(&m[0], con1);
+    if (!one_in(4))
+        con1 &= ~THURAFEQA_CON1_MSTEN;
+    fill(&m[1], con1);
+}
+
+/* ---- which refusal the table asks for -------------------------------- */
+
+static int enabled(const uint32_t *seen)
+{
+    return (seen[STAT] & THURAFEQA_STAT_SPIEN) != 0;
+}
+
+static int own_clock(const uint32_t *seen)
+{
+    return (seen[CON1] & (THURAFEQA_CON1_MSTEN | THURAFEQA_CON1_DISSCK)) ==
+           THURAFEQA_CON1_MSTEN;
+}
+
+static int receive_empty(const uint32_t *seen)
+{
+    if (seen[CON2] & THURAFEQA_CON2_SPIBEN)
+        return (seen[STAT] & THURAFEQA_STAT_SRXMPT) != 0;
+    return (seen[STAT] & THURAFEQA_STAT_SPIRBF) == 0;
+}
+
+static int undivided(const uint32_t *seen)
+{
+    return own_clock(seen) &&
+           (~seen[CON1] & (THURAFEQA_CON1_SPRE | THURAFEQA_CON1_PPRE)) == 0;
+}
+
+static int bad_settings(const uint32_t *seen)
+{
+    return (seen[CON2] & THURAFEQA_CON2_FRMEN) ||
+           (seen[CON1] & THURAFEQA_CON1_SMP) ||
+           (seen[CON1] & (THURAFEQA_CON1_MSTEN | THURAFEQA_CON1_CKE |
+                          THURAFEQA_CON1_SSEN)) == THURAFEQA_CON1_CKE;
+}
+
+static uint32_t register_refusal(const struct call *c, const uint32_t *seen)
+{
+    if (c->x > THURAFEQA_BUF)
+        return THURAFEQA_NO_SUCH_REGISTER;
+    if (c->x == THURAFEQA_BUF && !enabled(seen))
+        return THURAFEQA_DISABLED;
+    if (c->kind == READ)
+        return c->x == THURAFEQA_BUF && receive_empty(seen)
+                   ? THURAFEQA_RECEIVE_EMPTY
+                   : 0;
+    if (c->x == THURAFEQA_BUF)
+        return seen[STAT] & THURAFEQA_STAT_SPITBF ? THURAFEQA_TRANSMIT_FULL : 0;
+    if (c->x != THURAFEQA_STAT)
+        return enabled(seen) ? THURAFEQA_ENABLED : 0;
+    return !enabled(seen) && (c->y & THURAFEQA_STAT_SPIEN) && bad_settings(seen)
+               ? THURAFEQA_BAD_SETTINGS
+               : 0;
+}
+
+static uint32_t linked_refusal(const struct call *c, const uint32_t *host,
+                               const uint32_t *client)
+{
+    if (c->x > 288)
+        return THURAFEQA_TOO_MANY_EDGES;
+    if (!enabled(host) || !enabled(client))
+        return THURAFEQA_DISABLED;
+    if (!own_clock(host) || (client[CON1] & THURAFEQA_CON1_MSTEN))
+        return THURAFEQA_WRONG_CLOCK;
+    if ((host[CON1] ^ client[CON1]) &
+        (THURAFEQA_CON1_MODE16 | THURAFEQA_CON1_CKE | THURAFEQA_CON1_CKP))
+        return THURAFEQA_DIFFERENT_MODES;
+    return 0;
+}
+
+static uint32_t table_refusal(const struct call *c,
+                              uint32_t seen[2][VIEWS])
+{
+    switch (c->kind) {
+    case READ:
+    case WRITE: return register_refusal(c, seen[0]);
+    case TICK:
+    case PINS:
+        if (!enabled(seen[0]))
+            return THURAFEQA_DISABLED;
+        return own_clock(seen[0]) == (c->kind == TICK) ? 0
+                                                       : THURAFEQA_WRONG_CLOCK;
+    case LINKED: return linked_refusal(c, seen[0], seen[1]);
+    case CLOCK: return c->x == 0 ? THURAFEQA_NO_RATE : 0;
+    default: return 0;
+    }
+}
+
+/* Memory made otherwise may hold prescaler numbers of which the register shows
+ * only some bits, so that one case of refusal 4 cannot be told from outside. */
+static int may_refuse(const struct call *c, uint32_t seen[2][VIEWS])
+{
+    return c->kind == WRITE && c->x == THURAFEQA_STAT && !enabled(seen[0]) &&
+           (c->y & THURAFEQA_STAT_SPIEN) && undivided(seen[0]);
+}
+
+/* ---- legal shapes ---------------------------------------------------- */
+
+static void hold_views(const uint32_t *seen)
+{
+    hold((seen[STAT] & ~0xA7FFu) == 0, "STAT shows bits that it has not");
+    hold((seen[CON1] & ~0x1FFFu) == 0, "CON1 shows bits that it has not");
+    hold((seen[CON2] & ~0xE003u) == 0, "CON2 shows bits that it has not");
+    hold((seen[LEVELS] & ~15u) == 0, "levels show bits that they have not");
+    hold((seen[LEVELS] & THURAFEQA_LEVELS_DRIVEN) ||
+             !(seen[LEVELS] & THURAFEQA_LEVELS_SDO),
+         "an undriven SDO has a level");
+    hold(enabled(seen) || !(seen[LEVELS] & THURAFEQA_LEVELS_DRIVEN),
+         "SDO is driven by a disabled module");
+}
+
+static void hold_report(const struct call *c, const thurafeqa_clock_report *r,
+                        const uint32_t *seen)
+{
+    uint32_t kind = THURAFEQA_CLOCK_NONE;
+
+    if (r->number == 0 && enabled(seen))
+        kind = own_clock(seen) ? THURAFEQA_CLOCK_INTERNAL
+                               : THURAFEQA_CLOCK_EXTERNAL;
+    hold(r->kind == kind, "a clock report of the wrong kind");
+    if (kind == THURAFEQA_CLOCK_INTERNAL)
+        hold(r->rate > 0 && r->rate <= c->x && r->bittime > 0 &&
+                 r->bittime <= 512,
+             "an internal clock that cannot be");
+    else
+        hold(r->rate == 0 && r->bittime == 0,
+             "a clock report carries a rate or a bit time");
+    hold(r->below == (kind == THURAFEQA_CLOCK_EXTERNAL ? (double)c->x : 0),
+         "a clock report carries the wrong bound");
+}
+
+static void hold_answer(const struct call *c, const struct outcome *o,
+                        uint32_t seen[2][VIEWS])
+{
+    uint32_t number = refusal_of(c, o);
+    uint16_t value = thurafeqa_value(o->answer);
+
+    hold(number == table_refusal(c, seen) ||
+             (number == THURAFEQA_BAD_SETTINGS && may_refuse(c, seen)),
+         "not the refusal that the table asks for");
+    if (c->kind == CLOCK)
+        hold_report(c, &o->report, seen[0]);
+    if (number != 0)
+        hold(value == 0, "a refused call tells a value");
+    else if (c->kind == TICK)
+        hold(value <= 1, "a tick made more than one edge");
+    else if (c->kind == LINKED)
+        hold(value <= c->x, "a linked run made more edges than its limit");
+    else if (c->kind != READ)
+        hold(value == 0, "a call that tells nothing tells a value");
+}
+
+/* ---- calls on two copies --------------------------------------------- */
+
+/* Two copies of the module and of the other one, and the third. */
+static struct place copies[2][2];
+static thurafeqa third[2];
+
+/* What the first copies showed after the call before. */
+static uint32_t seen[2][VIEWS];
+
+static unsigned long refused[12], done[KINDS];
+
+static void see_both(uint32_t shown[2][VIEWS])
+{
+    int i;
+
+    for (i = 0; i < 2; i++) {
+        thurafeqa copy = *copies[0][i].m;
+        see_library(&copy, shown[i]);
+    }
+}
+
+static void hold_copies(void)
+{
+    int i;
+
+    for (i = 0; i < 2; i++) {
+        hold(memcmp(copies[0][i].m, copies[1][i].m, sizeof(thurafeqa)) == 0,
+             "the same call left two copies different");
+        hold(guarded(&copies[0][i]) && guarded(&copies[1][i]),
+             "a number beside the memory was changed");
+    }
+}
+
+/* Does a call that was answered like this leave its modules as they were? */
+static int no_effect(const struct call *c, const struct outcome *o)
+{
+    if (refusal_of(c, o) != 0 || c->kind == CLOCK)
+        return 1;
+    if (c->kind == READ)
+        return c->x != THURAFEQA_BUF;
+    return c->kind == TICK && thurafeqa_value(o->answer) == 0;
+}
+
+/* Makes the call `now` on both copies, and on the third if it has an effect. */
+static void make(void)
+{
+    thurafeqa before[2];
+    uint32_t after[2][VIEWS];
+    struct outcome o[3];
+    int i, spared;
+
+    made++;
+    for (i = 0; i < 2; i++) {
+        before[i] = *copies[0][i].m;
+        ask_library(copies[i][0].m, copies[i][1].m, &now, &o[i]);
+    }
+    hold(same_answer(&now, &o[0], &o[1]), "two copies were answered otherwise");
+    hold_copies();
+    hold_answer(&now, &o[0], seen);
+    spared = no_effect(&now, &o[0]);
+    if (!spared) {
+        ask_library(&third[0], &third[1], &now, &o[2]);
+        hold(same_answer(&now, &o[0], &o[2]),
+             "a call before this one had an effect that it should not have");
+    }
+    see_both(after);
+    for (i = 0; i < 2; i++) {
+        hold_views(after[i]);
+        if (spared)
+            hold(memcmp(seen[i], after[i], sizeof seen[i]) == 0,
+                 "what is shown changed, and should not have");
+        if (now.kind == CLOCK || i >= concerned(&now))
+            hold(memcmp(&before[i], copies[0][i].m, sizeof before[i]) == 0,
+                 "memory changed, and should not have");
+    }
+    memcpy(seen, after, sizeof seen);
+    if (refusal_of(&now, &o[0]) == 0)
+        done[now.kind]++;
+    else
+        refused[refusal_of(&now, &o[0])]++;
+}
+
+static uint32_t some_argument(void)
+{
+    return one_in(2) ? below(4) : any_number();
+}
+
+static void choose(void)
+{
+    now.kind = one_in(50) ? POWER_UP : (enum kind)(READ + below(KINDS - READ));
+    now.module = 0;
+    now.other = 1;
+    now.x = some_argument();
+    now.y = some_argument();
+    now.z = some_argument();
+    if (now.kind == READ || now.kind == WRITE)
+        now.x = some_register();
+    if (now.kind == WRITE && one_in(2))
+        now.y = any_number();
+    if (now.kind == LINKED)
+        now.x = some_limit();
+}
+
+/* The two calls on constant memory, on memory that cannot be written. */
+static void read_only(const struct place *p)
+{
+    struct outcome o;
+
+    if (mprotect(p->area, FENCE, PROT_READ) != 0)
+        fail("mprotect");
+    (void)thurafeqa_levels(p->m);
+    now.kind = CLOCK;
+    now.x = any_number();
+    ask_library(p->m, 0, &now, &o);
+    if (mprotect(p->area, FENCE, PROT_READ | PROT_WRITE) != 0)
+        fail("mprotect");
+}
+
+/* New memory, and some calls on it. */
+static void run_memory(void)
+{
+    uint32_t n = 1 + below(30);
+    int i;
+
+    for (i = 0; i < 4; i++)
+        move(&copies[i / 2][i % 2]);
+    fill_both(third);
+    for (i = 0; i < 2; i++)
+        *copies[0][i].m = *copies[1][i].m = third[i];
+    if (one_in(100))
+        read_only(&copies[0][0]);
+    see_both(seen);
+    while (n-- > 0 && made < wanted) {
+        choose();
+        make();
+    }
+}
+
+int main(int argc, char **argv)
+{
+    int missing = 0;
+    int i;
+
+    if (argc != 3) {
+        fprintf(stderr, "usage: hostile CALLS SEED\n");
+        return 2;
+    }
+    wanted = strtoul(argv[1], 0, 10);
+    seed = strtoul(argv[2], 0, 10);
+    signal(SIGSEGV, on_signal);
+    signal(SIGBUS, on_signal);
+    signal(SIGILL, on_signal);
+    printf("a hostile caller, seed %lu\n", seed);
+    start_numbers(seed);
+    for (i = 0; i < 4; i++)
+        copies[i / 2][i % 2].area = new_area();
+    while (made < wanted)
+        run_memory();
+    printf("done:");
+    for (i = 0; i < KINDS; i++) {
+        printf(" %s %lu", kind_name[i], done[i]);
+        missing += done[i] == 0;
+    }
+    printf("\nrefused:");
+    for (i = 1; i <= 11; i++) {
+        if (i == (int)THURAFEQA_UNREADABLE_LINE)
+            continue;
+        printf(" %d: %lu", i, refused[i]);
+        missing += refused[i] == 0;
+    }
+    printf("\n%lu hostile calls, each made twice, all held%s\n", made,
+           missing ? ", but not every case was reached" : "");
+    return missing != 0;
+}

@@ -1,0 +1,59 @@
+/* The header's layout and its names for bits, as document 01 places them. It
+ * is only compiled. */
+#include "thurafeqa.h"
+
+#include <stddef.h>
+
+#define HOLDS(what) _Static_assert(what, #what)
+
+/* Bits high to low of a register, as a mask. */
+#define BITS(high, low) ((2u << (high)) - (1u << (low)))
+#define BIT(n) BITS(n, n)
+
+HOLDS(sizeof(thurafeqa) == 96 * 2);
+HOLDS(_Alignof(thurafeqa) == 2);
+HOLDS(offsetof(thurafeqa, memory) == 0);
+
+HOLDS(sizeof(thurafeqa_clock_report) == 32);
+HOLDS(_Alignof(thurafeqa_clock_report) == 8);
+HOLDS(offsetof(thurafeqa_clock_report, number) == 0);
+HOLDS(offsetof(thurafeqa_clock_report, kind) == 4);
+HOLDS(offsetof(thurafeqa_clock_report, rate) == 8);
+HOLDS(offsetof(thurafeqa_clock_report, bittime) == 16);
+HOLDS(offsetof(thurafeqa_clock_report, below) == 24);
+
+HOLDS(THURAFEQA_STAT == 0);
+HOLDS(THURAFEQA_STAT_SPIEN == BIT(15));
+HOLDS(THURAFEQA_STAT_SPISIDL == BIT(13));
+HOLDS(THURAFEQA_STAT_SPIBEC == BITS(10, 8));
+HOLDS(THURAFEQA_STAT_SPIBEC_SHIFT == 8);
+HOLDS(THURAFEQA_STAT_SRMPT == BIT(7));
+HOLDS(THURAFEQA_STAT_SPIROV == BIT(6));
+HOLDS(THURAFEQA_STAT_SRXMPT == BIT(5));
+HOLDS(THURAFEQA_STAT_SISEL == BITS(4, 2));
+HOLDS(THURAFEQA_STAT_SISEL_SHIFT == 2);
+HOLDS(THURAFEQA_STAT_SPITBF == BIT(1));
+HOLDS(THURAFEQA_STAT_SPIRBF == BIT(0));
+
+HOLDS(THURAFEQA_CON1 == 1);
+HOLDS(THURAFEQA_CON1_DISSCK == BIT(12));
+HOLDS(THURAFEQA_CON1_DISSDO == BIT(11));
+HOLDS(THURAFEQA_CON1_MODE16 == BIT(10));
+HOLDS(THURAFEQA_CON1_SMP == BIT(9));
+HOLDS(THURAFEQA_CON1_CKE == BIT(8));
+HOLDS(THURAFEQA_CON1_SSEN == BIT(7));
+HOLDS(THURAFEQA_CON1_CKP == BIT(6));
+HOLDS(THURAFEQA_CON1_MSTEN == BIT(5));
+HOLDS(THURAFEQA_CON1_SPRE == BITS(4, 2));
+HOLDS(THURAFEQA_CON1_SPRE_SHIFT == 2);
+HOLDS(THURAFEQA_CON1_PPRE == BITS(1, 0));
+HOLDS(THURAFEQA_CON1_PPRE_SHIFT == 0);
+
+HOLDS(THURAFEQA_CON2 == 2);
+HOLDS(THURAFEQA_CON2_FRMEN == BIT(15));
+HOLDS(THURAFEQA_CON2_SPIFSD == BIT(14));
+HOLDS(THURAFEQA_CON2_FRMPOL == BIT(13));
+HOLDS(THURAFEQA_CON2_FRMDLY == BIT(1));
+HOLDS(THURAFEQA_CON2_SPIBEN == BIT(0));
+
+HOLDS(THURAFEQA_BUF == 3);
