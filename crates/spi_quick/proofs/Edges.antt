@@ -6,7 +6,7 @@
 --                   the word that is under way at an edge
 --     host-selected, tick-changes
 --                   a tick is an edge of a module that is not deselected
---     short-tick, short-pins, short-left, short-stayed
+--     short-tick, short-pins, short-left, short-stayed, yes, no-edge
 --                   the short way for a call did what its definition says, or nothing
 -- Assumes nothing.
 use Prim.Native.Nat.{ℕ, _+_, _<_}
@@ -36,7 +36,7 @@ use Rattle.spi_rules.specs.Select.{selectRemembered, deselected, selectSeen}
 use Rattle.spi_rules.specs.Edge.{wordEdges, fresh, begun, shifted, advanced, advancedIfBegun, underWay, clocked, edged, stepped}
 use Rattle.spi_rules.proofs.Keeps.{if-true, if-false}
 use Rattle.spi_memory.specs.Memory.{shiftIn, moduleIn, withShift, goneOn, levelsNow, withSelect}
-use Rattle.spi_quick.specs.Within.{steppedModule, Quick, Short, Gone, UnderWay}
+use Rattle.spi_quick.specs.Within.{steppedModule, Quick, Short, Gone, PinEdge, UnderWay}
 
 and-first : (a b : Bool) → a ≡ false → (a && b) ≡ false
 and-first true b e = sym (absurd (true≢false e))
@@ -251,14 +251,22 @@ module _ {w after : List ℕ} {did : Bool} {s : Settings} (known : s ≡ moduleI
         left = q .left;
       }
 
-  pub short-pins : {sck sdi ss : Bool} → ownClock s ≡ false → Quick did w sck sdi ss after →
-      Short did w after (pinsOf (moduleIn w) sck sdi ss) Done
-  unfolding answering steppedModule
-  short-pins {sck} {sdi} {ss} f q =
-      let o =
-      pinned (moduleIn w) sck sdi ss (ap (λ (x : Settings). not (x .spien)) (sym known) ∙ enabled)
-      (ap (λ (x : Settings). ownClock x) (sym known) ∙ f) in
-      record {
-        done = λ t. (q .done t ∙ sym (ap (λ (x : Outcome). x .after) o), ap (λ (x : Outcome). x .answer) o);
-        left = q .left;
-      }
+pub short-pins : {did : Bool} {s : Settings} {w after : List ℕ} {sck sdi ss : Bool} → PinEdge s w sck ss →
+    Quick did w sck sdi ss after → Short did w after (pinsOf (moduleIn w) sck sdi ss) Done
+unfolding answering steppedModule
+short-pins {did} {s} {w} {after} {sck} {sdi} {ss} e q =
+    let o =
+    pinned (moduleIn w) sck sdi ss (ap (λ (x : Settings). not (x .spien)) (sym (e .settings)) ∙ e .enabled)
+    (ap (λ (x : Settings). ownClock x) (sym (e .settings)) ∙ e .clocked) in
+    record {
+      done = λ t. (q .done t ∙ sym (ap (λ (x : Outcome). x .after) o), ap (λ (x : Outcome). x .answer) o);
+      left = q .left;
+    }
+
+pub yes : (b : Bool) → not b ≡ false → b ≡ true
+yes true e = refl
+yes false e = sym e
+
+-- No edge that counts, so nothing is said of it.
+pub no-edge : {s : Settings} {w : List ℕ} {sck ss : Bool} → false ≡ true → PinEdge s w sck ss
+no-edge e = absurd (true≢false (sym e))

@@ -18,7 +18,7 @@ use Rattle.spi_rules.specs.declared.Module.{Module}
 use Rattle.spi_rules.specs.declared.Outcome.{Outcome}
 use Rattle.spi_rules.specs.declared.Answer.the-variants.{Value, Done}
 use Rattle.spi_rules.specs.Choice.{if_then_else_}
-use Rattle.spi_rules.specs.Settings.{depthOf}
+use Rattle.spi_rules.specs.Settings.{depthOf, ssenClient}
 use Rattle.spi_rules.specs.Registers.{isFree, lowBits, spitbf}
 use Rattle.spi_rules.specs.Buffers.{firstUnread, taken, written}
 use Rattle.spi_rules.specs.Interrupts.{raises, noted}
@@ -41,16 +41,17 @@ unfolding readBuf answering wordTaken noted withInterrupt withReceive
 read-taken m e f = if-false _ _ _ e ∙ if-false _ _ _ f
 
 -- What a BUF write behind other words comes to.
-first-false : (a b : Bool) → a ≡ false → (a && b) ≡ false
-first-false true b e = absurd (true≢false e)
-first-false false b e = refl
+still-false : (a b c : Bool) → (a && b) ≡ false → (a && (b && c)) ≡ false
+still-false true true c e = absurd (true≢false e)
+still-false true false c e = refl
+still-false false b c e = refl
 
 module _ (s : Settings) where
   rests : (n : Engine) → (s .con1 .cke && not (isBegun (n .shift))) ≡ false → rested s n ≡ n
   unfolding rested sdoAt
   rests n h = ap (λ (level : Bool). sdoAt level n) (if-false (s .con1 .cke && not (isBegun (n .shift))) _ _ h)
 
-  queued : (word : ℕ) (n : Engine) → isFree (n .shift) ≡ false → (s .con1 .cke && not (isBegun (n .shift))) ≡ false →
+  queued : (word : ℕ) (n : Engine) → (isFree (n .shift) && not (ssenClient s)) ≡ false → (s .con1 .cke && not (isBegun (n .shift))) ≡ false →
       wordWritten s word n
       ≡ record {
         transmit = written (depthOf s) word (n .transmit);
@@ -63,11 +64,11 @@ module _ (s : Settings) where
   unfolding wordWritten loaded canLoad noted
   queued word n g h =
       ap (λ (x : Engine). rested s (noted s (Written (x .transmit .count)) x))
-      (if-false (isFree (n .shift) && _) _ _ (first-false (isFree (n .shift)) _ g))
+      (if-false (isFree (n .shift) && (not (ssenClient s) && _)) _ _ (still-false (isFree (n .shift)) (not (ssenClient s)) _ g))
       ∙ rests _ h
 
 write-queued : (m : Module) (v : ℕ) → not (m .settings .spien) ≡ false → spitbf m ≡ false →
-    isFree (m .engine .shift) ≡ false → (m .settings .con1 .cke && not (isBegun (m .engine .shift))) ≡ false →
+    (isFree (m .engine .shift) && not (ssenClient (m .settings))) ≡ false → (m .settings .con1 .cke && not (isBegun (m .engine .shift))) ≡ false →
     writeBuf m v
     ≡ record {
       answer = Done;
@@ -100,19 +101,19 @@ module _ {w after : List ℕ} {s : Settings} {flag raised : Bool} {mid : Module}
         left = λ x. absurd (true≢false x);
       }
 
-  pub queued-short : (v : ℕ) {t to : Transmit} {d word : ℕ} {x : Shift} {free begun : Bool} → t ≡ moduleIn w .engine .transmit →
-      d ≡ depthOf s → t .count < d → x ≡ moduleIn w .engine .shift → free ≡ isFree x → free ≡ false → begun ≡ isBegun x →
+  pub queued-short : (v : ℕ) {t to : Transmit} {d word : ℕ} {x : Shift} {free ssen begun : Bool} → t ≡ moduleIn w .engine .transmit →
+      d ≡ depthOf s → t .count < d → x ≡ moduleIn w .engine .shift → free ≡ isFree x → ssen ≡ ssenClient s → (free && not ssen) ≡ false → begun ≡ isBegun x →
       (s .con1 .cke && not begun) ≡ false → word ≡ lowBits s v → to ≡ written d word t → raised ≡ raises s (Written (to .count)) →
       mid ≡ withTransmit to (moduleIn w) → moduleIn after ≡ withInterrupt (flag || raised) mid →
       Short true w after (writeBuf (moduleIn w) v) Done
   unfolding spitbf
-  queued-short v {t} {to} {d} {word} {x} a c n y z z' b b' l g h i j =
+  queued-short v {t} {to} {d} {word} {x} a c n y z q z' b b' l g h i j =
       let o =
-      write-queued (moduleIn w) v (ap (λ (q : Settings). not (q .spien)) (sym known) ∙ enabled)
+      write-queued (moduleIn w) v (ap (λ (k : Settings). not (k .spien)) (sym known) ∙ enabled)
       (cc (known, a, c, lt-leb d (t .count) n))
-      (cc (y, z, z'))
+      (cc (known, y, z, q, z'))
       (cc (known, y, b, b')) in
       record {
-        done = λ _. (cc (j, i, stood, h, g, l, c, known, a, ap (λ (q : Outcome). q .after) o), ap (λ (q : Outcome). q .answer) o);
-        left = λ q. absurd (true≢false q);
+        done = λ _. (cc (j, i, stood, h, g, l, c, known, a, ap (λ (k : Outcome). k .after) o), ap (λ (k : Outcome). k .answer) o);
+        left = λ k. absurd (true≢false k);
       }

@@ -1,6 +1,6 @@
 -- Short ways: a call on a module in memory that moves only the numbers that the call changes.
 use Prim.Native.Nat.{ℕ, _+_, _<_}
-use mathlib.Core.Bool.{Bool, true, false, Bool·beq}
+use mathlib.Core.Bool.{Bool, true, false, not, Bool·beq}
 use mathlib.Core.List.{List}
 use mathlib.Core.Path.{_≡_}
 use Rattle.spi_rules.specs.declared.Settings.{Settings}
@@ -9,6 +9,7 @@ use Rattle.spi_rules.specs.declared.Shift.the-variants.{Begun}
 use Rattle.spi_rules.specs.declared.Module.{Module}
 use Rattle.spi_rules.specs.declared.Answer.{Answer}
 use Rattle.spi_rules.specs.declared.Outcome.{Outcome}
+use Rattle.spi_rules.specs.Settings.{ownClock}
 use Rattle.spi_rules.specs.Select.{deselected}
 use Rattle.spi_rules.specs.Bits.{sdoAfter, progressed}
 use Rattle.spi_rules.specs.Edge.{wordEdges, underWay, stepped}
@@ -30,6 +31,14 @@ pub record Quick (did : Bool) (before : List ℕ) (sck sdi ss : Bool) (after : L
 pub record Short (did : Bool) (before after : List ℕ) (outcome : Outcome) (answer : Answer) : Type 0 where
   pub done : did ≡ true → (moduleIn after ≡ outcome .after) × (outcome .answer ≡ answer)
   pub left : did ≡ false → after ≡ before
+
+-- A pin call that is an edge that counts.
+pub record PinEdge (s : Settings) (w : List ℕ) (sck ss : Bool) : Type 0 where
+  pub settings : s ≡ moduleIn w .settings
+  pub enabled : not (s .spien) ≡ false
+  pub clocked : ownClock s ≡ false
+  pub selected : deselected s ss ≡ false
+  pub edge : Bool·beq sck (moduleIn w .engine .pins .sck) ≡ false
 
 -- What is known of a word under way at an edge: the settings are those in memory, the level of SCK changes, the module is
 -- not deselected, and this word is begun, or begins here.

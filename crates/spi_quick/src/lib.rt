@@ -5,12 +5,13 @@ use spi_rules::Pins;
 use spi_rules::Progress;
 use spi_rules::Settings;
 use spi_rules::Shift;
+ghost use mathlib.Core.Bool.{true};
 ghost use mathlib.Core.Path.{_≡_};
 ghost use Rattle.spi_rules.specs.declared.Shift.the-variants.{Begun};
 ghost use Rattle.spi_rules.specs.declared.Answer.the-variants.{Edge, Done, Value};
 ghost use Rattle.spi_rules.specs.Calls.{readBuf, writeBuf, tickOf, pinsOf};
-ghost use Rattle.spi_memory.specs.Memory.{shiftIn, moduleIn};
-ghost use Rattle.spi_quick.specs.Within.{Quick, Short, Gone, UnderWay};
+ghost use Rattle.spi_memory.specs.Memory.{settingsIn, shiftIn, moduleIn};
+ghost use Rattle.spi_quick.specs.Within.{Quick, Short, Gone, PinEdge, UnderWay};
 
 // The first edge of the word `p`.
 fn begin_word(w: &mut [u16; 96], s: Settings, p: Progress, sck: bool, sdi: bool, ss: bool) -> bool
@@ -84,11 +85,12 @@ pub fn tick_within(w: &mut [u16; 96], sdi: bool) -> bool
     }
 }
 
-// A pin call that begins a word, or falls within one.
-pub fn pins_within(w: &mut [u16; 96], sck: bool, sdi: bool, ss: bool) -> bool
-    ensures { λ r. ⌜ Short r (now (w .entry)) (now (w .exit)) (pinsOf (moduleIn (now (w .entry))) sck sdi ss) Done ⌝ }
+// Whether a pin call is an edge that counts: the module is enabled, clocked from its pin and not deselected, and the level of
+// SCK changes.
+fn is_pin_edge(w: &[u16; 96], s: Settings, sck: bool, ss: bool) -> bool
+    requires { ⌜ s ≡ settingsIn (now w) ⌝ }
+    ensures { λ r. ⌜ (r ≡ true → PinEdge s (now (w .entry)) sck ss) ⌝ }
 {
-    let s = spi_memory::settings_in(w);
     if !s.spien {
         return false;
     }
@@ -100,6 +102,39 @@ pub fn pins_within(w: &mut [u16; 96], sck: bool, sdi: bool, ss: bool) -> bool
     }
     let pins = spi_memory::pins_in(w);
     if sck == pins.sck {
+        return false;
+    }
+    true
+}
+
+// A pin call that falls within a begun word.
+pub fn pins_within(w: &mut [u16; 96], sck: bool, sdi: bool, ss: bool) -> bool
+    ensures { λ r. ⌜ Short r (now (w .entry)) (now (w .exit)) (pinsOf (moduleIn (now (w .entry))) sck sdi ss) Done ⌝ }
+{
+    let s = spi_memory::settings_in(w);
+    if !is_pin_edge(w, s, sck, ss) {
+        return false;
+    }
+    let shift = spi_memory::shift_in(w);
+    match shift {
+        Shift::Begun(p) => {
+            if go_on(w, s, p, sck, sdi) {
+                spi_memory::store_select(w, ss);
+                return true;
+            }
+            false
+        }
+        Shift::Free => false,
+        Shift::Loaded(_) => false,
+    }
+}
+
+// A pin call that begins a word: a loaded one, the first that waits in an SSEN client, or a client's filler.
+pub fn pins_begin(w: &mut [u16; 96], sck: bool, sdi: bool, ss: bool) -> bool
+    ensures { λ r. ⌜ Short r (now (w .entry)) (now (w .exit)) (pinsOf (moduleIn (now (w .entry))) sck sdi ss) Done ⌝ }
+{
+    let s = spi_memory::settings_in(w);
+    if !is_pin_edge(w, s, sck, ss) {
         return false;
     }
     let shift = spi_memory::shift_in(w);
@@ -126,13 +161,7 @@ pub fn pins_within(w: &mut [u16; 96], sck: bool, sdi: bool, ss: bool) -> bool
             let p = spi_edges::fresh_word(false, word);
             begin_word(w, s, p, sck, sdi, ss)
         }
-        Shift::Begun(p) => {
-            if go_on(w, s, p, sck, sdi) {
-                spi_memory::store_select(w, ss);
-                return true;
-            }
-            false
-        }
+        Shift::Begun(_) => false,
     }
 }
 
@@ -172,7 +201,8 @@ pub fn take_unread(w: &mut [u16; 96]) -> Took
     }
 }
 
-// A BUF write that finds room and a busy shift register, so that its word only waits, and SDO does not follow it.
+// A BUF write that finds room, and a busy shift register or an SSEN client, so that its word only waits; and SDO does not
+// follow it.
 pub fn queue_word(w: &mut [u16; 96], v: u16) -> bool
     ensures { λ r. ⌜ Short r (now (w .entry)) (now (w .exit)) (writeBuf (moduleIn (now (w .entry))) v) Done ⌝ }
 {
@@ -186,7 +216,7 @@ pub fn queue_word(w: &mut [u16; 96], v: u16) -> bool
         return false;
     }
     let shift = spi_memory::shift_in(w);
-    if spi_buffers::is_free(shift) {
+    if spi_buffers::is_free(shift) & !spi_settings::ssen_client(s) {
         return false;
     }
     if s.con1.cke & !spi_buffers::is_begun(shift) {

@@ -120,16 +120,31 @@ pub extern "C" fn thurafeqa_tick(w: &mut [u16; 96], sdi: u32) -> u32
     whole_call(w, 2, sdi, 0, 0)
 }
 
+// A pin call that is not within a word: one that begins a word goes the short way, any other the long way.
+fn other_pins(w: &mut [u16; 96], sck: u32, sdi: u32, ss: u32) -> u32
+    ensures { λ r. ⌜ moduleIn (now (w .exit)) ≡ pinsOf (moduleIn (now (w .entry))) (levelIn sck) (levelIn sdi) (levelIn ss) .after ⌝ }
+    ensures { λ r. ⌜ r ≡ answerNumber (pinsOf (moduleIn (now (w .entry))) (levelIn sck) (levelIn sdi) (levelIn ss) .answer) ⌝ }
+{
+    if spi_quick::pins_begin(w, sck != 0, sdi != 0, ss != 0) {
+        return 0;
+    }
+    whole_call(w, 3, sck, sdi, ss)
+}
+
 // The levels SCK, SDI and SS are shown to a module that is clocked from its pin. An edge within a word goes the short way.
 #[no_mangle]
 pub extern "C" fn thurafeqa_pins(w: &mut [u16; 96], sck: u32, sdi: u32, ss: u32) -> u32
     ensures { λ r. ⌜ moduleIn (now (w .exit)) ≡ pinsOf (moduleIn (now (w .entry))) (levelIn sck) (levelIn sdi) (levelIn ss) .after ⌝ }
     ensures { λ r. ⌜ r ≡ answerNumber (pinsOf (moduleIn (now (w .entry))) (levelIn sck) (levelIn sdi) (levelIn ss) .answer) ⌝ }
 {
+    let s = spi_memory::settings_in(w);
+    if !s.spien {
+        return other_pins(w, sck, sdi, ss);
+    }
     if spi_quick::pins_within(w, sck != 0, sdi != 0, ss != 0) {
         return 0;
     }
-    whole_call(w, 3, sck, sdi, ss)
+    other_pins(w, sck, sdi, ss)
 }
 
 // Clears the interrupt flag.

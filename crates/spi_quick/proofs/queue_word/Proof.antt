@@ -1,6 +1,6 @@
 -- Where a word only waits, what is stored is what the rules say.
 use borrow.Author.Needs.{needs}
-use Rattle.spi_memory.specs.Memory.{bitIn, engineIn, moduleIn}
+use Rattle.spi_memory.specs.Memory.{engineIn, moduleIn}
 use Rattle.spi_quick.proofs.Edges.{short-left}
 use Rattle.spi_quick.proofs.Words.{queued-short}
 use Rattle.spi_quick.proofs.queue_word.Statement.{statement}
@@ -26,6 +26,9 @@ shift-in-requires c κs = search needs
 
 is-free-requires : tie.Need-is-free-requires
 is-free-requires c κs = search needs
+
+ssen-client-requires : tie.Need-ssen-client-requires
+ssen-client-requires c κs = search needs
 
 returns-3 : tie.Need-returns-3
 returns-3 c = short-left
@@ -57,13 +60,14 @@ store-interrupt-requires c κs = search needs
 returns-5 : tie.Need-returns-5
 unfolding engineIn moduleIn
 returns-5 c =
-    queued-short (c .before .before .before .before .before .before .before .before .before .before .before .before .before .before .before .before .before .before .before .before .before .before .before .settings-in .ensures) (c .before .before .before .before .before .before .before .before .before .before .before .before .before .before .before .before .before .before .before .before .before .if1 .left) (c .before .before .before .before .interrupt-in .ensures)
-    (c .before .before .before .before .before .before .before .before .before .before .before .before .before .before .before .before .before .before .before .before .before .before .before .before .before .args .v)
-    (c .before .before .before .before .before .before .before .before .before .before .before .before .before .before .before .before .before .before .before .transmit-in .ensures)
-    (c .before .before .before .before .before .before .before .before .before .before .before .before .before .before .before .before .before .before .depth .ensures)
-    (c .before .before .before .before .before .before .before .before .before .before .before .before .before .before .before .before .if2 .left)
-    (c .before .before .before .before .before .before .before .before .before .before .before .before .before .before .shift-in .ensures)
-    (c .before .before .before .before .before .before .before .before .before .before .before .before .before .is-free .ensures)
+    queued-short (c .before .before .before .before .before .before .before .before .before .before .before .before .before .before .before .before .before .before .before .before .before .before .before .before .settings-in .ensures) (c .before .before .before .before .before .before .before .before .before .before .before .before .before .before .before .before .before .before .before .before .before .before .if1 .left) (c .before .before .before .before .interrupt-in .ensures)
+    (c .before .before .before .before .before .before .before .before .before .before .before .before .before .before .before .before .before .before .before .before .before .before .before .before .before .before .args .v)
+    (c .before .before .before .before .before .before .before .before .before .before .before .before .before .before .before .before .before .before .before .before .transmit-in .ensures)
+    (c .before .before .before .before .before .before .before .before .before .before .before .before .before .before .before .before .before .before .before .depth .ensures)
+    (c .before .before .before .before .before .before .before .before .before .before .before .before .before .before .before .before .before .if2 .left)
+    (c .before .before .before .before .before .before .before .before .before .before .before .before .before .before .before .shift-in .ensures)
+    (c .before .before .before .before .before .before .before .before .before .before .before .before .before .before .is-free .ensures)
+    (c .before .before .before .before .before .before .before .before .before .before .before .before .before .ssen-client .ensures)
     (c .before .before .before .before .before .before .before .before .before .before .before .before .if3 .left)
     (c .before .before .before .before .before .before .before .before .before .before .before .is-begun .ensures)
     (c .before .before .before .before .before .before .before .before .before .if4 .left)
@@ -84,6 +88,7 @@ queue-word-spec =
     returns-2
     shift-in-requires
     is-free-requires
+    ssen-client-requires
     returns-3
     is-begun-requires
     returns-4
