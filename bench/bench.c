@@ -1,5 +1,6 @@
 /* Runs every case for the proved library and for plain C in turn, many short
- * rounds, and prints the best processor time of each.
+ * rounds, and prints one line for each: its name, the unit, and the best
+ * processor time of each side in nanoseconds for a unit, between tabs.
  *
  * usage: bench [rounds]
  */
@@ -38,7 +39,6 @@ int main(int argc, char **argv)
 
     if (rounds < 1)
         rounds = 1;
-    printf("%-32s %20s %20s\n", "", sides[0]->name, sides[1]->name);
     for (i = 0; i < CASES; i++) {
         struct outcome o[2] = {{0, 0}, {0, 0}};
         double best[2] = {0, 0};
@@ -55,15 +55,13 @@ int main(int argc, char **argv)
                 break;
         }
         if (r < rounds) {
-            printf("%-32s FAILED: the two sides answer differently\n",
-                   cases[i].name);
+            fprintf(stderr, "%s: FAILED: %s and %s answer differently\n",
+                    cases[i].name, sides[0]->name, sides[1]->name);
             failed = 1;
             continue;
         }
-        printf("%-32s %9.2f ns / %s %9.2f ns / %s   ratio %.2f\n",
-               cases[i].name, best[0] * 1e9 / o[0].units, cases[i].unit,
-               best[1] * 1e9 / o[1].units, cases[i].unit, best[0] / best[1]);
-        fflush(stdout);
+        printf("%s\t%s\t%.4f\t%.4f\n", cases[i].name, cases[i].unit,
+               best[0] * 1e9 / o[0].units, best[1] * 1e9 / o[1].units);
     }
     return failed;
 }

@@ -1,4 +1,4 @@
 -- What the proofs of several functions use.
-mod Back
 mod Single
 mod Stores
+mod Looks

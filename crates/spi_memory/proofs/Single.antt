@@ -1,12 +1,12 @@
 -- Single numbers that are written into memory, one after the other.
---     Writes, writes     which numbers, at which places, and memory after them
+--     at, writes         which numbers, at which places, and memory after them
 --     after              what stands at a place then
 --     written            the module that memory holds then
 -- Assumes nothing.
 use Prim.Native.Nat.{ℕ, _+_, _<_}
-use mathlib.Core.Bool.{Bool, true, false, _&&_}
+use mathlib.Core.Bool.{Bool, true, _&&_}
 use mathlib.Core.List.{List, [], _∷_}
-use mathlib.Core.Path.{_≡_, refl, sym, _∙_, ap}
+use mathlib.Core.Path.{_≡_, refl, _∙_, ap}
 use native.Mathlib.Omega.{arith}
 use borrow.Author.Tests.{ltb-true, eqb-true, eqb-false}
 use lib.Dec.{eqb, ltb}
@@ -15,12 +15,15 @@ use lib.Seq.{getD-set-same, getD-set-other}
 use Rattle.spi_rules.specs.declared.Module.{Module}
 use Rattle.spi_rules.specs.Choice.{if_then_else_}
 use Rattle.spi_rules.proofs.Keeps.{if-keeps, and-left, and-right}
-use Rattle.spi_memory.specs.Memory.{bitIn, from, settingsFrom, transmitFrom, receiveFrom, shiftFrom, pinsFrom, settingsIn, transmitIn, receiveIn, shiftIn, pinsIn, engineIn, moduleIn}
+use Rattle.spi_memory.specs.Memory.{bitIn, settingsFrom, transmitFrom, receiveFrom, shiftFrom, pinsFrom, settingsIn, transmitIn, receiveIn, shiftIn, pinsIn, engineIn, moduleIn}
 
 -- A place and the number that is written there.
 pub record Write : Type 0 where
   pub place : ℕ
   pub number : ℕ
+
+abbrev pub at : ℕ → ℕ → Write
+at place number = record { place = place; number = number }
 
 abbrev pub writes : List ℕ → List Write → List ℕ
 writes w [] = w

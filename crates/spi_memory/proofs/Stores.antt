@@ -1,89 +1,67 @@
 -- What each store comes to: the numbers that it writes are read back, and all else stays.
---     begun-stored, gone-stored, select-stored, transmit-stored, receive-stored, interrupt-stored
+--     free-stored, loaded-stored, begun-stored, gone-stored
+--                   the shift register
+--     sck-stored, select-stored, sdo-stored
+--                   a pin
+--     spirov-stored, interrupt-stored
+--                   a flag
+--     transmit-stored, receive-stored
+--                   a buffer
+--     con1-stored, con2-stored, stat-stored
+--                   settings
 -- Assumes nothing.
 use Prim.Native.Nat.{ℕ}
 use mathlib.Core.Bool.{Bool}
 use mathlib.Core.List.{List, [], _∷_}
 use mathlib.Core.Path.{_≡_, refl, sym, _∙_, ap}
+use native.Mathlib.Omega.{arith}
 use lib.Dec.{eqb}
 use lib.ListN.{length, getD}
+use Rattle.spi_rules.specs.declared.Con1.{Con1}
+use Rattle.spi_rules.specs.declared.Con2.{Con2}
 use Rattle.spi_rules.specs.declared.Transmit.{Transmit}
 use Rattle.spi_rules.specs.declared.Receive.{Receive}
 use Rattle.spi_rules.specs.declared.Progress.{Progress}
-use Rattle.spi_rules.specs.declared.Pins.{Pins}
 use Rattle.spi_rules.specs.declared.Shift.{Shift}
 use Rattle.spi_rules.specs.declared.Shift.the-variants.{Free, Loaded, Begun}
 use Rattle.spi_rules.specs.Choice.{if_then_else_}
+use Rattle.spi_rules.specs.Loading.{sdoAt}
+use Rattle.spi_rules.specs.Select.{selectRemembered}
+use Rattle.spi_rules.specs.Edge.{clocked}
+use Rattle.spi_rules.specs.Calls.{withCon1, withCon2}
 use Rattle.spi_rules.proofs.Keeps.{if-ap}
-use Rattle.spi_memory.specs.Memory.{bitIn, byteIn, from, con1From, con2From, settingsFrom, transmitFrom, receiveFrom, shiftFrom, pinsFrom, settingsIn, transmitIn, receiveIn, shiftIn, pinsIn, engineIn, moduleIn, withBegun, withShift, goneOn, levelsNow, withSelect, withTransmit, withReceive, withInterrupt}
-use Rattle.spi_memory.proofs.Back.{eight-words}
-use Rattle.spi_memory.proofs.Single.{Write, writes, written}
+use Rattle.spi_memory.specs.Memory.{bitIn, byteIn, con1From, con2From, settingsFrom, transmitFrom, receiveFrom, shiftFrom, pinsFrom, settingsIn, transmitIn, receiveIn, shiftIn, pinsIn, engineIn, moduleIn, onEngine, onSettings, withTransmit, withReceive, withShift, withSpirov, withInterrupt, goneOn, withStat}
+use Rattle.spi_memory.proofs.Single.{at, writes, written}
 
--- The numbers that each store writes.
-abbrev begunWrites : (f wd e r sck ss sdo : ℕ) → List Write
-begunWrites f wd e r sck ss sdo =
-    record { place = 64; number = 2 }
-    ∷ record { place = 65; number = f }
-    ∷ record { place = 66; number = wd }
-    ∷ record { place = 67; number = e }
-    ∷ record { place = 68; number = r }
-    ∷ record { place = 69; number = sck }
-    ∷ record { place = 70; number = ss }
-    ∷ record { place = 71; number = sdo }
-    ∷ []
-
-abbrev goneWrites : (e r sck sdo : ℕ) → List Write
-goneWrites e r sck sdo =
-    record { place = 67; number = e }
-    ∷ record { place = 68; number = r }
-    ∷ record { place = 69; number = sck }
-    ∷ record { place = 71; number = sdo }
-    ∷ []
-
-abbrev selectWrites : (x : ℕ) → List Write
-selectWrites x = record { place = 70; number = x } ∷ []
-
-abbrev transmitWrites : (t : Transmit) (a b k : ℕ) → List Write
-transmitWrites t a b k =
-    record { place = 24; number = (getD (t .words) 0 0) }
-    ∷ record { place = 25; number = (getD (t .words) 1 0) }
-    ∷ record { place = 26; number = (getD (t .words) 2 0) }
-    ∷ record { place = 27; number = (getD (t .words) 3 0) }
-    ∷ record { place = 28; number = (getD (t .words) 4 0) }
-    ∷ record { place = 29; number = (getD (t .words) 5 0) }
-    ∷ record { place = 30; number = (getD (t .words) 6 0) }
-    ∷ record { place = 31; number = (getD (t .words) 7 0) }
-    ∷ record { place = 40; number = a }
-    ∷ record { place = 41; number = b }
-    ∷ record { place = 42; number = k }
-    ∷ []
-
-abbrev receiveWrites : (t : Receive) (a b k : ℕ) → List Write
-receiveWrites t a b k =
-    record { place = 44; number = (getD (t .words) 0 0) }
-    ∷ record { place = 45; number = (getD (t .words) 1 0) }
-    ∷ record { place = 46; number = (getD (t .words) 2 0) }
-    ∷ record { place = 47; number = (getD (t .words) 3 0) }
-    ∷ record { place = 48; number = (getD (t .words) 4 0) }
-    ∷ record { place = 49; number = (getD (t .words) 5 0) }
-    ∷ record { place = 50; number = (getD (t .words) 6 0) }
-    ∷ record { place = 51; number = (getD (t .words) 7 0) }
-    ∷ record { place = 60; number = a }
-    ∷ record { place = 61; number = b }
-    ∷ record { place = 62; number = k }
-    ∷ []
-
-abbrev interruptWrites : (x : ℕ) → List Write
-interruptWrites x = record { place = 73; number = x } ∷ []
+-- A list of eight words is the list of its elements.
+eight-words : (l : List ℕ) → length l ≡ 8 →
+    getD l 0 0 ∷ getD l 1 0 ∷ getD l 2 0 ∷ getD l 3 0 ∷ getD l 4 0 ∷ getD l 5 0 ∷ getD l 6 0 ∷ getD l 7 0 ∷ [] ≡ l
+eight-words (a ∷ b ∷ c ∷ d ∷ e ∷ f ∷ g ∷ h ∷ []) n = refl
+eight-words [] n = absurd (omega arith)
+eight-words (a ∷ []) n = absurd (omega arith)
+eight-words (a ∷ b ∷ []) n = absurd (omega arith)
+eight-words (a ∷ b ∷ c ∷ []) n = absurd (omega arith)
+eight-words (a ∷ b ∷ c ∷ d ∷ []) n = absurd (omega arith)
+eight-words (a ∷ b ∷ c ∷ d ∷ e ∷ []) n = absurd (omega arith)
+eight-words (a ∷ b ∷ c ∷ d ∷ e ∷ f ∷ []) n = absurd (omega arith)
+eight-words (a ∷ b ∷ c ∷ d ∷ e ∷ f ∷ g ∷ []) n = absurd (omega arith)
+eight-words (a ∷ b ∷ c ∷ d ∷ e ∷ f ∷ g ∷ h ∷ i ∷ l) n = absurd (omega arith)
 
 module _ (w : List ℕ) (whole : length w ≡ 96) where
-  pub begun-stored : (f wd e r sck ss sdo : ℕ) (p : Progress) (pins : Pins) → bitIn f ≡ p .filler → wd ≡ p .word →
-      byteIn e ≡ p .edges → r ≡ p .received → bitIn sck ≡ pins .sck → bitIn ss ≡ pins .ss → bitIn sdo ≡ pins .sdo →
-      moduleIn
-      (writes w (begunWrites f wd e r sck ss sdo))
-      ≡ withBegun p pins (moduleIn w)
-  unfolding if_then_else_ con1From con2From settingsFrom transmitFrom receiveFrom shiftFrom pinsFrom settingsIn transmitIn receiveIn shiftIn pinsIn engineIn moduleIn withBegun withShift
-  begun-stored f wd e r sck ss sdo p pins e0 e1 e2 e3 e4 e5 e6 = written w (begunWrites f wd e r sck ss sdo) whole refl ∙ rw (e0, e1, e2, e3, e4, e5, e6)
+  pub free-stored : moduleIn (writes w (at 64 0 ∷ [])) ≡ onEngine (λ _. withShift Free) (moduleIn w)
+  unfolding if_then_else_ con1From con2From settingsFrom transmitFrom receiveFrom shiftFrom pinsFrom settingsIn transmitIn receiveIn shiftIn pinsIn engineIn moduleIn onEngine withShift
+  free-stored =
+      written w (at 64 0 ∷ []) whole refl
+
+  pub loaded-stored : (word : ℕ) → moduleIn (writes w (at 64 1 ∷ at 66 word ∷ [])) ≡ onEngine (λ _. withShift (Loaded word)) (moduleIn w)
+  unfolding if_then_else_ con1From con2From settingsFrom transmitFrom receiveFrom shiftFrom pinsFrom settingsIn transmitIn receiveIn shiftIn pinsIn engineIn moduleIn onEngine withShift
+  loaded-stored word =
+      written w (at 64 1 ∷ at 66 word ∷ []) whole refl
+
+  pub begun-stored : (p : Progress) (f e : ℕ) → bitIn f ≡ p .filler → byteIn e ≡ p .edges → moduleIn (writes w (at 64 2 ∷ at 65 f ∷ at 66 (p .word) ∷ at 67 e ∷ at 68 (p .received) ∷ [])) ≡ onEngine (λ _. withShift (Begun p)) (moduleIn w)
+  unfolding if_then_else_ con1From con2From settingsFrom transmitFrom receiveFrom shiftFrom pinsFrom settingsIn transmitIn receiveIn shiftIn pinsIn engineIn moduleIn onEngine withShift
+  begun-stored p f e e0 e1 =
+      written w (at 64 2 ∷ at 65 f ∷ at 66 (p .word) ∷ at 67 e ∷ at 68 (p .received) ∷ []) whole refl ∙ rw (e0, e1)
 
   goes-on : (edges received tag x y : ℕ) →
       (if eqb tag 0 then Free
@@ -99,36 +77,57 @@ module _ (w : List ℕ) (whole : length w ≡ 96) where
       (if-ap (goneOn edges received) (eqb tag 0) _ _
       ∙ ap (λ (z : Shift). if eqb tag 0 then Free else z) (if-ap (goneOn edges received) (eqb tag 1) _ _))
 
-  pub gone-stored : (e r sck sdo edges : ℕ) (c d : Bool) → byteIn e ≡ edges → bitIn sck ≡ c → bitIn sdo ≡ d →
-      moduleIn (writes w (goneWrites e r sck sdo))
-      ≡ withShift (goneOn edges r (shiftIn w)) (levelsNow c d (pinsIn w)) (moduleIn w)
-  unfolding bitIn byteIn if_then_else_ con1From con2From settingsFrom transmitFrom receiveFrom shiftFrom pinsFrom settingsIn transmitIn receiveIn shiftIn pinsIn engineIn moduleIn withShift goneOn levelsNow
-  gone-stored e r sck sdo edges c d e0 e4 e6 =
-      written w (goneWrites e r sck sdo) whole refl
-      ∙ rw (e0, e4, e6, goes-on edges r (getD w 64 0) (getD w 67 0) (getD w 68 0))
+  pub gone-stored : (edges received e : ℕ) → byteIn e ≡ edges → moduleIn (writes w (at 67 e ∷ at 68 received ∷ [])) ≡ onEngine (λ _ n. withShift (goneOn edges received (n .shift)) n) (moduleIn w)
+  unfolding if_then_else_ con1From con2From settingsFrom transmitFrom receiveFrom shiftFrom pinsFrom settingsIn transmitIn receiveIn shiftIn pinsIn engineIn moduleIn bitIn byteIn goneOn onEngine withShift
+  gone-stored edges received e e0 =
+      written w (at 67 e ∷ at 68 received ∷ []) whole refl ∙ rw (e0, goes-on edges received (getD w 64 0) (getD w 67 0) (getD w 68 0))
 
-  pub select-stored : (x : ℕ) (b : Bool) → bitIn x ≡ b →
-      moduleIn (writes w (selectWrites x)) ≡ withSelect b (moduleIn w)
-  unfolding if_then_else_ con1From con2From settingsFrom transmitFrom receiveFrom shiftFrom pinsFrom settingsIn transmitIn receiveIn shiftIn pinsIn engineIn moduleIn withShift withSelect
-  select-stored x b e = written w (selectWrites x) whole refl ∙ rw e
+  pub sck-stored : (b : Bool) (x : ℕ) → bitIn x ≡ b → moduleIn (writes w (at 69 x ∷ [])) ≡ onEngine (λ _. clocked b) (moduleIn w)
+  unfolding if_then_else_ con1From con2From settingsFrom transmitFrom receiveFrom shiftFrom pinsFrom settingsIn transmitIn receiveIn shiftIn pinsIn engineIn moduleIn onEngine clocked
+  sck-stored b x e0 =
+      written w (at 69 x ∷ []) whole refl ∙ rw e0
 
-  pub transmit-stored : (a b k : ℕ) (t : Transmit) → length (t .words) ≡ 8 → byteIn a ≡ t .write .0 → byteIn b ≡ t .read .0 →
-      byteIn k ≡ t .count →
-      moduleIn
-      (writes w (transmitWrites t a b k))
-      ≡ withTransmit t (moduleIn w)
-  unfolding if_then_else_ con1From con2From settingsFrom transmitFrom receiveFrom shiftFrom pinsFrom settingsIn transmitIn receiveIn shiftIn pinsIn engineIn moduleIn withTransmit
-  transmit-stored a b k t n e0 e1 e2 = written w (transmitWrites t a b k) whole refl ∙ rw (e0, e1, e2, eight-words (t .words) n)
+  pub select-stored : (b : Bool) (x : ℕ) → bitIn x ≡ b → moduleIn (writes w (at 70 x ∷ [])) ≡ onEngine (λ _. selectRemembered b) (moduleIn w)
+  unfolding if_then_else_ con1From con2From settingsFrom transmitFrom receiveFrom shiftFrom pinsFrom settingsIn transmitIn receiveIn shiftIn pinsIn engineIn moduleIn onEngine selectRemembered
+  select-stored b x e0 =
+      written w (at 70 x ∷ []) whole refl ∙ rw e0
 
-  pub receive-stored : (a b k : ℕ) (t : Receive) → length (t .words) ≡ 8 → byteIn a ≡ t .write .0 → byteIn b ≡ t .read .0 →
-      byteIn k ≡ t .count →
-      moduleIn
-      (writes w (receiveWrites t a b k))
-      ≡ withReceive t (moduleIn w)
-  unfolding if_then_else_ con1From con2From settingsFrom transmitFrom receiveFrom shiftFrom pinsFrom settingsIn transmitIn receiveIn shiftIn pinsIn engineIn moduleIn withReceive
-  receive-stored a b k t n e0 e1 e2 = written w (receiveWrites t a b k) whole refl ∙ rw (e0, e1, e2, eight-words (t .words) n)
+  pub sdo-stored : (b : Bool) (x : ℕ) → bitIn x ≡ b → moduleIn (writes w (at 71 x ∷ [])) ≡ onEngine (λ _. sdoAt b) (moduleIn w)
+  unfolding if_then_else_ con1From con2From settingsFrom transmitFrom receiveFrom shiftFrom pinsFrom settingsIn transmitIn receiveIn shiftIn pinsIn engineIn moduleIn onEngine sdoAt
+  sdo-stored b x e0 =
+      written w (at 71 x ∷ []) whole refl ∙ rw e0
 
-  pub interrupt-stored : (x : ℕ) (b : Bool) → bitIn x ≡ b →
-      moduleIn (writes w (interruptWrites x)) ≡ withInterrupt b (moduleIn w)
-  unfolding if_then_else_ con1From con2From settingsFrom transmitFrom receiveFrom shiftFrom pinsFrom settingsIn transmitIn receiveIn shiftIn pinsIn engineIn moduleIn withInterrupt
-  interrupt-stored x b e = written w (interruptWrites x) whole refl ∙ rw e
+  pub spirov-stored : (b : Bool) (x : ℕ) → bitIn x ≡ b → moduleIn (writes w (at 72 x ∷ [])) ≡ onEngine (λ _. withSpirov b) (moduleIn w)
+  unfolding if_then_else_ con1From con2From settingsFrom transmitFrom receiveFrom shiftFrom pinsFrom settingsIn transmitIn receiveIn shiftIn pinsIn engineIn moduleIn onEngine withSpirov
+  spirov-stored b x e0 =
+      written w (at 72 x ∷ []) whole refl ∙ rw e0
+
+  pub interrupt-stored : (b : Bool) (x : ℕ) → bitIn x ≡ b → moduleIn (writes w (at 73 x ∷ [])) ≡ onEngine (λ _. withInterrupt b) (moduleIn w)
+  unfolding if_then_else_ con1From con2From settingsFrom transmitFrom receiveFrom shiftFrom pinsFrom settingsIn transmitIn receiveIn shiftIn pinsIn engineIn moduleIn onEngine withInterrupt
+  interrupt-stored b x e0 =
+      written w (at 73 x ∷ []) whole refl ∙ rw e0
+
+  pub transmit-stored : (t : Transmit) (a b k : ℕ) → length (t .words) ≡ 8 → byteIn a ≡ t .write .0 → byteIn b ≡ t .read .0 → byteIn k ≡ t .count → moduleIn (writes w (at 24 (getD (t .words) 0 0) ∷ at 25 (getD (t .words) 1 0) ∷ at 26 (getD (t .words) 2 0) ∷ at 27 (getD (t .words) 3 0) ∷ at 28 (getD (t .words) 4 0) ∷ at 29 (getD (t .words) 5 0) ∷ at 30 (getD (t .words) 6 0) ∷ at 31 (getD (t .words) 7 0) ∷ at 40 a ∷ at 41 b ∷ at 42 k ∷ [])) ≡ onEngine (λ _. withTransmit t) (moduleIn w)
+  unfolding if_then_else_ con1From con2From settingsFrom transmitFrom receiveFrom shiftFrom pinsFrom settingsIn transmitIn receiveIn shiftIn pinsIn engineIn moduleIn onEngine withTransmit
+  transmit-stored t a b k e0 e1 e2 e3 =
+      written w (at 24 (getD (t .words) 0 0) ∷ at 25 (getD (t .words) 1 0) ∷ at 26 (getD (t .words) 2 0) ∷ at 27 (getD (t .words) 3 0) ∷ at 28 (getD (t .words) 4 0) ∷ at 29 (getD (t .words) 5 0) ∷ at 30 (getD (t .words) 6 0) ∷ at 31 (getD (t .words) 7 0) ∷ at 40 a ∷ at 41 b ∷ at 42 k ∷ []) whole refl ∙ rw (e1, e2, e3, eight-words (t .words) e0)
+
+  pub receive-stored : (t : Receive) (a b k : ℕ) → length (t .words) ≡ 8 → byteIn a ≡ t .write .0 → byteIn b ≡ t .read .0 → byteIn k ≡ t .count → moduleIn (writes w (at 44 (getD (t .words) 0 0) ∷ at 45 (getD (t .words) 1 0) ∷ at 46 (getD (t .words) 2 0) ∷ at 47 (getD (t .words) 3 0) ∷ at 48 (getD (t .words) 4 0) ∷ at 49 (getD (t .words) 5 0) ∷ at 50 (getD (t .words) 6 0) ∷ at 51 (getD (t .words) 7 0) ∷ at 60 a ∷ at 61 b ∷ at 62 k ∷ [])) ≡ onEngine (λ _. withReceive t) (moduleIn w)
+  unfolding if_then_else_ con1From con2From settingsFrom transmitFrom receiveFrom shiftFrom pinsFrom settingsIn transmitIn receiveIn shiftIn pinsIn engineIn moduleIn onEngine withReceive
+  receive-stored t a b k e0 e1 e2 e3 =
+      written w (at 44 (getD (t .words) 0 0) ∷ at 45 (getD (t .words) 1 0) ∷ at 46 (getD (t .words) 2 0) ∷ at 47 (getD (t .words) 3 0) ∷ at 48 (getD (t .words) 4 0) ∷ at 49 (getD (t .words) 5 0) ∷ at 50 (getD (t .words) 6 0) ∷ at 51 (getD (t .words) 7 0) ∷ at 60 a ∷ at 61 b ∷ at 62 k ∷ []) whole refl ∙ rw (e1, e2, e3, eight-words (t .words) e0)
+
+  pub con1-stored : (c : Con1) (x0 x1 x2 x3 x4 x5 x6 x7 x8 x9 : ℕ) → bitIn x0 ≡ c .dissck → bitIn x1 ≡ c .dissdo → bitIn x2 ≡ c .mode16 → bitIn x3 ≡ c .smp → bitIn x4 ≡ c .cke → bitIn x5 ≡ c .ssen → bitIn x6 ≡ c .ckp → bitIn x7 ≡ c .msten → byteIn x8 ≡ c .spre → byteIn x9 ≡ c .ppre → moduleIn (writes w (at 3 x0 ∷ at 4 x1 ∷ at 5 x2 ∷ at 6 x3 ∷ at 7 x4 ∷ at 8 x5 ∷ at 9 x6 ∷ at 10 x7 ∷ at 11 x8 ∷ at 12 x9 ∷ [])) ≡ onSettings (λ s. withCon1 s c) (moduleIn w)
+  unfolding if_then_else_ con1From con2From settingsFrom transmitFrom receiveFrom shiftFrom pinsFrom settingsIn transmitIn receiveIn shiftIn pinsIn engineIn moduleIn onSettings withCon1
+  con1-stored c x0 x1 x2 x3 x4 x5 x6 x7 x8 x9 e0 e1 e2 e3 e4 e5 e6 e7 e8 e9 =
+      written w (at 3 x0 ∷ at 4 x1 ∷ at 5 x2 ∷ at 6 x3 ∷ at 7 x4 ∷ at 8 x5 ∷ at 9 x6 ∷ at 10 x7 ∷ at 11 x8 ∷ at 12 x9 ∷ []) whole refl ∙ rw (e0, e1, e2, e3, e4, e5, e6, e7, e8, e9)
+
+  pub con2-stored : (c : Con2) (x0 x1 x2 x3 x4 : ℕ) → bitIn x0 ≡ c .frmen → bitIn x1 ≡ c .spifsd → bitIn x2 ≡ c .frmpol → bitIn x3 ≡ c .frmdly → bitIn x4 ≡ c .spiben → moduleIn (writes w (at 13 x0 ∷ at 14 x1 ∷ at 15 x2 ∷ at 16 x3 ∷ at 17 x4 ∷ [])) ≡ onSettings (λ s. withCon2 s c) (moduleIn w)
+  unfolding if_then_else_ con1From con2From settingsFrom transmitFrom receiveFrom shiftFrom pinsFrom settingsIn transmitIn receiveIn shiftIn pinsIn engineIn moduleIn onSettings withCon2
+  con2-stored c x0 x1 x2 x3 x4 e0 e1 e2 e3 e4 =
+      written w (at 13 x0 ∷ at 14 x1 ∷ at 15 x2 ∷ at 16 x3 ∷ at 17 x4 ∷ []) whole refl ∙ rw (e0, e1, e2, e3, e4)
+
+  pub stat-stored : (spien spisidl : Bool) (sisel x y z : ℕ) → bitIn x ≡ spien → bitIn y ≡ spisidl → byteIn z ≡ sisel → moduleIn (writes w (at 0 x ∷ at 1 y ∷ at 2 z ∷ [])) ≡ onSettings (withStat spien spisidl sisel) (moduleIn w)
+  unfolding if_then_else_ con1From con2From settingsFrom transmitFrom receiveFrom shiftFrom pinsFrom settingsIn transmitIn receiveIn shiftIn pinsIn engineIn moduleIn onSettings withStat
+  stat-stored spien spisidl sisel x y z e0 e1 e2 =
+      written w (at 0 x ∷ at 1 y ∷ at 2 z ∷ []) whole refl ∙ rw (e0, e1, e2)

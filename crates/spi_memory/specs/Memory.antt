@@ -11,7 +11,6 @@ use Rattle.spi_rules.specs.declared.Con2.{Con2}
 use Rattle.spi_rules.specs.declared.Settings.{Settings}
 use Rattle.spi_rules.specs.declared.Transmit.{Transmit}
 use Rattle.spi_rules.specs.declared.Receive.{Receive}
-use Rattle.spi_rules.specs.declared.Progress.{Progress}
 use Rattle.spi_rules.specs.declared.Shift.{Shift}
 use Rattle.spi_rules.specs.declared.Pins.{Pins}
 use Rattle.spi_rules.specs.declared.Engine.{Engine}
@@ -131,24 +130,68 @@ engineIn w =
 unfoldable pub moduleIn : List ℕ → Module
 moduleIn w = record { settings = settingsIn w; engine = engineIn w }
 
--- A module with another shift register and other pins.
-unfoldable pub withShift : Shift → Pins → Module → Module
-withShift shift pins m =
+-- A module with another engine, under its own settings; and with other settings.
+unfoldable pub onEngine : (Settings → Engine → Engine) → Module → Module
+onEngine f m = record { settings = m .settings; engine = f (m .settings) (m .engine) }
+
+unfoldable pub onSettings : (Settings → Settings) → Module → Module
+onSettings f m = record { settings = f (m .settings); engine = m .engine }
+
+-- An engine with another part.
+unfoldable pub withTransmit : Transmit → Engine → Engine
+withTransmit t n =
     record {
-      settings = m .settings;
-      engine =
-          record {
-            transmit = m .engine .transmit;
-            receive = m .engine .receive;
-            shift = shift;
-            pins = pins;
-            spirov = m .engine .spirov;
-            interrupt = m .engine .interrupt;
-          };
+      transmit = t;
+      receive = n .receive;
+      shift = n .shift;
+      pins = n .pins;
+      spirov = n .spirov;
+      interrupt = n .interrupt;
     }
 
-unfoldable pub withBegun : Progress → Pins → Module → Module
-withBegun p pins m = withShift (Begun p) pins m
+unfoldable pub withReceive : Receive → Engine → Engine
+withReceive r n =
+    record {
+      transmit = n .transmit;
+      receive = r;
+      shift = n .shift;
+      pins = n .pins;
+      spirov = n .spirov;
+      interrupt = n .interrupt;
+    }
+
+unfoldable pub withShift : Shift → Engine → Engine
+withShift x n =
+    record {
+      transmit = n .transmit;
+      receive = n .receive;
+      shift = x;
+      pins = n .pins;
+      spirov = n .spirov;
+      interrupt = n .interrupt;
+    }
+
+unfoldable pub withSpirov : Bool → Engine → Engine
+withSpirov b n =
+    record {
+      transmit = n .transmit;
+      receive = n .receive;
+      shift = n .shift;
+      pins = n .pins;
+      spirov = b;
+      interrupt = n .interrupt;
+    }
+
+unfoldable pub withInterrupt : Bool → Engine → Engine
+withInterrupt b n =
+    record {
+      transmit = n .transmit;
+      receive = n .receive;
+      shift = n .shift;
+      pins = n .pins;
+      spirov = n .spirov;
+      interrupt = b;
+    }
 
 -- A begun word with other edges and other received bits; a shift register with no word begun has neither.
 unfoldable pub goneOn : ℕ → ℕ → Shift → Shift
@@ -156,56 +199,7 @@ goneOn edges received Free = Free
 goneOn edges received (Loaded word) = Loaded word
 goneOn edges received (Begun p) = Begun (record { filler = p .filler; word = p .word; edges = edges; received = received })
 
--- Pins with other levels of SCK and SDO, and a module with another select level.
-unfoldable pub levelsNow : Bool → Bool → Pins → Pins
-levelsNow sck sdo p = record { sck = sck; ss = p .ss; sdo = sdo }
-
-unfoldable pub withSelect : Bool → Module → Module
-withSelect ss m =
-    withShift (m .engine .shift) (record { sck = m .engine .pins .sck; ss = ss; sdo = m .engine .pins .sdo }) m
-
--- A module with another transmit buffer, receive buffer or interrupt flag.
-unfoldable pub withTransmit : Transmit → Module → Module
-withTransmit t m =
-    record {
-      settings = m .settings;
-      engine =
-          record {
-            transmit = t;
-            receive = m .engine .receive;
-            shift = m .engine .shift;
-            pins = m .engine .pins;
-            spirov = m .engine .spirov;
-            interrupt = m .engine .interrupt;
-          };
-    }
-
-unfoldable pub withReceive : Receive → Module → Module
-withReceive r m =
-    record {
-      settings = m .settings;
-      engine =
-          record {
-            transmit = m .engine .transmit;
-            receive = r;
-            shift = m .engine .shift;
-            pins = m .engine .pins;
-            spirov = m .engine .spirov;
-            interrupt = m .engine .interrupt;
-          };
-    }
-
-unfoldable pub withInterrupt : Bool → Module → Module
-withInterrupt b m =
-    record {
-      settings = m .settings;
-      engine =
-          record {
-            transmit = m .engine .transmit;
-            receive = m .engine .receive;
-            shift = m .engine .shift;
-            pins = m .engine .pins;
-            spirov = m .engine .spirov;
-            interrupt = b;
-          };
-    }
+-- Settings with what a STAT write sets.
+unfoldable pub withStat : Bool → Bool → ℕ → Settings → Settings
+withStat spien spisidl sisel s =
+    record { spien = spien; spisidl = spisidl; sisel = sisel; con1 = s .con1; con2 = s .con2 }

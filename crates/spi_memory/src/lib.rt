@@ -16,7 +16,13 @@ use spi_rules::Transmit;
 ghost use mathlib.Core.Bool.{true};
 ghost use mathlib.Core.Path.{_≡_};
 ghost use lib.ListN.{length};
-ghost use Rattle.spi_memory.specs.Memory.{bitIn, byteIn, from, con1From, con2From, settingsFrom, transmitFrom, receiveFrom, shiftFrom, settingsIn, transmitIn, receiveIn, shiftIn, pinsIn, moduleIn, withBegun, withShift, goneOn, levelsNow, withSelect, withTransmit, withReceive, withInterrupt};
+ghost use Rattle.spi_rules.specs.Loading.{isBegun, sdoAt};
+ghost use Rattle.spi_rules.specs.Select.{selectRemembered};
+ghost use Rattle.spi_rules.specs.Edge.{clocked};
+ghost use Rattle.spi_rules.specs.Calls.{poweredUp, withCon1, withCon2};
+ghost use Rattle.spi_rules.specs.declared.Shift.the-variants.{Free, Loaded, Begun};
+ghost use Rattle.spi_rules.specs.Registers.{isFree};
+ghost use Rattle.spi_memory.specs.Memory.{bitIn, byteIn, from, con1From, con2From, settingsIn, transmitIn, receiveIn, shiftIn, pinsIn, moduleIn, onEngine, onSettings, withTransmit, withReceive, withShift, withSpirov, withInterrupt, goneOn, withStat};
 
 // CON1.
 pub fn con1_in(w: &[u16; 96]) -> Con1
@@ -106,6 +112,19 @@ pub fn shift_in(w: &[u16; 96]) -> Shift
     })
 }
 
+// Whether no word is loaded or begun, and whether one has begun.
+pub fn is_free(w: &[u16; 96]) -> bool
+    ensures { λ r. ⌜ r ≡ isFree (shiftIn (now (w .entry))) ⌝ }
+{
+    w[64] == 0
+}
+
+pub fn is_begun(w: &[u16; 96]) -> bool
+    ensures { λ r. ⌜ r ≡ isBegun (shiftIn (now (w .entry))) ⌝ }
+{
+    1 < w[64]
+}
+
 // The pins.
 pub fn pins_in(w: &[u16; 96]) -> Pins
     ensures { λ r. ⌜ r ≡ pinsIn (now (w .entry)) ⌝ }
@@ -115,6 +134,13 @@ pub fn pins_in(w: &[u16; 96]) -> Pins
         ss: w[70] != 0,
         sdo: w[71] != 0,
     }
+}
+
+// SPIROV.
+pub fn spirov_in(w: &[u16; 96]) -> bool
+    ensures { λ r. ⌜ r ≡ bitIn (from 64 (now (w .entry)) 8) ⌝ }
+{
+    w[72] != 0
 }
 
 // The interrupt flag.
@@ -163,216 +189,11 @@ fn byte_number(b: u8) -> u16
     b as u16
 }
 
-// The parts of a module in numbers.
-fn settings_words(s: Settings) -> [u16; 18]
-    ensures { λ r. ⌜ settingsFrom (from 0 r) ≡ s ⌝ }
+// Every number is 0, whatever memory held before: a module that has just powered up.
+pub fn power_up(w: &mut [u16; 96])
+    ensures { λ _. ⌜ moduleIn (now (w .exit)) ≡ poweredUp ⌝ }
 {
-    let c = s.con1;
-    let d = s.con2;
-    [
-        number(s.spien),
-        number(s.spisidl),
-        byte_number(s.sisel),
-        number(c.dissck),
-        number(c.dissdo),
-        number(c.mode16),
-        number(c.smp),
-        number(c.cke),
-        number(c.ssen),
-        number(c.ckp),
-        number(c.msten),
-        byte_number(c.spre),
-        byte_number(c.ppre),
-        number(d.frmen),
-        number(d.spifsd),
-        number(d.frmpol),
-        number(d.frmdly),
-        number(d.spiben),
-    ]
-}
-
-fn transmit_words(t: Transmit) -> [u16; 19]
-    ensures { λ r. ⌜ transmitFrom (from 0 r) ≡ t ⌝ }
-{
-    let x = t.words;
-    [
-        x[0],
-        x[1],
-        x[2],
-        x[3],
-        x[4],
-        x[5],
-        x[6],
-        x[7],
-        0,
-        0,
-        0,
-        0,
-        0,
-        0,
-        0,
-        0,
-        byte_number(t.write.0),
-        byte_number(t.read.0),
-        byte_number(t.count),
-    ]
-}
-
-fn receive_words(t: Receive) -> [u16; 19]
-    ensures { λ r. ⌜ receiveFrom (from 0 r) ≡ t ⌝ }
-{
-    let x = t.words;
-    [
-        x[0],
-        x[1],
-        x[2],
-        x[3],
-        x[4],
-        x[5],
-        x[6],
-        x[7],
-        0,
-        0,
-        0,
-        0,
-        0,
-        0,
-        0,
-        0,
-        byte_number(t.write.0),
-        byte_number(t.read.0),
-        byte_number(t.count),
-    ]
-}
-
-fn shift_words(shift: Shift) -> [u16; 5]
-    ensures { λ r. ⌜ shiftFrom (from 0 r) ≡ shift ⌝ }
-{
-    match shift {
-        Shift::Free => [0, 0, 0, 0, 0],
-        Shift::Loaded(word) => [1, 0, word, 0, 0],
-        Shift::Begun(p) => [
-            2,
-            number(p.filler),
-            p.word,
-            byte_number(p.edges),
-            p.received,
-        ],
-    }
-}
-
-// A module is put into memory.
-pub fn store(w: &mut [u16; 96], m: Module)
-    ensures { λ _. ⌜ moduleIn (now (w .exit)) ≡ m ⌝ }
-{
-    let settings = m.settings;
-    let s = settings_words(settings);
-    let n = m.engine;
-    let transmit = n.transmit;
-    let t = transmit_words(transmit);
-    let receive = n.receive;
-    let r = receive_words(receive);
-    let shift = n.shift;
-    let h = shift_words(shift);
-    let p = n.pins;
-    *w = [
-        s[0],
-        s[1],
-        s[2],
-        s[3],
-        s[4],
-        s[5],
-        s[6],
-        s[7],
-        s[8],
-        s[9],
-        s[10],
-        s[11],
-        s[12],
-        s[13],
-        s[14],
-        s[15],
-        s[16],
-        s[17],
-        0,
-        0,
-        0,
-        0,
-        0,
-        0,
-        t[0],
-        t[1],
-        t[2],
-        t[3],
-        t[4],
-        t[5],
-        t[6],
-        t[7],
-        t[8],
-        t[9],
-        t[10],
-        t[11],
-        t[12],
-        t[13],
-        t[14],
-        t[15],
-        t[16],
-        t[17],
-        t[18],
-        0,
-        r[0],
-        r[1],
-        r[2],
-        r[3],
-        r[4],
-        r[5],
-        r[6],
-        r[7],
-        r[8],
-        r[9],
-        r[10],
-        r[11],
-        r[12],
-        r[13],
-        r[14],
-        r[15],
-        r[16],
-        r[17],
-        r[18],
-        0,
-        h[0],
-        h[1],
-        h[2],
-        h[3],
-        h[4],
-        number(p.sck),
-        number(p.ss),
-        number(p.sdo),
-        number(n.spirov),
-        number(n.interrupt),
-        0,
-        0,
-        0,
-        0,
-        0,
-        0,
-        0,
-        0,
-        0,
-        0,
-        0,
-        0,
-        0,
-        0,
-        0,
-        0,
-        0,
-        0,
-        0,
-        0,
-        0,
-        0,
-    ];
+    *w = [0; 96];
 }
 
 // Memory has 96 numbers. Nothing is done at run time: this is for proofs that write single numbers.
@@ -388,9 +209,26 @@ pub fn is_whole(w: &[u16; 96]) -> bool
     counted(*w)
 }
 
-// A begun word and the pins are put into memory; all else in it stays.
-pub fn store_begun(w: &mut [u16; 96], p: Progress, pins: Pins)
-    ensures { λ _. ⌜ moduleIn (now (w .exit)) ≡ withBegun p pins (moduleIn (now (w .entry))) ⌝ }
+// Single parts are put into memory; all else in it stays. First a shift register with no word.
+pub fn store_free(w: &mut [u16; 96])
+    ensures { λ _. ⌜ moduleIn (now (w .exit)) ≡ onEngine (λ _. withShift Free) (moduleIn (now (w .entry))) ⌝ }
+{
+    is_whole(w);
+    w[64] = 0;
+}
+
+// A loaded word.
+pub fn store_loaded(w: &mut [u16; 96], word: u16)
+    ensures { λ _. ⌜ moduleIn (now (w .exit)) ≡ onEngine (λ _. withShift (Loaded word)) (moduleIn (now (w .entry))) ⌝ }
+{
+    is_whole(w);
+    w[64] = 1;
+    w[66] = word;
+}
+
+// A begun word.
+pub fn store_begun(w: &mut [u16; 96], p: Progress)
+    ensures { λ _. ⌜ moduleIn (now (w .exit)) ≡ onEngine (λ _. withShift (Begun p)) (moduleIn (now (w .entry))) ⌝ }
 {
     is_whole(w);
     w[64] = 2;
@@ -398,33 +236,60 @@ pub fn store_begun(w: &mut [u16; 96], p: Progress, pins: Pins)
     w[66] = p.word;
     w[67] = byte_number(p.edges);
     w[68] = p.received;
-    w[69] = number(pins.sck);
-    w[70] = number(pins.ss);
-    w[71] = number(pins.sdo);
 }
 
-// The edges and the received bits of a begun word, and the levels of SCK and SDO, are put into memory; all else in it stays.
-pub fn store_within(w: &mut [u16; 96], edges: u8, received: u16, sck: bool, sdo: bool)
-    ensures { λ _. ⌜ moduleIn (now (w .exit)) ≡ withShift (goneOn edges received (shiftIn (now (w .entry)))) (levelsNow sck sdo (pinsIn (now (w .entry)))) (moduleIn (now (w .entry))) ⌝ }
+// The edges and the received bits of a begun word.
+pub fn store_gone(w: &mut [u16; 96], edges: u8, received: u16)
+    ensures { λ _. ⌜ moduleIn (now (w .exit)) ≡ onEngine (λ _ n. withShift (goneOn edges received (n .shift)) n) (moduleIn (now (w .entry))) ⌝ }
 {
     is_whole(w);
     w[67] = byte_number(edges);
     w[68] = received;
-    w[69] = number(sck);
-    w[71] = number(sdo);
 }
 
-// The select level is put into memory; all else in it stays.
+// The level of SCK.
+pub fn store_sck(w: &mut [u16; 96], sck: bool)
+    ensures { λ _. ⌜ moduleIn (now (w .exit)) ≡ onEngine (λ _. clocked sck) (moduleIn (now (w .entry))) ⌝ }
+{
+    is_whole(w);
+    w[69] = number(sck);
+}
+
+// The level of SS.
 pub fn store_select(w: &mut [u16; 96], ss: bool)
-    ensures { λ _. ⌜ moduleIn (now (w .exit)) ≡ withSelect ss (moduleIn (now (w .entry))) ⌝ }
+    ensures { λ _. ⌜ moduleIn (now (w .exit)) ≡ onEngine (λ _. selectRemembered ss) (moduleIn (now (w .entry))) ⌝ }
 {
     is_whole(w);
     w[70] = number(ss);
 }
 
-// The transmit buffer is put into memory; all else in it stays.
+// The level of SDO.
+pub fn store_sdo(w: &mut [u16; 96], sdo: bool)
+    ensures { λ _. ⌜ moduleIn (now (w .exit)) ≡ onEngine (λ _. sdoAt sdo) (moduleIn (now (w .entry))) ⌝ }
+{
+    is_whole(w);
+    w[71] = number(sdo);
+}
+
+// SPIROV.
+pub fn store_spirov(w: &mut [u16; 96], spirov: bool)
+    ensures { λ _. ⌜ moduleIn (now (w .exit)) ≡ onEngine (λ _. withSpirov spirov) (moduleIn (now (w .entry))) ⌝ }
+{
+    is_whole(w);
+    w[72] = number(spirov);
+}
+
+// The interrupt flag.
+pub fn store_interrupt(w: &mut [u16; 96], flag: bool)
+    ensures { λ _. ⌜ moduleIn (now (w .exit)) ≡ onEngine (λ _. withInterrupt flag) (moduleIn (now (w .entry))) ⌝ }
+{
+    is_whole(w);
+    w[73] = number(flag);
+}
+
+// The transmit buffer.
 pub fn store_transmit(w: &mut [u16; 96], t: Transmit)
-    ensures { λ _. ⌜ moduleIn (now (w .exit)) ≡ withTransmit t (moduleIn (now (w .entry))) ⌝ }
+    ensures { λ _. ⌜ moduleIn (now (w .exit)) ≡ onEngine (λ _. withTransmit t) (moduleIn (now (w .entry))) ⌝ }
 {
     is_whole(w);
     let x = t.words;
@@ -441,9 +306,9 @@ pub fn store_transmit(w: &mut [u16; 96], t: Transmit)
     w[42] = byte_number(t.count);
 }
 
-// The receive buffer is put into memory; all else in it stays.
+// The receive buffer.
 pub fn store_receive(w: &mut [u16; 96], t: Receive)
-    ensures { λ _. ⌜ moduleIn (now (w .exit)) ≡ withReceive t (moduleIn (now (w .entry))) ⌝ }
+    ensures { λ _. ⌜ moduleIn (now (w .exit)) ≡ onEngine (λ _. withReceive t) (moduleIn (now (w .entry))) ⌝ }
 {
     is_whole(w);
     let x = t.words;
@@ -460,10 +325,41 @@ pub fn store_receive(w: &mut [u16; 96], t: Receive)
     w[62] = byte_number(t.count);
 }
 
-// The interrupt flag is put into memory; all else in it stays.
-pub fn store_interrupt(w: &mut [u16; 96], flag: bool)
-    ensures { λ _. ⌜ moduleIn (now (w .exit)) ≡ withInterrupt flag (moduleIn (now (w .entry))) ⌝ }
+// CON1.
+pub fn store_con1(w: &mut [u16; 96], c: Con1)
+    ensures { λ _. ⌜ moduleIn (now (w .exit)) ≡ onSettings (λ s. withCon1 s c) (moduleIn (now (w .entry))) ⌝ }
 {
     is_whole(w);
-    w[73] = number(flag);
+    w[3] = number(c.dissck);
+    w[4] = number(c.dissdo);
+    w[5] = number(c.mode16);
+    w[6] = number(c.smp);
+    w[7] = number(c.cke);
+    w[8] = number(c.ssen);
+    w[9] = number(c.ckp);
+    w[10] = number(c.msten);
+    w[11] = byte_number(c.spre);
+    w[12] = byte_number(c.ppre);
+}
+
+// CON2.
+pub fn store_con2(w: &mut [u16; 96], c: Con2)
+    ensures { λ _. ⌜ moduleIn (now (w .exit)) ≡ onSettings (λ s. withCon2 s c) (moduleIn (now (w .entry))) ⌝ }
+{
+    is_whole(w);
+    w[13] = number(c.frmen);
+    w[14] = number(c.spifsd);
+    w[15] = number(c.frmpol);
+    w[16] = number(c.frmdly);
+    w[17] = number(c.spiben);
+}
+
+// What a STAT write sets.
+pub fn store_stat(w: &mut [u16; 96], spien: bool, spisidl: bool, sisel: u8)
+    ensures { λ _. ⌜ moduleIn (now (w .exit)) ≡ onSettings (withStat spien spisidl sisel) (moduleIn (now (w .entry))) ⌝ }
+{
+    is_whole(w);
+    w[0] = number(spien);
+    w[1] = number(spisidl);
+    w[2] = byte_number(sisel);
 }

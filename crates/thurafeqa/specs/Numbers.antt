@@ -1,20 +1,14 @@
 -- Answers as the one number that a call returns.
-use Prim.Native.Nat.{ℕ, _+_, _*_, _%_}
+use Prim.Native.Nat.{ℕ, _+_, _*_}
 use mathlib.Core.Bool.{Bool, not}
 use lib.Dec.{eqb}
 use Rattle.spi_rules.specs.declared.Module.{Module}
-use Rattle.spi_rules.specs.declared.Said.{Said}
-use Rattle.spi_rules.specs.declared.LinkSaid.{LinkSaid}
 use Rattle.spi_rules.specs.declared.ClockSaid.{ClockSaid}
-use Rattle.spi_rules.specs.declared.Answer.{Answer}
-use Rattle.spi_rules.specs.declared.Call.{Call}
-use Rattle.spi_rules.specs.declared.Call.the-variants.{Read, Write, Tick, Pin}
 use Rattle.spi_rules.specs.declared.LinkAnswer.{LinkAnswer}
 use Rattle.spi_rules.specs.declared.Sdo.{Sdo}
 use Rattle.spi_rules.specs.declared.Sdo.the-variants.{Low, High, Undriven}
 use Rattle.thurafeqa.specs.declared.ThurafeqaClock.{ThurafeqaClock}
 use Rattle.spi_rules.specs.Choice.{if_then_else_}
-use Rattle.spi_rules.specs.Refusals.{saidOf}
 use Rattle.spi_rules.specs.Link.{linkSaidOf}
 use Rattle.spi_rules.specs.Calls.{interruptOf, sckOf, sdoOf}
 
@@ -22,21 +16,8 @@ use Rattle.spi_rules.specs.Calls.{interruptOf, sckOf, sdoOf}
 unfoldable pub levelIn : ℕ → Bool
 levelIn x = not (eqb x 0)
 
--- The call that numbers name: 0 reads a register, 1 writes the low 16 bits of a value to one, 2 is a tick, and any other
--- number a pin call.
-unfoldable pub callFrom : ℕ → ℕ → ℕ → ℕ → Call
-callFrom kind a b c =
-    if eqb kind 0 then Read a
-    else if eqb kind 1 then Write a (b % 65536)
-    else if eqb kind 2 then Tick (levelIn a)
-    else Pin (levelIn a) (levelIn b) (levelIn c)
-
--- The upper 16 bits are the refusal number, 0 if the call was not refused; the lower 16 bits are the register value of a
--- read, or the edges that a tick made, 0 or 1.
-unfoldable pub answerNumber : Answer → ℕ
-answerNumber a = saidOf a .number * 65536 + saidOf a .value + saidOf a .edges
-
--- The same of a linked run: the lower 16 bits are the edges used.
+-- The answer of a linked run: the upper 16 bits are the refusal number, 0 if it was not refused, the lower 16 bits the
+-- edges used.
 unfoldable pub linkNumber : LinkAnswer → ℕ
 linkNumber a = linkSaidOf a .number * 65536 + linkSaidOf a .edges
 

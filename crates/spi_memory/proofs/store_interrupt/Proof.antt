@@ -15,7 +15,11 @@ element-write-w c = search needs
 
 returns : tie.Need-returns
 returns c =
-    interrupt-stored (c .before .before .before .args .w .now) (c .before .is-whole .ensures .1) (c .number .result) (c .before .before .before .args .flag) (c .number .ensures)
+    interrupt-stored _
+    (c .before .is-whole .ensures .1)
+    _
+    _
+    (c .number .ensures)
 
 pub store-interrupt-spec : {M : Type 1} → statement M
 store-interrupt-spec =

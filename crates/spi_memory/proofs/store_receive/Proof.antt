@@ -75,11 +75,12 @@ element-write-w-11 c = search needs
 
 returns : tie.Need-returns
 returns c =
-    receive-stored (c .before .before .before .before .before .before .args .w .now) (c .before .before .before .before .is-whole .ensures .1)
-    (c .before .before .byte-number .result)
-    (c .before .byte-number2 .result)
-    (c .byte-number3 .result)
-    (c .before .before .before .before .before .before .args .t)
+    receive-stored _
+    (c .before .before .before .before .is-whole .ensures .1)
+    _
+    _
+    _
+    _
     (search needs)
     (c .before .before .byte-number .ensures)
     (c .before .byte-number2 .ensures)

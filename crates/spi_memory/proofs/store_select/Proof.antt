@@ -15,8 +15,11 @@ element-write-w c = search needs
 
 returns : tie.Need-returns
 returns c =
-    select-stored (c .before .before .before .args .w .now) (c .before .is-whole .ensures .1) (c .number .result) (c .before .before .before .args .ss) (c .number .ensures)
+    select-stored _
+    (c .before .is-whole .ensures .1)
+    _
+    _
+    (c .number .ensures)
 
 pub store-select-spec : {M : Type 1} → statement M
-store-select-spec =
-    tie.close (tie.spec is-whole-requires number-requires element-write-w returns)
+store-select-spec = tie.close (tie.spec is-whole-requires number-requires element-write-w returns)

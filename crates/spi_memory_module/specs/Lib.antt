@@ -1,0 +1,2 @@
+-- Definitions of calls on a module in memory.
+pub mod Steps

@@ -1,0 +1,126 @@
+// A word's steps between the edges, on a module in memory: only the numbers that a step changes are written.
+use spi_rules::Event;
+ghost use mathlib.Core.Path.{_≡_};
+ghost use Rattle.spi_rules.specs.Interrupts.{noted};
+ghost use Rattle.spi_rules.specs.Loading.{wordLeaves, loaded, rested};
+ghost use Rattle.spi_rules.specs.Finish.{delivered, sentDropped, freed, finished};
+ghost use Rattle.spi_rules.specs.Calls.{wordTaken, wordWritten};
+ghost use Rattle.spi_memory.specs.Memory.{moduleIn, onEngine};
+
+// An event is taken note of by the interrupt flag.
+pub fn note(w: &mut [u16; 96], e: Event)
+    ensures { λ _. ⌜ moduleIn (now (w .exit)) ≡ onEngine (λ s. noted s e) (moduleIn (now (w .entry))) ⌝ }
+{
+    let s = spi_memory::settings_in(w);
+    let raised = spi_settings::raises_flag(s, e);
+    let flag = spi_memory::interrupt_in(w) | raised;
+    spi_memory::store_interrupt(w, flag);
+}
+
+// The first waiting word leaves the transmit buffer.
+pub fn leave(w: &mut [u16; 96])
+    ensures { λ _. ⌜ moduleIn (now (w .exit)) ≡ onEngine wordLeaves (moduleIn (now (w .entry))) ⌝ }
+{
+    let s = spi_memory::settings_in(w);
+    let t = spi_memory::transmit_in(w);
+    let less = spi_buffers::without_first_waiting(spi_settings::depth(s), t);
+    spi_memory::store_transmit(w, less);
+    note(w, Event::Left(less.count));
+}
+
+// The first waiting word loads, if it can.
+pub fn load(w: &mut [u16; 96])
+    ensures { λ _. ⌜ moduleIn (now (w .exit)) ≡ onEngine loaded (moduleIn (now (w .entry))) ⌝ }
+{
+    let s = spi_memory::settings_in(w);
+    let t = spi_memory::transmit_in(w);
+    if spi_memory::is_free(w) & (!spi_settings::ssen_client(s) & !(t.count == 0)) {
+        let word = spi_buffers::first_waiting(t);
+        spi_memory::store_loaded(w, word);
+        leave(w);
+    }
+}
+
+// With CKE 1 and no word begun SDO shows the top bit of the word to be sent next.
+pub fn rest(w: &mut [u16; 96])
+    ensures { λ _. ⌜ moduleIn (now (w .exit)) ≡ onEngine rested (moduleIn (now (w .entry))) ⌝ }
+{
+    let s = spi_memory::settings_in(w);
+    if s.con1.cke & !spi_memory::is_begun(w) {
+        let shift = spi_memory::shift_in(w);
+        let t = spi_memory::transmit_in(w);
+        let level = spi_words::next_top(s, t, shift);
+        spi_memory::store_sdo(w, level);
+    }
+}
+
+// A received word is appended, or lost with SPIROV set.
+pub fn deliver(w: &mut [u16; 96], word: u16)
+    ensures { λ _. ⌜ moduleIn (now (w .exit)) ≡ onEngine (λ s. delivered s word) (moduleIn (now (w .entry))) ⌝ }
+{
+    let s = spi_memory::settings_in(w);
+    let r = spi_memory::receive_in(w);
+    let depth = spi_settings::depth(s);
+    if depth <= r.count {
+        spi_memory::store_spirov(w, true);
+    } else {
+        let more = spi_buffers::with_appended(depth, word, r);
+        spi_memory::store_receive(w, more);
+        note(w, Event::Appended(more.count));
+    }
+}
+
+// An SSEN client drops the word that it sent, unless that was a filler.
+pub fn drop_sent(w: &mut [u16; 96], filler: bool)
+    ensures { λ _. ⌜ moduleIn (now (w .exit)) ≡ onEngine (λ s. sentDropped s filler) (moduleIn (now (w .entry))) ⌝ }
+{
+    let s = spi_memory::settings_in(w);
+    if spi_settings::ssen_client(s) & !filler {
+        leave(w);
+    }
+}
+
+// The shift register is free after a finish.
+pub fn free_after_finish(w: &mut [u16; 96])
+    ensures { λ _. ⌜ moduleIn (now (w .exit)) ≡ onEngine freed (moduleIn (now (w .entry))) ⌝ }
+{
+    spi_memory::store_free(w);
+    let t = spi_memory::transmit_in(w);
+    note(w, Event::Finished(t.count));
+}
+
+// A word's last edge.
+pub fn finish(w: &mut [u16; 96], filler: bool, word: u16)
+    ensures { λ _. ⌜ moduleIn (now (w .exit)) ≡ onEngine (λ s. finished s filler word) (moduleIn (now (w .entry))) ⌝ }
+{
+    deliver(w, word);
+    drop_sent(w, filler);
+    free_after_finish(w);
+    load(w);
+    rest(w);
+}
+
+// The first unread word is taken.
+pub fn take_word(w: &mut [u16; 96])
+    ensures { λ _. ⌜ moduleIn (now (w .exit)) ≡ onEngine wordTaken (moduleIn (now (w .entry))) ⌝ }
+{
+    let s = spi_memory::settings_in(w);
+    let r = spi_memory::receive_in(w);
+    let less = spi_buffers::without_first_unread(spi_settings::depth(s), r);
+    spi_memory::store_receive(w, less);
+    note(w, Event::Taken(less.count));
+}
+
+// A word is accepted for sending.
+pub fn accept_word(w: &mut [u16; 96], word: u16)
+    ensures { λ _. ⌜ moduleIn (now (w .exit)) ≡ onEngine (λ s. wordWritten s word) (moduleIn (now (w .entry))) ⌝ }
+{
+    let s = spi_memory::settings_in(w);
+    let t = spi_memory::transmit_in(w);
+    let more = spi_buffers::with_written(spi_settings::depth(s), word, t);
+    spi_memory::store_transmit(w, more);
+    load(w);
+    let left = spi_memory::transmit_in(w);
+    note(w, Event::Written(left.count));
+    rest(w);
+}

@@ -1,2 +1,0 @@
--- What the short ways say.
-pub mod Within
