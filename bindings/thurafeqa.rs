@@ -18,7 +18,7 @@ struct ClockReport {
 }
 
 // Each takes any module and any numbers, and ends. What else a caller owes, Rust's references bring along: no null, no
-// two calls on one module at a time, and two different modules in a linked run. So all are safe.
+// call on a module while another changes it, and two different modules in a linked run. So all are safe.
 unsafe extern "C" {
     safe fn thurafeqa_power_up(m: &mut Module);
     safe fn thurafeqa_read(m: &mut Module, register: u32) -> u32;

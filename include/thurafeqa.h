@@ -25,8 +25,8 @@
  * Every call takes any module and any argument, and ends. It asks only this:
  * - pointers are not null, and each points to a whole thurafeqa;
  * - the two modules of a linked run are two different objects;
- * - calls on one module do not run at the same time. Calls on different
- *   modules may.
+ * - no call runs on a module while another changes it. Calls on different
+ *   modules may run at the same time.
  *
  * Answers. The upper 16 bits of an answer are the refusal number, 0 if the call
  * was done; the lower 16 bits are what the call tells, 0 if it was refused. A
@@ -79,7 +79,8 @@ static inline uint16_t thurafeqa_value(uint32_t answer)
 #define THURAFEQA_BUF 3u
 
 /* STAT. A write takes SPIEN, SPISIDL and SISEL, and a 0 in SPIROV clears that
- * bit; the others are read-only. */
+ * bit; the others are read-only. SPIBEC, SRMPT and SRXMPT read 0 in standard
+ * operation and while disabled, and SPIBEC shows 8 words as 7. */
 #define THURAFEQA_STAT_SPIEN 0x8000u   /* enabled */
 #define THURAFEQA_STAT_SPISIDL 0x2000u /* kept, without effect */
 #define THURAFEQA_STAT_SPIBEC 0x0700u  /* words waiting; a client's unread */
@@ -159,13 +160,14 @@ uint32_t thurafeqa_levels(const thurafeqa *m);
 
 /* Runs two modules on one wire until the host has no more to send, or for
  * `limit` edges; the answer's value is the number of edges that the host made.
- * Client and host must be two different objects. A limit of 288 always ends
- * with an idle host.
+ * Client and host must be two different objects. A limit of 288 ends with an
+ * idle host, whatever calls were made since power-up.
  * Refusals: 11, then 2 (either disabled), 7 (the host has no clock of its own,
  * or the client is a host), 10. */
 uint32_t thurafeqa_linked(thurafeqa *host, thurafeqa *client, uint32_t limit);
 
-/* A clock report. What is not carried is 0. */
+/* A clock report. What is not carried is 0; a refused report carries nothing,
+ * so look at the number first. */
 typedef struct {
     uint32_t number; /* the refusal number, 0 if not refused */
     uint32_t kind;   /* one of the three below */
@@ -174,12 +176,12 @@ typedef struct {
     double below;    /* external: what the clock must stay below */
 } thurafeqa_clock_report;
 
-#define THURAFEQA_CLOCK_NONE 0u     /* the module is disabled */
+#define THURAFEQA_CLOCK_NONE 0u     /* not refused: the module is disabled */
 #define THURAFEQA_CLOCK_INTERNAL 1u /* a host with its own clock */
 #define THURAFEQA_CLOCK_EXTERNAL 2u /* a module clocked from its pin */
 
-/* The clock report for an instruction rate: with the divider D of CON1, the
- * rate is rate / D and the bit time D / rate, each rounded once.
+/* The clock report for an instruction rate F: with the divider D of CON1, the
+ * clock's rate is F / D and the bit time D / F, each rounded once.
  * Refusal: 8, also of a disabled module. */
 thurafeqa_clock_report thurafeqa_clock(const thurafeqa *m, uint32_t rate);
 

@@ -1,5 +1,4 @@
 -- What the forms of a line say.
---     fits-length    a line that has a form has its length
 --     fits-at        each byte of a line that has a form fits its place
 --     not-write, not-read, not-tick, not-pin, not-clear    a line of another length does not have the form
 --     as-write, as-read, as-tick, as-pin, as-clear         a line of the form reads as the form's call
@@ -12,7 +11,7 @@ use Prim.Native.Char.{code}
 use native.Mathlib.Omega.{arith}
 use mathlib.Core.Bool.{Bool, true, false, _&&_}
 use mathlib.Core.List.{List, [], _∷_}
-use mathlib.Core.Path.{_≡_, refl, ap}
+use mathlib.Core.Path.{_≡_, refl}
 use lib.Dec.{eqb}
 use lib.ListN.{length, getD}
 use Rattle.spi_rules.specs.declared.Line.the-variants.{Unreadable, Asked}
@@ -20,21 +19,7 @@ use Rattle.spi_rules.specs.declared.Call.the-variants.{Read, Write, Tick, Pin, 
 use Rattle.spi_rules.specs.Choice.{if_then_else_}
 use Rattle.spi_rules.specs.Script.{Place, digit, hexDigit, level, space, fitsPlace, fits, writeForm, readForm, tickForm, pinForm, clearForm, digitValue, fourHexValue, levelValue, at, readingOf}
 use Rattle.spi_rules.proofs.Keeps.{clash, and-left, and-right}
-
--- A test is true or false.
-either : {A : Type 0} (b : Bool) → (b ≡ true → A) → (b ≡ false → A) → A
-either true h k = h refl
-either false h k = k refl
-
-pub fits-length : (form : List Place) (line : List ℕ) → fits form line ≡ true → length line ≡ length form
-unfolding fits
-fits-length [] [] e = refl
-fits-length [] (b ∷ bs) e = clash false e refl
-fits-length (p ∷ ps) [] e = clash false e refl
-fits-length (p ∷ ps) (b ∷ bs) e = ap suc (fits-length ps bs (and-right (fitsPlace p b) (fits ps bs) e))
-
-not-fits : (form : List Place) (line : List ℕ) → (length line ≡ length form → ⊥) → fits form line ≡ false
-not-fits form line h = either (fits form line) (λ e. absurd (h (fits-length form line e))) (λ e. e)
+use Rattle.spi_rules.proofs.ScriptLines.{not-fits}
 
 pub fits-at : (form : List Place) (line : List ℕ) → fits form line ≡ true → (k : ℕ) → k < length form →
     fitsPlace (getD form k level) (getD line k 0) ≡ true

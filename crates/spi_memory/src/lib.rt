@@ -203,7 +203,7 @@ fn counted(w: [u16; 96]) -> bool
     true
 }
 
-pub fn is_whole(w: &[u16; 96]) -> bool
+fn is_whole(w: &[u16; 96]) -> bool
     ensures { λ r. ⌜ (r ≡ true) × (length (now (w .entry)) ≡ 96) ⌝ }
 {
     counted(*w)

@@ -1,11 +1,11 @@
 -- A linked run step by step, by what is seen of its ends.
---     linkable                                            the tests of a run leave a host and a client that can be linked
---     host-level, client-level                            the level that the other end reads
---     shown, linkable-shown                               the client sees the host's levels, and is selected from then on
---     wired-ticked                                        an edge of the host leaves both ends wired
---     ends, stops, hands-over                             the host's turn: none left, no word, or an edge
---     too-many, either-off, wrong-ends, unlike-modes      the refusals of a run, in the order of its tests
---     runs                                                a run that is not refused
+--     tested, linkable          the tests of a run leave a host and a client that can be linked
+--     shown                     the client sees the host's levels
+--     wired-turned, wired-shown an edge of the host leaves both ends wired, and the client's look at its levels makes them so
+--     ends, stops, hands-over   the host's turn: none left, no word, or an edge
+--     too-many, either-off, wrong-ends, unlike-modes
+--                               the refusals of a run, in the order of its tests
+--     runs                      a run that is not refused
 -- Assumes nothing.
 use Prim.Native.Nat.{ℕ, zero, suc, _-_, _<_, _≤_}
 use mathlib.Core.Bool.{Bool, true, false, not, _&&_, _||_}
@@ -74,13 +74,13 @@ module-level m on near =
 
 module _ {host client : Module} where
   -- A host is never deselected.
-  pub host-level : Linkable host client → openLevel host ≡ levelRead (sdoOf host)
+  host-level : Linkable host client → openLevel host ≡ levelRead (sdoOf host)
   host-level l =
       module-level host (l .hostOn)
       (ap (λ (b : Bool). b && host .engine .pins .ss) (own-not-client (host .settings) (l .own)))
 
   -- A wired client is selected.
-  pub client-level : Wired host client → openLevel client ≡ levelRead (sdoOf client)
+  client-level : Wired host client → openLevel client ≡ levelRead (sdoOf client)
   client-level w =
       module-level client (w .linkable .clientOn) (and-false (ssenClient (client .settings)) _ (w .selected))
 

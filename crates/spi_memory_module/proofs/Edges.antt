@@ -34,8 +34,9 @@ use Rattle.spi_rules.specs.Loading.{isBegun, wordLeaves, loaded, rested, sdoAt}
 use Rattle.spi_rules.specs.Finish.{overflowed, wordAppended, isLost, delivered, sentDropped, freed, finished}
 use Rattle.spi_rules.specs.Select.{selectRemembered, aborted, deselected, selectSeen}
 use Rattle.spi_rules.specs.Edge.{wordEdges, fresh, begun, shifted, advanced, advancedIfBegun, underWay, clocked, edged, stepped}
-use Rattle.spi_rules.proofs.Keeps.{if-keeps, if-ap, and-left, or-left, or-right, clash, like}
+use Rattle.spi_rules.proofs.Keeps.{if-keeps, if-ap, or-left, or-right, clash, like}
 use Rattle.spi_rules.proofs.Choices.{so, not-so, by-case}
+use Rattle.spi_rules.proofs.Accepted.{own-edge}
 use Rattle.spi_memory.specs.Memory.{onEngine, withShift, goneOn}
 use Rattle.spi_memory_module.specs.Steps.{edgeCounted}
 
@@ -279,13 +280,6 @@ module _ (s : Settings) (sck sdi : Bool) (n : Engine) where
       same-under-way s sdi (clocked sck n) sck
       ∙ ap (λ (x : Shift). advancedIfBegun s sdi x (clocked sck n)) (clocked-same s sck n)
 
-  -- A begun word is under way at either level.
-  begun-held : (x : Shift) → n .shift ≡ x → isBegun x ≡ true → n .shift ≡ underWay s sck n
-  begun-held Free x e = clash false e refl
-  begun-held (Loaded word) x e = clash false e refl
-  begun-held (Begun p) x e = goes-on s sck n x
-  -- A word already begun goes on.
-
 -- A conjunction whose first part is false is false.
 and-first : (a b : Bool) → a ≡ false → (a && b) ≡ false
 and-first true b e = clash true refl e
@@ -347,21 +341,11 @@ module _ (s : Settings) (sck sdi ss : Bool) (n : Engine) where
       (not-so (deselected s (selectSeen s ss n .pins .ss)) _ _ (ap (deselected s) seen-level ∙ d)
       (ap (edgeCounted s sck sdi) (select-seen d)))
 
--- The level is not its opposite.
-changes : (b : Bool) → Bool·beq (not b) b ≡ false
-changes true = refl
-changes false = refl
-
--- A host is never deselected.
-host-selected : (s : Settings) (ss : Bool) → ownClock s ≡ true → deselected s ss ≡ false
-host-selected s ss e = rw (and-left (s .con1 .msten) (not (s .con1 .dissck)) e)
-
 -- A tick is an edge to the other level.
 pub turned : (s : Settings) (sdi : Bool) (n : Engine) → ownClock s ≡ true →
     edgeCounted s (not (n .pins .sck)) sdi n ≡ stepped s (not (n .pins .sck)) sdi (n .pins .ss) n
-unfolding selectRemembered
-turned s sdi n e =
-    see-edge s (not (n .pins .sck)) sdi (n .pins .ss) n (host-selected s (n .pins .ss) e) (changes (n .pins .sck))
+unfolding edgeCounted
+turned s sdi n own = sym (own-edge s n own sdi)
 
 -- A begun word is forgotten, and with none begun nothing is.
 module _ (m : Module) where

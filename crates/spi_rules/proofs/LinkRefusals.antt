@@ -3,12 +3,11 @@
 --     link-numbers            those rows have the numbers 11, 2, 7 and 10
 -- Assumes nothing.
 use Prim.Native.Nat.{ℕ}
-use mathlib.Core.Bool.{Bool}
 use mathlib.Core.List.{[], _∷_, map}
 use mathlib.Core.Path.{_≡_, refl, ap, _∙_}
 use lib.Dec.{ltb}
 use Rattle.spi_rules.specs.declared.Module.{Module}
-use Rattle.spi_rules.specs.declared.Refusal.the-variants.{Disabled, WrongClock, DifferentModes, TooManyEdges}
+use Rattle.spi_rules.specs.declared.Refusal.the-variants.{Disabled, WrongClock, TooManyEdges}
 use Rattle.spi_rules.specs.declared.Linked.{Linked}
 use Rattle.spi_rules.specs.Choice.{if_then_else_}
 use Rattle.spi_rules.specs.Refusals.{numberOf}

@@ -6,6 +6,7 @@
 --     lines-end                   a text without LF, an LF and a rest are that text as a line, and the lines of the rest
 --     lines-at-most               there are no more lines than bytes
 --     first-line-taken            the first line is what the bytes begin with
+--     not-fits                    a line of another length than a form does not have it
 --     too-long                    a line of more than 16 bytes cannot be read
 -- Assumes nothing.
 use Prim.Native.Nat.{ℕ, suc, _+_, _≤_, _<_}
@@ -98,22 +99,22 @@ first-line-taken (b ∷ bs) =
     (λ e. refl)
     (λ e. ap {B = List ℕ} (λ line. b ∷ line) (first-line-taken bs))
 
--- Lines that are too long.
+-- Lines of another length.
 
--- A line of more bytes than a form has places does not have that form.
-no-byte-more : (ps : List Place) (bs : List ℕ) → length ps < length bs → fits ps bs ≡ false
+-- A line of another length than a form has places does not have that form.
+pub not-fits : (ps : List Place) (bs : List ℕ) → (length bs ≡ length ps → ⊥) → fits ps bs ≡ false
 unfolding fits
-no-byte-more [] [] h = absurd (omega arith)
-no-byte-more [] (b ∷ bs) h = refl
-no-byte-more (p ∷ ps) [] h = absurd (omega arith)
-no-byte-more (p ∷ ps) (b ∷ bs) h = and-false (fitsPlace p b) (fits ps bs) (no-byte-more ps bs (omega arith))
+not-fits [] [] h = absurd (h refl)
+not-fits [] (b ∷ bs) h = refl
+not-fits (p ∷ ps) [] h = refl
+not-fits (p ∷ ps) (b ∷ bs) h = and-false (fitsPlace p b) (fits ps bs) (not-fits ps bs (λ e. h (ap suc e)))
 
 -- A line of more than 16 bytes has none of the forms.
 pub too-long : (line : List ℕ) → 16 < length line → readingOf line ≡ Unreadable
 unfolding readingOf writeForm readForm tickForm pinForm clearForm
 too-long line h =
     let no : (form : List Place) → length form ≤ 16 → fits form line ≡ false
-    = λ form k. no-byte-more form line (omega arith) in
+    = λ form k. not-fits form line (λ e. omega arith) in
     if-false (fits writeForm line) _ _ (no writeForm (omega arith))
     ∙ if-false (fits readForm line) _ _ (no readForm (omega arith))
     ∙ if-false (fits tickForm line) _ _ (no tickForm (omega arith))

@@ -1,7 +1,7 @@
 -- Document 01, "Checked examples": each as calls from power-up with what they must answer and show.
 -- proofs/ExamplesHold.antt proves them together, as one list.
 use Prim.Native.Nat.{ℕ}
-use mathlib.Core.Bool.{Bool, true, false, not, _&&_, Bool·beq}
+use mathlib.Core.Bool.{Bool, true, false, _&&_, Bool·beq}
 use mathlib.Core.List.{List, [], _∷_, _++_}
 use lib.Dec.{eqb}
 use lib.ListN.{replicate}

@@ -3,10 +3,10 @@
 pub mod Choice
 pub mod Ring
 pub mod Settings
+pub mod Buffers
 pub mod Registers
 pub mod Refusals
 pub mod Interrupts
-pub mod Buffers
 pub mod Loading
 pub mod Bits
 pub mod Finish

@@ -1,6 +1,6 @@
 -- Document 01, "Registers": the bits, what reads show, and what writes take.
 use Prim.Native.Nat.{ℕ, _+_, _*_, _/_, _%_, _^_}
-use mathlib.Core.Bool.{Bool, true, false, not, _&&_}
+use mathlib.Core.Bool.{Bool, true, false, _&&_}
 use lib.Dec.{eqb, ltb}
 use Rattle.spi_rules.specs.declared.Con1.{Con1}
 use Rattle.spi_rules.specs.declared.Con2.{Con2}

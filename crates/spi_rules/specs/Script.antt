@@ -1,14 +1,13 @@
 -- Document 01, "The script program": what a script's bytes ask for, and the bytes that answer them. A byte is a number;
 -- `code "W"` is the number of the letter W in ASCII.
 use Prim.Native.Nat.{ℕ, zero, suc, _+_, _*_, _-_, _/_, _%_}
-use Prim.Native.Char.{Char, code}
+use Prim.Native.Char.{code}
 use Prim.Native.String.{String, [] as no-more, _∷_ as _then_}
 use mathlib.Core.Bool.{Bool, true, false, _&&_, _||_}
 use mathlib.Core.List.{List, [], _∷_, _++_}
 use lib.Dec.{eqb, leb, ltb}
-use lib.ListN.{length, take, getD}
+use lib.ListN.{take, getD}
 use Rattle.spi_rules.specs.declared.Module.{Module}
-use Rattle.spi_rules.specs.declared.Outcome.{Outcome}
 use Rattle.spi_rules.specs.declared.Refusal.{Refusal}
 use Rattle.spi_rules.specs.declared.Refusal.the-variants.{UnreadableLine}
 use Rattle.spi_rules.specs.declared.Answer.{Answer}

@@ -1,5 +1,5 @@
 -- Document 01, "Registers" and "One edge at a time": what the settings decide.
-use Prim.Native.Nat.{ℕ, _-_}
+use Prim.Native.Nat.{ℕ}
 use mathlib.Core.Bool.{Bool, not, _&&_}
 use Rattle.spi_rules.specs.declared.Settings.{Settings}
 use Rattle.spi_rules.specs.Choice.{if_then_else_}

@@ -10,18 +10,15 @@
 --     answer-short     what a call's answer tells takes at most five bytes
 --     asked-text       what a line that asks for a call tells
 -- Assumes nothing.
-use Prim.Native.Nat.{ℕ, zero, suc, _+_, _*_, _/_, _%_, _^_, _<_, _≤_}
+use Prim.Native.Nat.{ℕ, zero, suc, _+_, _/_, _%_, _^_, _<_, _≤_}
 use Prim.Native.Char.{code}
-use mathlib.Core.Bool.{Bool, true, false}
 use mathlib.Core.List.{List, [], _∷_, _++_}
 use mathlib.Core.Path.{_≡_, refl, sym, _∙_, ap}
 use native.Mathlib.Omega.{arith}
-use native.Mathlib.Numerals.{add-one}
 use native.Mathlib.Nat.{pow-suc, div-lt-iff-lt-mul}
 use borrow.Author.Tests.{ltb-false, le-ltb, lt-ltb}
 use lib.Dec.{ltb}
 use lib.ListN.{length, set, length-append}
-use Rattle.spi_rules.specs.Choice.{if_then_else_}
 use Rattle.spi_rules.specs.Script.{decimalIn, decimalOf, answerText, lineText}
 use Rattle.spi_rules.specs.Session.{put}
 use Rattle.spi_rules.specs.declared.Module.{Module}
@@ -33,7 +30,7 @@ use Rattle.spi_rules.specs.declared.Refusal.{Refusal}
 use Rattle.spi_rules.specs.Calls.{performOf}
 use Rattle.spi_rules.specs.Refusals.{numberOf}
 use Rattle.spi_rules.proofs.ScriptSizes.{number-below, decimal-length, answer-length}
-use Rattle.spi_rules.proofs.Keeps.{if-both, if-keeps, if-true, if-false}
+use Rattle.spi_rules.proofs.Keeps.{if-both, if-true, if-false}
 use Rattle.spi_session.specs.Written.{Written}
 
 pub put-then : (buffer : List ℕ) (place : ℕ) (xs ys : List ℕ) →

@@ -3,7 +3,6 @@
 use spi_rules::Event;
 use spi_rules::Settings;
 ghost use mathlib.Core.Path.{_≡_};
-ghost use Prim.Native.Nat.{ℕ, _≤_};
 ghost use Rattle.spi_rules.specs.Settings.{widthOf, depthOf, ssenClient, ownClock};
 ghost use Rattle.spi_rules.specs.Refusals.{framing, undivided, lateSampling, unselectedCke, badSettings};
 ghost use Rattle.spi_rules.specs.Interrupts.{enhancedRaises, standardRaises, raises};

@@ -1,5 +1,4 @@
 -- Each branch is a value of the choice.
-use Rattle.spi_rules.specs.Choice.{if_then_else_}
 use Rattle.spi_rules.specs.Script.{levelOf}
 use Rattle.spi_rules.proofs.Choices.{so, not-so}
 use Rattle.spi_session.proofs.level_letter.Statement.{statement}

@@ -1,6 +1,6 @@
 -- The letter is the digit of the definition.
 use borrow.Author.Needs.{needs}
-use mathlib.Core.List.{List, [], _∷_}
+use mathlib.Core.List.{[], _∷_}
 use Prim.Native.Nat.{ℕ}
 use mathlib.Core.Path.{sym}
 use Rattle.spi_session.proofs.Texts.{written-case}
