@@ -34,16 +34,12 @@ use Rattle.spi_rules.specs.Loading.{isBegun, wordLeaves, loaded, rested, sdoAt}
 use Rattle.spi_rules.specs.Finish.{overflowed, wordAppended, isLost, delivered, sentDropped, freed, finished}
 use Rattle.spi_rules.specs.Select.{selectRemembered, aborted, deselected, selectSeen}
 use Rattle.spi_rules.specs.Edge.{wordEdges, fresh, begun, shifted, advanced, advancedIfBegun, underWay, clocked, edged, stepped}
-use Rattle.spi_rules.proofs.Keeps.{if-keeps, if-ap, or-left, or-right, clash, like}
+use Rattle.spi_rules.proofs.Keeps.{if-keeps, if-ap, or-left, or-right, like, and-first, or-rest-first}
 use Rattle.spi_rules.proofs.Choices.{so, not-so, by-case}
 use Rattle.spi_rules.proofs.Accepted.{own-edge}
+use Rattle.spi_rules.proofs.LinkSelect.{seen-select}
 use Rattle.spi_memory.specs.Memory.{onEngine, withShift, goneOn}
 use Rattle.spi_memory_module.specs.Steps.{edgeCounted}
-
--- A true disjunction whose second part is false has a true first part.
-or-rest-first : (a b : Bool) → (a || b) ≡ true → b ≡ false → a ≡ true
-or-rest-first true b e f = refl
-or-rest-first false b e f = clash b e f
 
 -- What is under way, by what the shift register holds.
 module _ (s : Settings) (sck : Bool) (n : Engine) where
@@ -280,11 +276,6 @@ module _ (s : Settings) (sck sdi : Bool) (n : Engine) where
       same-under-way s sdi (clocked sck n) sck
       ∙ ap (λ (x : Shift). advancedIfBegun s sdi x (clocked sck n)) (clocked-same s sck n)
 
--- A conjunction whose first part is false is false.
-and-first : (a b : Bool) → a ≡ false → (a && b) ≡ false
-and-first true b e = clash true refl e
-and-first false b e = refl
-
 -- A clock level as it was is remembered already.
 still : {sck : Bool} (n : Engine) → sck ≡ n .pins .sck → clocked sck n ≡ n
 unfolding clocked
@@ -305,11 +296,6 @@ module _ (s : Settings) (sck sdi ss : Bool) (n : Engine) where
   unfolding selectSeen
   select-seen d = not-so (deselected s ss && isBegun (n .shift)) _ _ (and-first (deselected s ss) (isBegun (n .shift)) d) refl
 
-  -- The select level is remembered.
-  seen-level : selectSeen s ss n .pins .ss ≡ ss
-  unfolding selectSeen selectRemembered aborted rested sdoAt
-  seen-level = if-keeps (λ (x : Engine). x .pins .ss ≡ ss) (deselected s ss && isBegun (n .shift)) _ _ (λ e. refl) (λ e. refl)
-
   -- The clock level stays.
   seen-clock : selectSeen s ss n .pins .sck ≡ n .pins .sck
   unfolding selectSeen selectRemembered aborted rested sdoAt
@@ -325,7 +311,7 @@ module _ (s : Settings) (sck sdi ss : Bool) (n : Engine) where
       ap (clocked sck) (sym (abort-seen d))
       ∙ if-keeps (λ (x : Engine). clocked sck (selectSeen s ss n) ≡ x) (Bool·beq sck (n .pins .sck)) _ _
       (λ e. still (selectSeen s ss n) (like sck (n .pins .sck) e ∙ sym seen-clock))
-      (λ e. so (deselected s (selectSeen s ss n .pins .ss)) _ _ (ap (deselected s) seen-level ∙ d) refl)
+      (λ e. so (deselected s (selectSeen s ss n .pins .ss)) _ _ (ap (deselected s) (seen-select s ss n) ∙ d) refl)
 
   -- The clock level is as it was: there is no edge.
   pub see-same : deselected s ss ≡ false → Bool·beq sck (n .pins .sck) ≡ true → selectRemembered ss n ≡ stepped s sck sdi ss n
@@ -338,7 +324,7 @@ module _ (s : Settings) (sck sdi ss : Bool) (n : Engine) where
   unfolding stepped edged edgeCounted
   see-edge d e =
       not-so (Bool·beq sck (n .pins .sck)) _ _ e
-      (not-so (deselected s (selectSeen s ss n .pins .ss)) _ _ (ap (deselected s) seen-level ∙ d)
+      (not-so (deselected s (selectSeen s ss n .pins .ss)) _ _ (ap (deselected s) (seen-select s ss n) ∙ d)
       (ap (edgeCounted s sck sdi) (select-seen d)))
 
 -- A tick is an edge to the other level.

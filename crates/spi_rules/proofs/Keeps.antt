@@ -5,9 +5,9 @@
 --     if-true, if-false               a choice whose test is settled is one of its values
 --     and-left, and-right, and-both   the parts of a conjunction that is true
 --     and-rest, and-rest-first        the part of a false conjunction that is false, the other being true
---     and-false                       a conjunction with a false second part
+--     and-false, and-first            a conjunction with a false second part, and with a false first part
 --     or-left, or-right               the parts of a false disjunction
---     or-rest                         the part of a true disjunction that is true, the first being false
+--     or-rest, or-rest-first          the part of a true disjunction that is true, the other being false
 --     by-test                         what follows from a test that is true, and from one that is false
 --     clash                           a test is not both true and false
 --     unlike, like                    two levels that differ, and two that agree
@@ -74,6 +74,11 @@ pub and-false : (a b : Bool) → b ≡ false → (a && b) ≡ false
 and-false true b e = e
 and-false false b e = refl
 
+-- A conjunction whose first part is false is false.
+pub and-first : (a b : Bool) → a ≡ false → (a && b) ≡ false
+and-first true b e = clash true refl e
+and-first false b e = refl
+
 -- The first part of a false disjunction is false.
 pub or-left : (a b : Bool) → (a || b) ≡ false → a ≡ false
 or-left true b e = e
@@ -88,6 +93,11 @@ or-right false b e = e
 pub or-rest : (a b : Bool) → (a || b) ≡ true → a ≡ false → b ≡ true
 or-rest true b e f = clash true refl f
 or-rest false b e f = e
+
+-- A true disjunction whose second part is false has a true first part.
+pub or-rest-first : (a b : Bool) → (a || b) ≡ true → b ≡ false → a ≡ true
+or-rest-first true b e f = refl
+or-rest-first false b e f = clash b e f
 
 -- A test is true or false.
 pub by-test : {A : Type 0} (b : Bool) → (b ≡ true → A) → (b ≡ false → A) → A

@@ -1,4 +1,5 @@
 -- The select level that a module remembers is the one last shown to it, so a linked run leaves its client's select low.
+--     seen-select      a select level that is seen is remembered
 --     stepped-select   the levels seen leave the select level that they show
 --     link-selected    after a linked run the client's select is low
 -- Assumes nothing.
@@ -58,7 +59,7 @@ module _ (s : Settings) (ss : Bool) where
       (λ e. advanced-select sdi (underWay s sck n) (clocked sck n) h)
 
   -- A select level that is seen is remembered.
-  seen-select : (n : Engine) → Shows ss (selectSeen s ss n)
+  pub seen-select : (n : Engine) → Shows ss (selectSeen s ss n)
   unfolding selectSeen aborted rested sdoAt selectRemembered
   seen-select n = if-keeps (Shows ss) (deselected s ss && isBegun (n .shift)) _ _ (λ e. refl) (λ e. refl)
 
