@@ -1,4 +1,4 @@
-// Two modules in memory on one wire: a linked run, turn by turn, on the numbers that it changes. Any numbers and any limit
+// Two modules in memory on one wire: a linked run, turn by turn, on the parts that it changes. Any numbers and any limit
 // are answered, and a refused run changes none.
 use spi_rules::LinkAnswer;
 use spi_rules::Refusal;

@@ -1,4 +1,4 @@
-// One SPI module in memory: its calls, each on the numbers that it changes. Any numbers are answered, and a refused call
+// One SPI module in memory: its calls, each on the parts that it changes. Any numbers are answered, and a refused call
 // changes none.
 use spi_rules::Answer;
 use spi_rules::Refusal;

@@ -1,4 +1,4 @@
-// A word's steps between the edges, on a module in memory: only the numbers that a step changes are written.
+// A word's steps between the edges, on a module in memory: only the parts that a step changes are stored.
 use spi_rules::Event;
 ghost use mathlib.Core.Path.{_≡_};
 ghost use Rattle.spi_rules.specs.Interrupts.{noted};
