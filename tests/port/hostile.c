@@ -10,9 +10,9 @@
  * - the answer's shape is legal, and the refusal number is the one that the
  *   table asks for, going by what the registers showed before the call;
  * - what the registers and levels show is legal;
- * - a call that is refused, or only looks, has no effect: the registers and
- *   levels show the same as before, and a third copy that is spared all such
- *   calls goes on giving the same answers;
+ * - a call that is refused, or only looks, has no effect: every number of
+ *   memory is as before, the registers and levels show the same, and a third
+ *   copy that is spared all such calls goes on giving the same answers;
  * - the calls on constant memory leave it as it is, and work on memory that
  *   cannot be written.
  * Exit 0: all held. Exit 1: something did not, or a refusal was not reached.
@@ -410,7 +410,7 @@ static void make(void)
         if (spared)
             hold(memcmp(seen[i], after[i], sizeof seen[i]) == 0,
                  "what is shown changed, and should not have");
-        if (now.kind == CLOCK || i >= concerned(&now))
+        if (spared || i >= concerned(&now))
             hold(memcmp(&before[i], copies[0][i].m, sizeof before[i]) == 0,
                  "memory changed, and should not have");
     }

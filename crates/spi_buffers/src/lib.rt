@@ -10,7 +10,6 @@ use spi_rules::Transmit;
 ghost use mathlib.Core.Path.{_≡_};
 ghost use Rattle.spi_rules.specs.Ring.{next};
 ghost use Rattle.spi_rules.specs.Registers.{isFree};
-ghost use Rattle.spi_rules.specs.Loading.{isBegun};
 ghost use Rattle.spi_rules.specs.Buffers.{emptyTransmit, emptyReceive, firstWaiting, firstUnread, written, departed, appended, taken};
 
 // The position after `at`.
@@ -137,16 +136,5 @@ pub fn is_free(shift: Shift) -> bool
         Shift::Free => true,
         Shift::Loaded(_) => false,
         Shift::Begun(_) => false,
-    }
-}
-
-// Whether a word or a filler has begun.
-pub fn is_begun(shift: Shift) -> bool
-    ensures { λ r. ⌜ r ≡ isBegun shift ⌝ }
-{
-    match shift {
-        Shift::Free => false,
-        Shift::Loaded(_) => false,
-        Shift::Begun(_) => true,
     }
 }

@@ -7,7 +7,7 @@ use spi_rules::Refusal;
 use spi_rules::Reported;
 use spi_rules::Settings;
 ghost use mathlib.Core.Path.{_≡_};
-ghost use Rattle.spi_rules.specs.Clock.{primaryOf, secondaryOf, dividerOf, ratesOf, clockOf, reportOf, saidClock};
+ghost use Rattle.spi_rules.specs.Clock.{primaryOf, secondaryOf, dividerOf, ratesOf, clockOf, reportBy, reportOf, saidClock};
 
 // The primary prescaler by PPRE.
 const PRIMARY: [u8; 4] = [64, 16, 4, 1];
@@ -61,16 +61,23 @@ pub fn clock_of(s: Settings, f: u32) -> Clock
     }
 }
 
-// The report for an instruction rate. Refuses the rate 0, also on a disabled module.
-pub fn report(m: Module, f: u32) -> Reported
-    ensures { λ r. ⌜ r ≡ reportOf m f ⌝ }
+// The report for an instruction rate, by settings. Refuses the rate 0, also on a disabled module.
+pub fn report_by(s: Settings, f: u32) -> Reported
+    ensures { λ r. ⌜ r ≡ reportBy s f ⌝ }
 {
-    let s = m.settings;
     if f == 0 {
         Reported::Refused(Refusal::NoRate)
     } else {
         Reported::Answered(clock_of(s, f))
     }
+}
+
+// The report of a module.
+pub fn report(m: Module, f: u32) -> Reported
+    ensures { λ r. ⌜ r ≡ reportOf m f ⌝ }
+{
+    let s = m.settings;
+    report_by(s, f)
 }
 
 // A report in the paper's numbers.

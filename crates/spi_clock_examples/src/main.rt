@@ -6,11 +6,11 @@ use spi_rules::Module;
 
 // A module with this CON1, enabled or not.
 fn module(con1: u16, on: bool) -> Module {
-    let m = spi_module::power_up();
-    let named = spi_module::write(m, 1, con1);
+    let m = spi_values::power_up();
+    let named = spi_values::write(m, 1, con1);
     let after = named.after;
     if on {
-        let enabled = spi_module::write(after, 0, 0x8000);
+        let enabled = spi_values::write(after, 0, 0x8000);
         return enabled.after;
     }
     after

@@ -60,7 +60,7 @@ fn print_done(m: Module, c: Call) {
 
 // Makes the call, prints its line, and returns the module after it.
 fn call(m: Module, line: u64, c: Call) -> Module {
-    let o = spi_module::perform(m, c);
+    let o = spi_values::perform(m, c);
     let after = o.after;
     let a = o.answer;
     io::print_decimal(STDOUT_FILENO, line);
@@ -124,9 +124,9 @@ struct Pair {
 fn edge(pair: Pair) -> Pair {
     let host = pair.host;
     let client = pair.client;
-    let ticked = spi_module::tick(host, wire(client));
+    let ticked = spi_values::tick(host, wire(client));
     let ahead = ticked.after;
-    let seen = spi_module::pins(client, spi_views::sck(ahead), wire(ahead), false);
+    let seen = spi_values::pins(client, spi_views::sck(ahead), wire(ahead), false);
     let behind = seen.after;
     Pair {
         host: ahead,
@@ -144,7 +144,7 @@ fn edges(pair: Pair, count: u32) -> Pair {
 }
 
 fn main() {
-    let fresh = spi_module::power_up();
+    let fresh = spi_values::power_up();
 
     print(b"script\n");
     let m = call(fresh, 1, Call::Write(1, 0x0020));

@@ -1,51 +1,139 @@
--- The host's turn by the edges left and by what its tick made, from what its callees ensure.
---     turn-ends    with none left the run ends
---     turn-hands   an edge hands over to the client's turn, for one edge fewer
---     turn-stops   no edge ends the run
+-- A linked run step by step, by what is seen of its ends.
+--     linkable                  the tests of a run leave ends that can be linked
+--     shown                     the client sees the host's levels
+--     wired-turned, wired-shown an edge of the host leaves both ends wired, and the client's look at its levels makes them so
+--     ends, stops, hands-over   the host's turn: none left, no word, or an edge
 -- Assumes nothing.
 use Prim.Native.Nat.{ℕ, zero, suc, _-_}
-use mathlib.Core.Bool.{Bool, true, false}
-use mathlib.Core.Path.{_≡_, refl, ap, sym, _∙_}
+use mathlib.Core.Bool.{Bool, true, false, not, _&&_, _||_}
+use mathlib.Core.Path.{_≡_, refl, sym, ap, subst, _∙_}
 use native.Mathlib.Numerals.{unary-clauses}
+use borrow.Author.Tests.{not-false}
+use Rattle.spi_rules.specs.declared.Settings.{Settings}
+use Rattle.spi_rules.specs.declared.Engine.{Engine}
 use Rattle.spi_rules.specs.declared.Module.{Module}
 use Rattle.spi_rules.specs.declared.Outcome.{Outcome}
+use Rattle.spi_rules.specs.declared.Answer.the-variants.{NoEdge, Edge}
+use Rattle.spi_rules.specs.declared.Sdo.the-variants.{Low, High, Undriven}
 use Rattle.spi_rules.specs.declared.Run.{Run}
-use Rattle.spi_rules.specs.declared.Sdo.{Sdo}
-use Rattle.spi_rules.specs.Calls.{tickOf, sdoOf}
-use Rattle.spi_rules.specs.Link.{levelRead, madeEdge, hostTicked, ended, clientTurn, handedOver, hostTurn}
-use Rattle.spi_rules.proofs.Choices.{so, not-so, by-case}
+use Rattle.spi_rules.specs.Choice.{if_then_else_}
+use Rattle.spi_rules.specs.Settings.{ssenClient, ownClock}
+use Rattle.spi_rules.specs.Registers.{isFree}
+use Rattle.spi_rules.specs.Select.{deselected}
+use Rattle.spi_rules.specs.Edge.{stepped}
+use Rattle.spi_rules.specs.Calls.{answering, tickOf, performOf, sckOf, undriven, sdoOf}
+use Rattle.spi_rules.specs.Link.{levelRead, madeEdge, hostTicked, clientSees, ended, clientTurn, handedOver, hostTurn, eitherDisabled, wrongRoles}
+use Rattle.spi_rules.proofs.Keeps.{if-true, if-false, clash, and-false, or-left, or-right}
+use Rattle.spi_rules.proofs.Choices.{by-case}
+use Rattle.spi_rules.proofs.Accepted.{own-not-client, tick-is, pin-is}
+use Rattle.spi_rules.proofs.LinkSelect.{stepped-select}
+use Rattle.spi_module.specs.Answered.{turned}
+use Rattle.spi_module.proofs.Edges.{own-turn}
+use Rattle.spi_link.specs.Wire.{openLevel, Linkable, Wired}
 
--- With no edge left the run ends.
-pub turn-ends : (host client : Module) {z : Run} (left : ℕ) → left ≡ 0 → z ≡ ended host client →
-    z ≡ hostTurn left host client
+-- A module after a step of its engine.
+abbrev on : (Settings → Engine → Engine) → Module → Module
+on f m = record { settings = m .settings; engine = f (m .settings) (m .engine) }
+
+pub linkable : (host client : Module) → eitherDisabled (host .settings) (client .settings) ≡ false →
+    wrongRoles (host .settings) (client .settings) ≡ false → Linkable host client
+linkable host client enabled roles =
+    record {
+      hostOn = not-false (host .settings .spien) (or-left _ (not (client .settings .spien)) enabled);
+      own = not-false (ownClock (host .settings)) (or-left _ (client .settings .con1 .msten) roles);
+      clientOn = not-false (client .settings .spien) (or-right (not (host .settings .spien)) _ enabled);
+      isClient = or-right (not (ownClock (host .settings))) _ roles;
+    }
+
+-- What the other end reads of an SDO that is not off and not deselected.
+read-level : (off dissdo away sdo : Bool) → off ≡ false → away ≡ false →
+    (not dissdo && sdo) ≡ levelRead (if off || (dissdo || away) then Undriven else if sdo then High else Low)
+unfolding levelRead if_then_else_
+read-level true dissdo away sdo e f = clash true refl e
+read-level false dissdo true sdo e f = clash true refl f
+read-level false true false sdo e f = refl
+read-level false false false true e f = refl
+read-level false false false false e f = refl
+
+module-level : (m : Module) → m .settings .spien ≡ true → deselected (m .settings) (m .engine .pins .ss) ≡ false →
+    openLevel m ≡ levelRead (sdoOf m)
+unfolding openLevel sdoOf undriven
+module-level m enabled near =
+    read-level (not (m .settings .spien)) (m .settings .con1 .dissdo) (deselected (m .settings) (m .engine .pins .ss))
+    (m .engine .pins .sdo) (ap not enabled) near
+
+module _ {host client : Module} where
+  host-level : Linkable host client → openLevel host ≡ levelRead (sdoOf host)
+  host-level l =
+      module-level host (l .hostOn)
+      (ap (λ (b : Bool). b && host .engine .pins .ss) (own-not-client (host .settings) (l .own)))
+
+  client-level : Wired host client → openLevel client ≡ levelRead (sdoOf client)
+  client-level w =
+      module-level client (w .linkable .clientOn) (and-false (ssenClient (client .settings)) _ (w .selected))
+
+  pub shown : Linkable host client →
+      on (λ s. stepped s (host .engine .pins .sck) (openLevel host) false) client ≡ clientSees host client
+  unfolding clientSees sckOf performOf answering
+  shown l =
+      let pin : ownClock (client .settings) ≡ false =
+      ap (λ (b : Bool). b && not (client .settings .con1 .dissck)) (l .isClient) in
+      ap (λ (x : Bool). on (λ s. stepped s (host .engine .pins .sck) x false) client) (host-level l)
+      ∙ sym (ap (λ (o : Outcome). o .after)
+      (pin-is client (host .engine .pins .sck) (levelRead (sdoOf host)) false (l .clientOn) pin))
+
+  pub wired-shown : {seen : Module} → seen ≡ clientSees host client → Linkable host client → Wired host seen
+  wired-shown e l =
+      subst (λ (m : Module). Wired host m) (shown l ∙ sym e)
+      record {
+        linkable = record { hostOn = l .hostOn; own = l .own; clientOn = l .clientOn; isClient = l .isClient };
+        selected =
+            stepped-select (client .settings) false (host .engine .pins .sck) (openLevel host) (client .engine);
+      }
+
+  pub wired-turned : (sdi : Bool) {to : Module} → to ≡ on (λ s. turned s sdi) host → Wired host client → Wired to client
+  wired-turned sdi e w =
+      let l : Linkable host client = w .linkable in
+      subst (λ (m : Module). Wired m client) (sym e)
+      record {
+        linkable = record { hostOn = l .hostOn; own = l .own; clientOn = l .clientOn; isClient = l .isClient };
+        selected = w .selected;
+      }
+
+pub ends : (host client : Module) {left : ℕ} {z : Run} → left ≡ 0 → z ≡ ended host client → z ≡ hostTurn left host client
 unfolding hostTurn
-turn-ends host client left e h = rw e h
+ends host client e h = rw e h
 
 -- With an edge left the host ticks, and the rest goes on with one edge fewer.
-turn-goes : (host client : Module) {z : Run} (left : ℕ) → (left ≡ 0 → ⊥) →
-    z ≡ handedOver (hostTurn (left - 1)) (hostTicked host client) client → z ≡ hostTurn left host client
+goes : (host client : Module) {z : Run} (left : ℕ) → (left ≡ 0 → ⊥) → (o : Outcome) → hostTicked host client ≡ o →
+    z ≡ handedOver (hostTurn (left - 1)) o client → z ≡ hostTurn left host client
 unfolding hostTurn
-turn-goes host client zero some h = absurd (some refl)
-turn-goes host client (suc left) some h = simp unary-clauses at h
+goes host client zero some o e h = absurd (some refl)
+goes host client (suc left) some o e h =
+    by-case (λ (x : Outcome). handedOver (hostTurn left) x client) e (simp unary-clauses at h)
 
--- The level that the client shows, as the tick carries it, the tick, and whether it made an edge.
-module _ (host client : Module) (left : ℕ) (some : left ≡ 0 → ⊥) {sdo : Sdo} {sdi made : Bool} {ticked : Outcome} (shown : sdo ≡ sdoOf client) (seen : sdi ≡ levelRead sdo) (tick : ticked ≡ tickOf host sdi) (edge : made ≡ madeEdge (ticked .answer)) where
-  -- The host's tick is the one that carries the client's level.
-  ticks : hostTicked host client ≡ ticked
-  unfolding hostTicked
-  ticks = ap (λ (x : Sdo). tickOf host (levelRead x)) (sym shown) ∙ ap (tickOf host) (sym seen) ∙ sym tick
-
-  -- An edge hands over to the client's turn.
-  pub turn-hands : {z : Run} → made ≡ true → z ≡ clientTurn (hostTurn (left - 1)) (ticked .after) client →
+module _ {host client : Module} {left : ℕ} {z : Run} (some : left ≡ 0 → ⊥) where
+  pub stops : Linkable host client → isFree (host .engine .shift) ≡ true → z ≡ ended host client →
       z ≡ hostTurn left host client
-  unfolding handedOver
-  turn-hands made-one h =
-      turn-goes host client left some
-      (by-case (λ (o : Outcome). handedOver (hostTurn (left - 1)) o client) ticks (so _ _ _ (sym edge ∙ made-one) h))
+  unfolding hostTicked tickOf handedOver madeEdge if_then_else_
+  stops l free h =
+      goes host client left some (record { answer = NoEdge; after = host })
+      (if-false (not (host .settings .spien)) _ _ (ap not (l .hostOn))
+      ∙ if-false (not (ownClock (host .settings))) _ _ (ap not (l .own))
+      ∙ if-true (isFree (host .engine .shift)) _ _ free)
+      h
 
-  -- No edge ends the run.
-  pub turn-stops : {z : Run} → made ≡ false → z ≡ ended (ticked .after) client → z ≡ hostTurn left host client
-  unfolding handedOver
-  turn-stops made-none h =
-      turn-goes host client left some
-      (by-case (λ (o : Outcome). handedOver (hostTurn (left - 1)) o client) ticks (not-so _ _ _ (sym edge ∙ made-none) h))
+  pub hands-over : {to : Module} → Wired host client → isFree (host .engine .shift) ≡ false →
+      to ≡ on (λ s. turned s (openLevel client)) host → z ≡ clientTurn (hostTurn (left - 1)) to client →
+      z ≡ hostTurn left host client
+  unfolding hostTicked performOf answering handedOver madeEdge if_then_else_
+  hands-over {to} w busy e h =
+      let l : Linkable host client = w .linkable in
+      let s : Settings = host .settings in
+      let sdi : Bool = levelRead (sdoOf client) in
+      goes host client left some (record { answer = Edge; after = to })
+      (tick-is host sdi (l .hostOn) (l .own) busy
+      ∙ ap (λ (x : Engine). record { answer = Edge; after = record { settings = s; engine = x } })
+      (sym (ap (λ (x : Bool). turned s x (host .engine)) (client-level w) ∙ own-turn s sdi (host .engine) (l .own)))
+      ∙ ap (λ (m : Module). record { answer = Edge; after = m }) (sym e))
+      h

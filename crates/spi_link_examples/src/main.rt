@@ -33,10 +33,10 @@ fn print_read(a: Answer) {
 
 // A module in enhanced operation with these CON1 bits, enabled.
 fn enabled(con1: u16) -> Module {
-    let m = spi_module::power_up();
-    let named = spi_module::write(m, 1, con1);
-    let deep = spi_module::write(named.after, 2, 0x0001);
-    let on = spi_module::write(deep.after, 0, 0x8000);
+    let m = spi_values::power_up();
+    let named = spi_values::write(m, 1, con1);
+    let deep = spi_values::write(named.after, 2, 0x0001);
+    let on = spi_values::write(deep.after, 0, 0x8000);
     on.after
 }
 
@@ -45,7 +45,7 @@ fn filled(m: Module, first: u16, step: u16) -> Module {
     let mut now = m;
     let mut word = first;
     for k in 0..8u32 {
-        let written = spi_module::write(now, 3, word);
+        let written = spi_values::write(now, 3, word);
         now = written.after;
         word = std::num::wrapping_add_u16(word, step);
     }
@@ -56,7 +56,7 @@ fn filled(m: Module, first: u16, step: u16) -> Module {
 fn print_reads(m: Module) {
     let mut now = m;
     for k in 0..9u32 {
-        let read = spi_module::read(now, 3);
+        let read = spi_values::read(now, 3);
         let answer = read.answer;
         print_read(answer);
         now = read.after;
@@ -68,7 +68,7 @@ fn print_reads(m: Module) {
 fn pair(mode: &[u8], host_con1: u16, client_con1: u16, limit: u32) {
     let host = filled(enabled(host_con1), 0xA5C3, 0x1111);
     let client = filled(enabled(client_con1), 0x3C5A, 0x0F0F);
-    let run = spi_link::linked(host, client, limit);
+    let run = spi_values::linked(host, client, limit);
     let answer = run.answer;
     let said = spi_link::link_said(answer);
     print(mode);

@@ -1,4 +1,6 @@
 -- What the proofs of several functions use.
-mod Single
-mod Stores
-mod Looks
+mod Stored
+pub mod Looks
+mod Bytes
+mod Registers
+pub mod Taken

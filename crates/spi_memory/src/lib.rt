@@ -1,4 +1,5 @@
-// A module in memory: 96 numbers of 16 bits that a caller holds. Any numbers are read as some module.
+// A module in memory: 96 numbers of 16 bits that a caller holds. Any numbers are read as some module. A look reads a part,
+// and a store puts a part into memory and leaves all else in it.
 use spi_rules::Con1;
 use spi_rules::Con2;
 use spi_rules::CpuRead;
@@ -13,46 +14,33 @@ use spi_rules::Shift;
 use spi_rules::SpiRead;
 use spi_rules::SpiWrite;
 use spi_rules::Transmit;
+ghost use Prim.Native.Nat.{_+_, _≤_};
 ghost use mathlib.Core.Bool.{true};
 ghost use mathlib.Core.Path.{_≡_};
 ghost use lib.ListN.{length};
-ghost use Rattle.spi_rules.specs.Loading.{isBegun, sdoAt};
-ghost use Rattle.spi_rules.specs.Select.{selectRemembered};
-ghost use Rattle.spi_rules.specs.Edge.{clocked};
+ghost use Rattle.spi_rules.specs.Changes.{withTransmit, withReceive, withShift, withSck, withSs, withSdo, withSpirov, withInterrupt};
+ghost use Rattle.spi_rules.specs.Registers.{con1From, con2From, isFree, statSettings};
+ghost use Rattle.spi_rules.specs.Loading.{isBegun};
 ghost use Rattle.spi_rules.specs.Calls.{poweredUp, withCon1, withCon2};
 ghost use Rattle.spi_rules.specs.declared.Shift.the-variants.{Free, Loaded, Begun};
-ghost use Rattle.spi_rules.specs.Registers.{isFree};
-ghost use Rattle.spi_memory.specs.Memory.{bitIn, byteIn, from, con1From, con2From, settingsIn, transmitIn, receiveIn, shiftIn, pinsIn, moduleIn, onEngine, onSettings, withTransmit, withReceive, withShift, withSpirov, withInterrupt, goneOn, withStat};
+ghost use Rattle.spi_memory.specs.Memory.{bitIn, byteIn, placeIn, from, wordsAt, progressAt, settingsIn, engineIn, moduleIn, goneOn, Steps, Sets};
+ghost use Rattle.spi_memory.specs.Writes.{writes, wordsWritten};
 
 // CON1.
 pub fn con1_in(w: &[u16; 96]) -> Con1
-    ensures { λ r. ⌜ r ≡ con1From (from 0 (now (w .entry))) ⌝ }
+    ensures { λ r. ⌜ r ≡ settingsIn (now (w .entry)) .con1 ⌝ }
 {
-    Con1 {
-        dissck: w[3] != 0,
-        dissdo: w[4] != 0,
-        mode16: w[5] != 0,
-        smp: w[6] != 0,
-        cke: w[7] != 0,
-        ssen: w[8] != 0,
-        ckp: w[9] != 0,
-        msten: w[10] != 0,
-        spre: (w[11] % 256) as u8,
-        ppre: (w[12] % 256) as u8,
-    }
+    let mut c = spi_registers::con1_from(w[2]);
+    c.spre = (w[3] % 256) as u8;
+    c.ppre = (w[4] % 256) as u8;
+    c
 }
 
 // CON2.
 pub fn con2_in(w: &[u16; 96]) -> Con2
-    ensures { λ r. ⌜ r ≡ con2From (from 0 (now (w .entry))) ⌝ }
+    ensures { λ r. ⌜ r ≡ settingsIn (now (w .entry)) .con2 ⌝ }
 {
-    Con2 {
-        frmen: w[13] != 0,
-        spifsd: w[14] != 0,
-        frmpol: w[15] != 0,
-        frmdly: w[16] != 0,
-        spiben: w[17] != 0,
-    }
+    spi_registers::con2_from(w[5])
 }
 
 // What register writes set.
@@ -62,20 +50,38 @@ pub fn settings_in(w: &[u16; 96]) -> Settings
     let con1 = con1_in(w);
     let con2 = con2_in(w);
     Settings {
-        spien: w[0] != 0,
-        spisidl: w[1] != 0,
-        sisel: (w[2] % 256) as u8,
+        spien: w[0] / 32768 % 2 == 1,
+        spisidl: w[0] / 8192 % 2 == 1,
+        sisel: (w[1] % 256) as u8,
         con1: con1,
         con2: con2,
     }
 }
 
+// The words of the buffer that stands from `first` on.
+fn words_in(w: &[u16; 96], first: usize) -> [u16; 8]
+    requires { ⌜ first + 8 ≤ 96 ⌝ }
+    ensures { λ r. ⌜ r ≡ wordsAt (from first (placeIn (now (w .entry)))) ⌝ }
+{
+    [
+        w[first],
+        w[first + 1],
+        w[first + 2],
+        w[first + 3],
+        w[first + 4],
+        w[first + 5],
+        w[first + 6],
+        w[first + 7],
+    ]
+}
+
 // The words waiting to be sent.
 pub fn transmit_in(w: &[u16; 96]) -> Transmit
-    ensures { λ r. ⌜ r ≡ transmitIn (now (w .entry)) ⌝ }
+    ensures { λ r. ⌜ r ≡ engineIn (now (w .entry)) .transmit ⌝ }
 {
+    let words = words_in(w, 24);
     Transmit {
-        words: [w[24], w[25], w[26], w[27], w[28], w[29], w[30], w[31]],
+        words: words,
         write: CpuWrite((w[40] % 256) as u8),
         read: SpiRead((w[41] % 256) as u8),
         count: (w[42] % 256) as u8,
@@ -84,10 +90,11 @@ pub fn transmit_in(w: &[u16; 96]) -> Transmit
 
 // The words received and not read.
 pub fn receive_in(w: &[u16; 96]) -> Receive
-    ensures { λ r. ⌜ r ≡ receiveIn (now (w .entry)) ⌝ }
+    ensures { λ r. ⌜ r ≡ engineIn (now (w .entry)) .receive ⌝ }
 {
+    let words = words_in(w, 44);
     Receive {
-        words: [w[44], w[45], w[46], w[47], w[48], w[49], w[50], w[51]],
+        words: words,
         write: SpiWrite((w[60] % 256) as u8),
         read: CpuRead((w[61] % 256) as u8),
         count: (w[62] % 256) as u8,
@@ -96,7 +103,7 @@ pub fn receive_in(w: &[u16; 96]) -> Receive
 
 // The shift register.
 pub fn shift_in(w: &[u16; 96]) -> Shift
-    ensures { λ r. ⌜ r ≡ shiftIn (now (w .entry)) ⌝ }
+    ensures { λ r. ⌜ r ≡ engineIn (now (w .entry)) .shift ⌝ }
 {
     if w[64] == 0 {
         return Shift::Free;
@@ -104,50 +111,58 @@ pub fn shift_in(w: &[u16; 96]) -> Shift
     if w[64] == 1 {
         return Shift::Loaded(w[66]);
     }
-    Shift::Begun(Progress {
-        filler: w[65] != 0,
-        word: w[66],
-        edges: (w[67] % 256) as u8,
-        received: w[68],
-    })
+    let p = progress_in(w);
+    Shift::Begun(p)
 }
 
 // Whether no word is loaded or begun, and whether one has begun.
 pub fn is_free(w: &[u16; 96]) -> bool
-    ensures { λ r. ⌜ r ≡ isFree (shiftIn (now (w .entry))) ⌝ }
+    ensures { λ r. ⌜ r ≡ isFree (engineIn (now (w .entry)) .shift) ⌝ }
 {
     w[64] == 0
 }
 
 pub fn is_begun(w: &[u16; 96]) -> bool
-    ensures { λ r. ⌜ r ≡ isBegun (shiftIn (now (w .entry))) ⌝ }
+    ensures { λ r. ⌜ r ≡ isBegun (engineIn (now (w .entry)) .shift) ⌝ }
 {
     1 < w[64]
 }
 
+// The word that is begun, if one is.
+pub fn progress_in(w: &[u16; 96]) -> Progress
+    ensures { λ r. ⌜ r ≡ progressAt (placeIn (now (w .entry))) ⌝ }
+{
+    Progress {
+        filler: w[65] % 2 == 1,
+        word: w[66],
+        edges: (w[67] % 256) as u8,
+        received: w[68],
+    }
+}
+
 // The pins.
 pub fn pins_in(w: &[u16; 96]) -> Pins
-    ensures { λ r. ⌜ r ≡ pinsIn (now (w .entry)) ⌝ }
+    ensures { λ r. ⌜ r ≡ engineIn (now (w .entry)) .pins ⌝ }
 {
     Pins {
-        sck: w[69] != 0,
-        ss: w[70] != 0,
-        sdo: w[71] != 0,
+        sck: w[69] % 2 == 1,
+        ss: w[70] % 2 == 1,
+        sdo: w[71] % 2 == 1,
     }
 }
 
 // SPIROV.
 pub fn spirov_in(w: &[u16; 96]) -> bool
-    ensures { λ r. ⌜ r ≡ bitIn (from 64 (now (w .entry)) 8) ⌝ }
+    ensures { λ r. ⌜ r ≡ engineIn (now (w .entry)) .spirov ⌝ }
 {
-    w[72] != 0
+    w[72] % 2 == 1
 }
 
 // The interrupt flag.
 pub fn interrupt_in(w: &[u16; 96]) -> bool
-    ensures { λ r. ⌜ r ≡ bitIn (from 64 (now (w .entry)) 9) ⌝ }
+    ensures { λ r. ⌜ r ≡ engineIn (now (w .entry)) .interrupt ⌝ }
 {
-    w[73] != 0
+    w[73] % 2 == 1
 }
 
 // The module that memory holds.
@@ -159,6 +174,8 @@ pub fn module_in(w: &[u16; 96]) -> Module
     let receive = receive_in(w);
     let shift = shift_in(w);
     let pins = pins_in(w);
+    let spirov = spirov_in(w);
+    let interrupt = interrupt_in(w);
     Module {
         settings: settings,
         engine: Engine {
@@ -166,8 +183,8 @@ pub fn module_in(w: &[u16; 96]) -> Module
             receive: receive,
             shift: shift,
             pins: pins,
-            spirov: w[72] != 0,
-            interrupt: w[73] != 0,
+            spirov: spirov,
+            interrupt: interrupt,
         },
     }
 }
@@ -189,14 +206,7 @@ fn byte_number(b: u8) -> u16
     b as u16
 }
 
-// Every number is 0, whatever memory held before: a module that has just powered up.
-pub fn power_up(w: &mut [u16; 96])
-    ensures { λ _. ⌜ moduleIn (now (w .exit)) ≡ poweredUp ⌝ }
-{
-    *w = [0; 96];
-}
-
-// Memory has 96 numbers. Nothing is done at run time: this is for proofs that write single numbers.
+// Memory has 96 numbers. Nothing is done at run time: this is for proofs of stores.
 fn counted(w: [u16; 96]) -> bool
     ensures { λ r. ⌜ (r ≡ true) × (length w ≡ 96) ⌝ }
 {
@@ -209,9 +219,82 @@ fn is_whole(w: &[u16; 96]) -> bool
     counted(*w)
 }
 
-// Single parts are put into memory; all else in it stays. First a shift register with no word.
+// Every number is 0, whatever memory held before: a module that has just powered up.
+pub fn power_up(w: &mut [u16; 96])
+    ensures { λ _. ⌜ moduleIn (now (w .exit)) ≡ poweredUp ⌝ }
+{
+    *w = [0; 96];
+}
+
+// What a STAT write sets.
+pub fn store_stat(w: &mut [u16; 96], v: u16)
+    ensures { λ _. ⌜ Sets (statSettings v) (now (w .entry)) (now (w .exit)) ⌝ }
+{
+    is_whole(w);
+    w[0] = v;
+    w[1] = v / 4 % 8;
+}
+
+// CON1 as written.
+pub fn store_con1(w: &mut [u16; 96], v: u16)
+    ensures { λ _. ⌜ Sets (λ s. withCon1 s (con1From v)) (now (w .entry)) (now (w .exit)) ⌝ }
+{
+    is_whole(w);
+    w[2] = v;
+    w[3] = v / 4 % 8;
+    w[4] = v % 4;
+}
+
+// CON2 as written.
+pub fn store_con2(w: &mut [u16; 96], v: u16)
+    ensures { λ _. ⌜ Sets (λ s. withCon2 s (con2From v)) (now (w .entry)) (now (w .exit)) ⌝ }
+{
+    is_whole(w);
+    w[5] = v;
+}
+
+// The words of the buffer that stands from `first` on.
+fn store_words(w: &mut [u16; 96], first: usize, words: [u16; 8])
+    requires { ⌜ first + 8 ≤ 96 ⌝ }
+    ensures { λ _. ⌜ now (w .exit) ≡ writes (now (w .entry)) (wordsWritten first words) ⌝ }
+{
+    w[first] = words[0];
+    w[first + 1] = words[1];
+    w[first + 2] = words[2];
+    w[first + 3] = words[3];
+    w[first + 4] = words[4];
+    w[first + 5] = words[5];
+    w[first + 6] = words[6];
+    w[first + 7] = words[7];
+}
+
+// The transmit buffer.
+pub fn store_transmit(w: &mut [u16; 96], t: Transmit)
+    ensures { λ _. ⌜ Steps (λ _. withTransmit t) (now (w .entry)) (now (w .exit)) ⌝ }
+{
+    is_whole(w);
+    let words = t.words;
+    store_words(w, 24, words);
+    w[40] = byte_number(t.write.0);
+    w[41] = byte_number(t.read.0);
+    w[42] = byte_number(t.count);
+}
+
+// The receive buffer.
+pub fn store_receive(w: &mut [u16; 96], r: Receive)
+    ensures { λ _. ⌜ Steps (λ _. withReceive r) (now (w .entry)) (now (w .exit)) ⌝ }
+{
+    is_whole(w);
+    let words = r.words;
+    store_words(w, 44, words);
+    w[60] = byte_number(r.write.0);
+    w[61] = byte_number(r.read.0);
+    w[62] = byte_number(r.count);
+}
+
+// A shift register with no word.
 pub fn store_free(w: &mut [u16; 96])
-    ensures { λ _. ⌜ moduleIn (now (w .exit)) ≡ onEngine (λ _. withShift Free) (moduleIn (now (w .entry))) ⌝ }
+    ensures { λ _. ⌜ Steps (λ _. withShift Free) (now (w .entry)) (now (w .exit)) ⌝ }
 {
     is_whole(w);
     w[64] = 0;
@@ -219,7 +302,7 @@ pub fn store_free(w: &mut [u16; 96])
 
 // A loaded word.
 pub fn store_loaded(w: &mut [u16; 96], word: u16)
-    ensures { λ _. ⌜ moduleIn (now (w .exit)) ≡ onEngine (λ _. withShift (Loaded word)) (moduleIn (now (w .entry))) ⌝ }
+    ensures { λ _. ⌜ Steps (λ _. withShift (Loaded word)) (now (w .entry)) (now (w .exit)) ⌝ }
 {
     is_whole(w);
     w[64] = 1;
@@ -228,7 +311,7 @@ pub fn store_loaded(w: &mut [u16; 96], word: u16)
 
 // A begun word.
 pub fn store_begun(w: &mut [u16; 96], p: Progress)
-    ensures { λ _. ⌜ moduleIn (now (w .exit)) ≡ onEngine (λ _. withShift (Begun p)) (moduleIn (now (w .entry))) ⌝ }
+    ensures { λ _. ⌜ Steps (λ _. withShift (Begun p)) (now (w .entry)) (now (w .exit)) ⌝ }
 {
     is_whole(w);
     w[64] = 2;
@@ -240,7 +323,7 @@ pub fn store_begun(w: &mut [u16; 96], p: Progress)
 
 // The edges and the received bits of a begun word.
 pub fn store_gone(w: &mut [u16; 96], edges: u8, received: u16)
-    ensures { λ _. ⌜ moduleIn (now (w .exit)) ≡ onEngine (λ _ n. withShift (goneOn edges received (n .shift)) n) (moduleIn (now (w .entry))) ⌝ }
+    ensures { λ _. ⌜ Steps (λ _. goneOn edges received) (now (w .entry)) (now (w .exit)) ⌝ }
 {
     is_whole(w);
     w[67] = byte_number(edges);
@@ -249,15 +332,15 @@ pub fn store_gone(w: &mut [u16; 96], edges: u8, received: u16)
 
 // The level of SCK.
 pub fn store_sck(w: &mut [u16; 96], sck: bool)
-    ensures { λ _. ⌜ moduleIn (now (w .exit)) ≡ onEngine (λ _. clocked sck) (moduleIn (now (w .entry))) ⌝ }
+    ensures { λ _. ⌜ Steps (λ _. withSck sck) (now (w .entry)) (now (w .exit)) ⌝ }
 {
     is_whole(w);
     w[69] = number(sck);
 }
 
 // The level of SS.
-pub fn store_select(w: &mut [u16; 96], ss: bool)
-    ensures { λ _. ⌜ moduleIn (now (w .exit)) ≡ onEngine (λ _. selectRemembered ss) (moduleIn (now (w .entry))) ⌝ }
+pub fn store_ss(w: &mut [u16; 96], ss: bool)
+    ensures { λ _. ⌜ Steps (λ _. withSs ss) (now (w .entry)) (now (w .exit)) ⌝ }
 {
     is_whole(w);
     w[70] = number(ss);
@@ -265,7 +348,7 @@ pub fn store_select(w: &mut [u16; 96], ss: bool)
 
 // The level of SDO.
 pub fn store_sdo(w: &mut [u16; 96], sdo: bool)
-    ensures { λ _. ⌜ moduleIn (now (w .exit)) ≡ onEngine (λ _. sdoAt sdo) (moduleIn (now (w .entry))) ⌝ }
+    ensures { λ _. ⌜ Steps (λ _. withSdo sdo) (now (w .entry)) (now (w .exit)) ⌝ }
 {
     is_whole(w);
     w[71] = number(sdo);
@@ -273,7 +356,7 @@ pub fn store_sdo(w: &mut [u16; 96], sdo: bool)
 
 // SPIROV.
 pub fn store_spirov(w: &mut [u16; 96], spirov: bool)
-    ensures { λ _. ⌜ moduleIn (now (w .exit)) ≡ onEngine (λ _. withSpirov spirov) (moduleIn (now (w .entry))) ⌝ }
+    ensures { λ _. ⌜ Steps (λ _. withSpirov spirov) (now (w .entry)) (now (w .exit)) ⌝ }
 {
     is_whole(w);
     w[72] = number(spirov);
@@ -281,85 +364,63 @@ pub fn store_spirov(w: &mut [u16; 96], spirov: bool)
 
 // The interrupt flag.
 pub fn store_interrupt(w: &mut [u16; 96], flag: bool)
-    ensures { λ _. ⌜ moduleIn (now (w .exit)) ≡ onEngine (λ _. withInterrupt flag) (moduleIn (now (w .entry))) ⌝ }
+    ensures { λ _. ⌜ Steps (λ _. withInterrupt flag) (now (w .entry)) (now (w .exit)) ⌝ }
 {
     is_whole(w);
     w[73] = number(flag);
 }
 
-// The transmit buffer.
-pub fn store_transmit(w: &mut [u16; 96], t: Transmit)
-    ensures { λ _. ⌜ moduleIn (now (w .exit)) ≡ onEngine (λ _. withTransmit t) (moduleIn (now (w .entry))) ⌝ }
+// All settings, of any record.
+fn store_settings(w: &mut [u16; 96], s: Settings)
+    ensures { λ _. ⌜ Sets (λ _. s) (now (w .entry)) (now (w .exit)) ⌝ }
 {
     is_whole(w);
-    let x = t.words;
-    w[24] = x[0];
-    w[25] = x[1];
-    w[26] = x[2];
-    w[27] = x[3];
-    w[28] = x[4];
-    w[29] = x[5];
-    w[30] = x[6];
-    w[31] = x[7];
-    w[40] = byte_number(t.write.0);
-    w[41] = byte_number(t.read.0);
-    w[42] = byte_number(t.count);
+    let con1 = s.con1;
+    let con2 = s.con2;
+    w[0] = spi_registers::weigh(s.spien, 32768) + spi_registers::weigh(s.spisidl, 8192);
+    w[1] = byte_number(s.sisel);
+    w[2] = spi_registers::con1_value(con1);
+    w[3] = byte_number(con1.spre);
+    w[4] = byte_number(con1.ppre);
+    w[5] = spi_registers::con2_value(con2);
 }
 
-// The receive buffer.
-pub fn store_receive(w: &mut [u16; 96], t: Receive)
-    ensures { λ _. ⌜ moduleIn (now (w .exit)) ≡ onEngine (λ _. withReceive t) (moduleIn (now (w .entry))) ⌝ }
+// A shift register in any state.
+fn store_shift(w: &mut [u16; 96], shift: Shift)
+    ensures { λ _. ⌜ Steps (λ _. withShift shift) (now (w .entry)) (now (w .exit)) ⌝ }
 {
-    is_whole(w);
-    let x = t.words;
-    w[44] = x[0];
-    w[45] = x[1];
-    w[46] = x[2];
-    w[47] = x[3];
-    w[48] = x[4];
-    w[49] = x[5];
-    w[50] = x[6];
-    w[51] = x[7];
-    w[60] = byte_number(t.write.0);
-    w[61] = byte_number(t.read.0);
-    w[62] = byte_number(t.count);
+    match shift {
+        Shift::Free => store_free(w),
+        Shift::Loaded(word) => store_loaded(w, word),
+        Shift::Begun(p) => store_begun(w, p),
+    }
 }
 
-// CON1.
-pub fn store_con1(w: &mut [u16; 96], c: Con1)
-    ensures { λ _. ⌜ moduleIn (now (w .exit)) ≡ onSettings (λ s. withCon1 s c) (moduleIn (now (w .entry))) ⌝ }
+// A whole engine.
+fn store_engine(w: &mut [u16; 96], n: Engine)
+    ensures { λ _. ⌜ Steps (λ _ _. n) (now (w .entry)) (now (w .exit)) ⌝ }
 {
-    is_whole(w);
-    w[3] = number(c.dissck);
-    w[4] = number(c.dissdo);
-    w[5] = number(c.mode16);
-    w[6] = number(c.smp);
-    w[7] = number(c.cke);
-    w[8] = number(c.ssen);
-    w[9] = number(c.ckp);
-    w[10] = number(c.msten);
-    w[11] = byte_number(c.spre);
-    w[12] = byte_number(c.ppre);
+    let t = n.transmit;
+    let r = n.receive;
+    let shift = n.shift;
+    store_transmit(w, t);
+    store_receive(w, r);
+    store_shift(w, shift);
+    store_sck(w, n.pins.sck);
+    store_ss(w, n.pins.ss);
+    store_sdo(w, n.pins.sdo);
+    store_spirov(w, n.spirov);
+    store_interrupt(w, n.interrupt);
 }
 
-// CON2.
-pub fn store_con2(w: &mut [u16; 96], c: Con2)
-    ensures { λ _. ⌜ moduleIn (now (w .exit)) ≡ onSettings (λ s. withCon2 s c) (moduleIn (now (w .entry))) ⌝ }
+// Memory that holds a module.
+pub fn memory_of(m: Module) -> [u16; 96]
+    ensures { λ r. ⌜ moduleIn r ≡ m ⌝ }
 {
-    is_whole(w);
-    w[13] = number(c.frmen);
-    w[14] = number(c.spifsd);
-    w[15] = number(c.frmpol);
-    w[16] = number(c.frmdly);
-    w[17] = number(c.spiben);
-}
-
-// What a STAT write sets.
-pub fn store_stat(w: &mut [u16; 96], spien: bool, spisidl: bool, sisel: u8)
-    ensures { λ _. ⌜ moduleIn (now (w .exit)) ≡ onSettings (withStat spien spisidl sisel) (moduleIn (now (w .entry))) ⌝ }
-{
-    is_whole(w);
-    w[0] = number(spien);
-    w[1] = number(spisidl);
-    w[2] = byte_number(sisel);
+    let settings = m.settings;
+    let engine = m.engine;
+    let mut w = [0; 96];
+    store_settings(&mut w, settings);
+    store_engine(&mut w, engine);
+    w
 }

@@ -1,190 +1,387 @@
-// One SPI module: its calls. Each takes any module and any value, always answers, and returns the answer with the module
-// after the call. A refused call returns the module unchanged.
+// One SPI module in memory: its calls, each on the parts that it changes. Any numbers are answered. A refused call, and a
+// tick that makes no edge, leave every number as it was.
 use spi_rules::Answer;
 use spi_rules::Call;
-use spi_rules::Con1;
-use spi_rules::Con2;
-use spi_rules::Engine;
-use spi_rules::Module;
-use spi_rules::Outcome;
-use spi_rules::Pins;
+use spi_rules::Progress;
 use spi_rules::Refusal;
-use spi_rules::Settings;
+use spi_rules::Sdo;
 use spi_rules::Shift;
+ghost use mathlib.Core.Bool.{true, false};
 ghost use mathlib.Core.Path.{_≡_};
-ghost use Rattle.spi_rules.specs.Calls.{poweredUp, readOf, writeOf, tickOf, pinsOf, clearOf, performOf};
+ghost use Rattle.spi_rules.specs.Settings.{ssenClient};
+ghost use Rattle.spi_rules.specs.Registers.{con1From, con2From, statValue};
+ghost use Rattle.spi_rules.specs.Loading.{isBegun};
+ghost use Rattle.spi_rules.specs.Select.{deselected, selectSeen};
+ghost use Rattle.spi_rules.specs.Edge.{fresh, advanced, advancedIfBegun, stepped};
+ghost use Rattle.spi_rules.specs.Calls.{readBuf, readOf, statWritten, writeStat, withCon1, withCon2, configured, writeBuf, writeOf, tickOf, pinsOf, clearOf, performOf, sdoOf};
+ghost use Rattle.spi_rules.specs.declared.Shift.the-variants.{Free, Loaded};
+ghost use Rattle.spi_memory.specs.Memory.{settingsIn, engineIn, moduleIn, Steps};
+ghost use Rattle.spi_module.specs.Answered.{Answers, edgeCounted, turned};
 
-// A module as it powers up.
-pub fn power_up() -> Module
-    ensures { λ r. ⌜ r ≡ poweredUp ⌝ }
+// The first edge of a word: it begins.
+fn begin(w: &mut [u16; 96], sdi: bool, filler: bool, word: u16)
+    ensures { λ _. ⌜ Steps (λ s. advanced s sdi (fresh filler word)) (now (w .entry)) (now (w .exit)) ⌝ }
 {
-    let t = spi_buffers::empty_transmit();
-    let r = spi_buffers::empty_receive();
-    Module {
-        settings: Settings {
-            spien: false,
-            spisidl: false,
-            sisel: 0,
-            con1: Con1 {
-                dissck: false,
-                dissdo: false,
-                mode16: false,
-                smp: false,
-                cke: false,
-                ssen: false,
-                ckp: false,
-                msten: false,
-                spre: 0,
-                ppre: 0,
-            },
-            con2: Con2 {
-                frmen: false,
-                spifsd: false,
-                frmpol: false,
-                frmdly: false,
-                spiben: false,
-            },
+    let s = spi_memory::settings_in(w);
+    let pins = spi_memory::pins_in(w);
+    let received = spi_bits::received_after(s, 1, sdi, 0);
+    let sdo = spi_bits::sdo_after(s, word, 1, pins.sdo);
+    spi_memory::store_begun(
+        w,
+        Progress {
+            filler: filler,
+            word: word,
+            edges: 1,
+            received: received,
         },
-        engine: Engine {
-            transmit: t,
-            receive: r,
-            shift: Shift::Free,
-            pins: Pins {
-                sck: false,
-                ss: false,
-                sdo: false,
-            },
-            spirov: false,
-            interrupt: false,
-        },
+    );
+    spi_memory::store_sdo(w, sdo);
+}
+
+// One edge of the word that is begun: it samples SDI or changes SDO, and the last one finishes the word.
+fn go_on(w: &mut [u16; 96], sdi: bool)
+    requires { ⌜ isBegun (engineIn (now w) .shift) ≡ true ⌝ }
+    ensures { λ _. ⌜ Steps (λ s n. advancedIfBegun s sdi (n .shift) n) (now (w .entry)) (now (w .exit)) ⌝ }
+{
+    let s = spi_memory::settings_in(w);
+    let p = spi_memory::progress_in(w);
+    let edge = p.edges as u16 + 1;
+    let last = 2 * spi_settings::width(s) as u16;
+    if spi_bits::is_sampling(s, edge) {
+        let received = spi_bits::shift_in(p.received, sdi);
+        if edge < last {
+            spi_memory::store_gone(w, edge as u8, received);
+        } else {
+            spi_words::finish(w, p.filler, received);
+        }
+    } else {
+        if edge < last {
+            let sdo = spi_bits::bit(p.word, (last - 1 - edge) / 2);
+            spi_memory::store_gone(w, edge as u8, p.received);
+            spi_memory::store_sdo(w, sdo);
+        } else {
+            spi_words::finish(w, p.filler, p.received);
+        }
     }
 }
 
-// A read of a register.
-pub fn read(m: Module, register: u32) -> Outcome
-    ensures { λ r. ⌜ r ≡ readOf m register ⌝ }
+// An edge to the level `sck` with a word loaded: an edge to the active level begins it.
+fn loaded_edge(w: &mut [u16; 96], sck: bool, sdi: bool, word: u16)
+    requires { ⌜ engineIn (now w) .shift ≡ Loaded word ⌝ }
+    ensures { λ _. ⌜ Steps (λ s. edgeCounted s sck sdi) (now (w .entry)) (now (w .exit)) ⌝ }
 {
-    if 3 < register {
-        return spi_access::refused(m, Refusal::NoSuchRegister);
+    let s = spi_memory::settings_in(w);
+    spi_memory::store_sck(w, sck);
+    if sck == s.con1.ckp {
+        return;
     }
-    if register == 0 {
-        return Outcome {
-            answer: Answer::Value(spi_registers::stat_value(m)),
-            after: m,
-        };
-    }
-    if register == 1 {
-        return Outcome {
-            answer: Answer::Value(spi_registers::con1_value(m.settings.con1)),
-            after: m,
-        };
-    }
-    if register == 2 {
-        return Outcome {
-            answer: Answer::Value(spi_registers::con2_value(m.settings.con2)),
-            after: m,
-        };
-    }
-    spi_access::read_buf(m)
+    begin(w, sdi, false, word);
 }
 
-// A write of a register.
-pub fn write(m: Module, register: u32, v: u16) -> Outcome
-    ensures { λ r. ⌜ r ≡ writeOf m register v ⌝ }
+// An edge to the level `sck` with no word loaded: a client's edge to the active level begins the first waiting word with
+// SSEN, or a filler.
+fn free_edge(w: &mut [u16; 96], sck: bool, sdi: bool)
+    requires { ⌜ engineIn (now w) .shift ≡ Free ⌝ }
+    ensures { λ _. ⌜ Steps (λ s. edgeCounted s sck sdi) (now (w .entry)) (now (w .exit)) ⌝ }
 {
-    if 3 < register {
-        return spi_access::refused(m, Refusal::NoSuchRegister);
+    let s = spi_memory::settings_in(w);
+    let t = spi_memory::transmit_in(w);
+    spi_memory::store_sck(w, sck);
+    if sck == s.con1.ckp {
+        return;
     }
-    if register == 0 {
-        return spi_access::write_stat(m, v);
+    if s.con1.msten {
+        return;
     }
-    if register == 1 {
-        let mut s = m.settings;
-        let c = spi_registers::con1_from(v);
-        s.con1 = c;
-        return spi_access::configure(m, s);
+    if spi_settings::ssen_client(s) & !(t.count == 0) {
+        begin(w, sdi, false, spi_buffers::first_waiting(t));
+    } else {
+        begin(w, sdi, true, 0);
     }
-    if register == 2 {
-        let mut s = m.settings;
-        let c = spi_registers::con2_from(v);
-        s.con2 = c;
-        return spi_access::configure(m, s);
+}
+
+// An edge to the level `sck` with no word begun before it.
+fn first_edge(w: &mut [u16; 96], sck: bool, sdi: bool)
+    requires { ⌜ isBegun (engineIn (now w) .shift) ≡ false ⌝ }
+    ensures { λ _. ⌜ Steps (λ s. edgeCounted s sck sdi) (now (w .entry)) (now (w .exit)) ⌝ }
+{
+    let shift = spi_memory::shift_in(w);
+    match shift {
+        Shift::Free => free_edge(w, sck, sdi),
+        Shift::Loaded(word) => loaded_edge(w, sck, sdi, word),
+        Shift::Begun(_) => {}
     }
-    spi_access::write_buf(m, v)
+}
+
+// An edge to the level `sck` of a module that is not deselected.
+fn edge(w: &mut [u16; 96], sck: bool, sdi: bool)
+    ensures { λ _. ⌜ Steps (λ s. edgeCounted s sck sdi) (now (w .entry)) (now (w .exit)) ⌝ }
+{
+    if spi_memory::is_begun(w) {
+        spi_memory::store_sck(w, sck);
+        go_on(w, sdi);
+    } else {
+        first_edge(w, sck, sdi);
+    }
+}
+
+// An edge to the other level of SCK.
+pub fn turn(w: &mut [u16; 96], sdi: bool)
+    ensures { λ _. ⌜ Steps (λ s. turned s sdi) (now (w .entry)) (now (w .exit)) ⌝ }
+{
+    let pins = spi_memory::pins_in(w);
+    edge(w, !pins.sck, sdi);
+}
+
+// An SSEN client sees its select level high, which aborts the begun word.
+fn deselect(w: &mut [u16; 96])
+    requires { ⌜ ssenClient (settingsIn (now w)) ≡ true ⌝ }
+    ensures { λ _. ⌜ Steps (λ s. selectSeen s true) (now (w .entry)) (now (w .exit)) ⌝ }
+{
+    let begun = spi_memory::is_begun(w);
+    spi_memory::store_ss(w, true);
+    if begun {
+        spi_memory::store_free(w);
+        spi_words::rest(w);
+    }
+}
+
+// The levels SCK, SDI and SS are seen by a module that this SS does not deselect.
+fn see_selected(w: &mut [u16; 96], sck: bool, sdi: bool, ss: bool)
+    requires { ⌜ deselected (settingsIn (now w)) ss ≡ false ⌝ }
+    ensures { λ _. ⌜ Steps (λ s. stepped s sck sdi ss) (now (w .entry)) (now (w .exit)) ⌝ }
+{
+    let before = spi_memory::pins_in(w);
+    spi_memory::store_ss(w, ss);
+    if sck == before.sck {
+        return;
+    }
+    edge(w, sck, sdi);
+}
+
+// The levels SCK and SDI are seen with SS high. An SSEN client is deselected: an edge only updates the remembered level.
+fn see_high(w: &mut [u16; 96], sck: bool, sdi: bool)
+    ensures { λ _. ⌜ Steps (λ s. stepped s sck sdi true) (now (w .entry)) (now (w .exit)) ⌝ }
+{
+    let s = spi_memory::settings_in(w);
+    if spi_settings::ssen_client(s) {
+        deselect(w);
+        spi_memory::store_sck(w, sck);
+    } else {
+        see_selected(w, sck, sdi, true);
+    }
+}
+
+// The levels SCK, SDI and SS are seen.
+pub fn see(w: &mut [u16; 96], sck: bool, sdi: bool, ss: bool)
+    ensures { λ _. ⌜ Steps (λ s. stepped s sck sdi ss) (now (w .entry)) (now (w .exit)) ⌝ }
+{
+    if ss {
+        see_high(w, sck, sdi);
+    } else {
+        see_selected(w, sck, sdi, false);
+    }
 }
 
 // A tick of a host's own clock, with the SDI level: one edge, or none with no word loaded.
-pub fn tick(m: Module, sdi: bool) -> Outcome
-    ensures { λ r. ⌜ r ≡ tickOf m sdi ⌝ }
+pub fn tick(w: &mut [u16; 96], sdi: bool) -> Answer
+    ensures { λ r. ⌜ Answers (tickOf (moduleIn (now (w .entry))) sdi) r (now (w .entry)) (now (w .exit)) ⌝ }
 {
-    let s = m.settings;
-    let n = m.engine;
-    let shift = n.shift;
+    let s = spi_memory::settings_in(w);
     if !s.spien {
-        return spi_access::refused(m, Refusal::Disabled);
+        return Answer::Refused(Refusal::Disabled);
     }
     if !spi_settings::own_clock(s) {
-        return spi_access::refused(m, Refusal::WrongClock);
+        return Answer::Refused(Refusal::WrongClock);
     }
-    if spi_buffers::is_free(shift) {
-        return Outcome {
-            answer: Answer::NoEdge,
-            after: m,
-        };
+    if spi_memory::is_free(w) {
+        return Answer::NoEdge;
     }
-    let to = spi_edges::step(s, !n.pins.sck, sdi, n.pins.ss, n);
-    Outcome {
-        answer: Answer::Edge,
-        after: Module {
-            settings: s,
-            engine: to,
-        },
+    turn(w, sdi);
+    Answer::Edge
+}
+
+// The levels SCK, SDI and SS are shown to a module that is clocked from its pin.
+pub fn pins(w: &mut [u16; 96], sck: bool, sdi: bool, ss: bool) -> Answer
+    ensures { λ r. ⌜ Answers (pinsOf (moduleIn (now (w .entry))) sck sdi ss) r (now (w .entry)) (now (w .exit)) ⌝ }
+{
+    let s = spi_memory::settings_in(w);
+    if !s.spien {
+        return Answer::Refused(Refusal::Disabled);
+    }
+    if spi_settings::own_clock(s) {
+        return Answer::Refused(Refusal::WrongClock);
+    }
+    see(w, sck, sdi, ss);
+    Answer::Done
+}
+
+// A read of BUF: refused when disabled or with nothing unread.
+fn read_buf(w: &mut [u16; 96]) -> Answer
+    ensures { λ r. ⌜ Answers (readBuf (moduleIn (now (w .entry)))) r (now (w .entry)) (now (w .exit)) ⌝ }
+{
+    let s = spi_memory::settings_in(w);
+    if !s.spien {
+        return Answer::Refused(Refusal::Disabled);
+    }
+    let r = spi_memory::receive_in(w);
+    if r.count == 0 {
+        return Answer::Refused(Refusal::ReceiveEmpty);
+    }
+    let word = spi_bits::low_bits(s, spi_buffers::first_unread(r));
+    spi_words::take_word(w);
+    Answer::Value(word)
+}
+
+// What a read of STAT shows.
+fn stat(w: &[u16; 96]) -> u16
+    ensures { λ r. ⌜ r ≡ statValue (moduleIn (now (w .entry))) ⌝ }
+{
+    let m = spi_memory::module_in(w);
+    spi_registers::stat_value(m)
+}
+
+// A read of a register.
+pub fn read(w: &mut [u16; 96], register: u32) -> Answer
+    ensures { λ r. ⌜ Answers (readOf (moduleIn (now (w .entry))) register) r (now (w .entry)) (now (w .exit)) ⌝ }
+{
+    if 3 < register {
+        return Answer::Refused(Refusal::NoSuchRegister);
+    }
+    if register == 0 {
+        return Answer::Value(stat(w));
+    }
+    if register == 1 {
+        let c = spi_memory::con1_in(w);
+        return Answer::Value(spi_registers::con1_value(c));
+    }
+    if register == 2 {
+        let c = spi_memory::con2_in(w);
+        return Answer::Value(spi_registers::con2_value(c));
+    }
+    read_buf(w)
+}
+
+// A write of BUF: refused when disabled or with the transmit buffer full.
+fn write_buf(w: &mut [u16; 96], v: u16) -> Answer
+    ensures { λ r. ⌜ Answers (writeBuf (moduleIn (now (w .entry))) v) r (now (w .entry)) (now (w .exit)) ⌝ }
+{
+    let s = spi_memory::settings_in(w);
+    if !s.spien {
+        return Answer::Refused(Refusal::Disabled);
+    }
+    let t = spi_memory::transmit_in(w);
+    if spi_settings::depth(s) <= t.count {
+        return Answer::Refused(Refusal::TransmitFull);
+    }
+    spi_words::accept_word(w, spi_bits::low_bits(s, v));
+    Answer::Done
+}
+
+// What a write of STAT does to the engine: enabling sets the levels, disabling empties.
+fn stat_written(w: &mut [u16; 96], v: u16)
+    ensures { λ _. ⌜ Steps (λ s. statWritten s v) (now (w .entry)) (now (w .exit)) ⌝ }
+{
+    let s = spi_memory::settings_in(w);
+    let on = v / 32768 % 2 == 1;
+    let spirov = spi_memory::spirov_in(w) & (v / 64 % 2 == 1);
+    spi_memory::store_spirov(w, spirov);
+    if !s.spien & on {
+        spi_memory::store_sck(w, s.con1.ckp);
+        spi_memory::store_ss(w, true);
+        spi_memory::store_sdo(w, false);
+        return;
+    }
+    if s.spien & !on {
+        spi_memory::store_free(w);
+        spi_memory::store_receive(w, spi_buffers::empty_receive());
+        spi_memory::store_transmit(w, spi_buffers::empty_transmit());
     }
 }
 
-// The levels of SCK, SDI and SS are shown to a module that is clocked from its pin.
-pub fn pins(m: Module, sck: bool, sdi: bool, ss: bool) -> Outcome
-    ensures { λ r. ⌜ r ≡ pinsOf m sck sdi ss ⌝ }
+// A write of STAT: refused when it would enable bad settings.
+fn write_stat(w: &mut [u16; 96], v: u16) -> Answer
+    ensures { λ r. ⌜ Answers (writeStat (moduleIn (now (w .entry))) v) r (now (w .entry)) (now (w .exit)) ⌝ }
 {
-    let s = m.settings;
-    let n = m.engine;
-    if !s.spien {
-        return spi_access::refused(m, Refusal::Disabled);
+    let s = spi_memory::settings_in(w);
+    let on = v / 32768 % 2 == 1;
+    if (!s.spien & on) & spi_settings::are_bad(s) {
+        return Answer::Refused(Refusal::BadSettings);
     }
-    if spi_settings::own_clock(s) {
-        return spi_access::refused(m, Refusal::WrongClock);
+    stat_written(w, v);
+    spi_memory::store_stat(w, v);
+    Answer::Done
+}
+
+// A write of CON1: refused while enabled.
+fn write_con1(w: &mut [u16; 96], v: u16) -> Answer
+    ensures { λ r. ⌜ Answers (configured (moduleIn (now (w .entry))) (withCon1 (settingsIn (now (w .entry))) (con1From v))) r (now (w .entry)) (now (w .exit)) ⌝ }
+{
+    let s = spi_memory::settings_in(w);
+    if s.spien {
+        return Answer::Refused(Refusal::Enabled);
     }
-    let to = spi_edges::step(s, sck, sdi, ss, n);
-    Outcome {
-        answer: Answer::Done,
-        after: Module {
-            settings: s,
-            engine: to,
-        },
+    spi_memory::store_con1(w, v);
+    Answer::Done
+}
+
+// A write of CON2: refused while enabled.
+fn write_con2(w: &mut [u16; 96], v: u16) -> Answer
+    ensures { λ r. ⌜ Answers (configured (moduleIn (now (w .entry))) (withCon2 (settingsIn (now (w .entry))) (con2From v))) r (now (w .entry)) (now (w .exit)) ⌝ }
+{
+    let s = spi_memory::settings_in(w);
+    if s.spien {
+        return Answer::Refused(Refusal::Enabled);
     }
+    spi_memory::store_con2(w, v);
+    Answer::Done
+}
+
+// A write of a register.
+pub fn write(w: &mut [u16; 96], register: u32, v: u16) -> Answer
+    ensures { λ r. ⌜ Answers (writeOf (moduleIn (now (w .entry))) register v) r (now (w .entry)) (now (w .exit)) ⌝ }
+{
+    if 3 < register {
+        return Answer::Refused(Refusal::NoSuchRegister);
+    }
+    if register == 0 {
+        return write_stat(w, v);
+    }
+    if register == 1 {
+        return write_con1(w, v);
+    }
+    if register == 2 {
+        return write_con2(w, v);
+    }
+    write_buf(w, v)
 }
 
 // The interrupt flag is cleared.
-pub fn clear(m: Module) -> Outcome
-    ensures { λ r. ⌜ r ≡ clearOf m ⌝ }
+pub fn clear(w: &mut [u16; 96]) -> Answer
+    ensures { λ r. ⌜ Answers (clearOf (moduleIn (now (w .entry)))) r (now (w .entry)) (now (w .exit)) ⌝ }
 {
-    let mut to = m;
-    to.engine.interrupt = false;
-    Outcome {
-        answer: Answer::Done,
-        after: to,
-    }
+    spi_memory::store_interrupt(w, false);
+    Answer::Done
 }
 
 // Any call by its name.
-pub fn perform(m: Module, c: Call) -> Outcome
-    ensures { λ r. ⌜ r ≡ performOf m c ⌝ }
+pub fn perform(w: &mut [u16; 96], c: Call) -> Answer
+    ensures { λ r. ⌜ Answers (performOf (moduleIn (now (w .entry))) c) r (now (w .entry)) (now (w .exit)) ⌝ }
 {
     match c {
-        Call::Read(register) => read(m, register),
-        Call::Write(register, v) => write(m, register, v),
-        Call::Tick(sdi) => tick(m, sdi),
-        Call::Pin(sck, sdi, ss) => pins(m, sck, sdi, ss),
-        Call::Clear => clear(m),
+        Call::Read(register) => read(w, register),
+        Call::Write(register, v) => write(w, register, v),
+        Call::Tick(sdi) => tick(w, sdi),
+        Call::Pin(sck, sdi, ss) => pins(w, sck, sdi, ss),
+        Call::Clear => clear(w),
     }
+}
+
+// The SDO pin: its level, or undriven.
+pub fn sdo(w: &[u16; 96]) -> Sdo
+    ensures { λ r. ⌜ r ≡ sdoOf (moduleIn (now (w .entry))) ⌝ }
+{
+    let s = spi_memory::settings_in(w);
+    let pins = spi_memory::pins_in(w);
+    spi_views::sdo_by(s, pins)
 }

@@ -9,6 +9,7 @@ use Rattle.spi_rules.specs.declared.Con2.{Con2}
 use Rattle.spi_rules.specs.declared.Settings.{Settings}
 use Rattle.spi_rules.specs.declared.Engine.{Engine}
 use Rattle.spi_rules.specs.declared.Module.{Module}
+use Rattle.spi_rules.specs.declared.Pins.{Pins}
 use Rattle.spi_rules.specs.declared.Outcome.{Outcome}
 use Rattle.spi_rules.specs.declared.Shift.the-variants.{Free}
 use Rattle.spi_rules.specs.declared.Event.the-variants.{Taken, Written}
@@ -21,6 +22,7 @@ use Rattle.spi_rules.specs.declared.Call.the-variants.{Read, Write, Tick
 use Rattle.spi_rules.specs.declared.Sdo.{Sdo}
 use Rattle.spi_rules.specs.declared.Sdo.the-variants.{Low, High, Undriven}
 use Rattle.spi_rules.specs.Choice.{if_then_else_}
+use Rattle.spi_rules.specs.Changes.{withTransmit, withReceive, withInterrupt}
 use Rattle.spi_rules.specs.Settings.{depthOf, ownClock}
 use Rattle.spi_rules.specs.Refusals.{badSettings}
 use Rattle.spi_rules.specs.Registers.{con1From, con1Value, con2From, con2Value, bitOf, isFree, statValue, statSettings, statEngine, enabledEngine, disabledEngine, lowBits, spitbf}
@@ -57,15 +59,7 @@ poweredUp =
 -- The first unread word is taken by a BUF read, which is an event.
 unfoldable pub wordTaken : Settings → Engine → Engine
 wordTaken s n =
-    noted s (Taken (taken (depthOf s) (n .receive) .count))
-    record {
-      transmit = n .transmit;
-      receive = taken (depthOf s) (n .receive);
-      shift = n .shift;
-      pins = n .pins;
-      spirov = n .spirov;
-      interrupt = n .interrupt;
-    }
+    noted s (Taken (taken (depthOf s) (n .receive) .count)) (withReceive (taken (depthOf s) (n .receive)) n)
 
 -- BUF read: 2, then 6; then the first unread word is taken, and shown with zeros above its width.
 unfoldable pub readBuf : Module → Outcome
@@ -124,16 +118,7 @@ configured m s =
 -- nothing begun SDO follows the word to be sent next.
 unfoldable pub wordWritten : Settings → ℕ → Engine → Engine
 wordWritten s word n =
-    let queued : Engine =
-    record {
-      transmit = written (depthOf s) word (n .transmit);
-      receive = n .receive;
-      shift = n .shift;
-      pins = n .pins;
-      spirov = n .spirov;
-      interrupt = n .interrupt;
-    }
-    in
+    let queued : Engine = withTransmit (written (depthOf s) word (n .transmit)) n in
     rested s (noted s (Written (loaded s queued .transmit .count)) (loaded s queued))
 
 -- BUF write: 2, then 5; then the low w bits are the accepted word.
@@ -169,16 +154,7 @@ pinsOf m sck sdi ss =
 
 -- The clear call, enabled or not: nothing else clears the interrupt flag.
 unfoldable pub clearOf : Module → Outcome
-clearOf m =
-    answering m Done
-    record {
-      transmit = m .engine .transmit;
-      receive = m .engine .receive;
-      shift = m .engine .shift;
-      pins = m .engine .pins;
-      spirov = m .engine .spirov;
-      interrupt = false;
-    }
+clearOf m = answering m Done (withInterrupt false (m .engine))
 
 -- Each call by its name.
 unfoldable pub performOf : Module → Call → Outcome
@@ -201,9 +177,14 @@ unfoldable pub sckOf : Module → Bool
 sckOf m = m .engine .pins .sck
 
 -- SDO is undriven when disabled, under DISSDO, and for an SSEN client with SS high ("Bits").
+abbrev pub undrivenBy : Settings → Pins → Bool
+undrivenBy s p = not (s .spien) || (s .con1 .dissdo || deselected s (p .ss))
+
 unfoldable pub undriven : Module → Bool
-undriven m =
-    not (m .settings .spien) || (m .settings .con1 .dissdo || deselected (m .settings) (m .engine .pins .ss))
+undriven m = undrivenBy (m .settings) (m .engine .pins)
+
+abbrev pub sdoBy : Bool → Pins → Sdo
+sdoBy off p = if off then Undriven else if p .sdo then High else Low
 
 unfoldable pub sdoOf : Module → Sdo
-sdoOf m = if undriven m then Undriven else if m .engine .pins .sdo then High else Low
+sdoOf m = sdoBy (undriven m) (m .engine .pins)

@@ -52,10 +52,11 @@ clockOf s f =
     else External (floatOf f)
 
 -- The report for an instruction rate F. Test 8 comes first: the rate 0 is refused, of a disabled module too.
+abbrev pub reportBy : Settings → ℕ → Reported
+reportBy s f = if eqb f 0 then Refused NoRate else Answered (clockOf s f)
+
 unfoldable pub reportOf : Module → ℕ → Reported
-reportOf m f =
-    if eqb f 0 then Refused NoRate
-    else Answered (clockOf (m .settings) f)
+reportOf m f = reportBy (m .settings) f
 
 -- What each case of a report says in the paper's numbers. A float that a case does not carry is told as 0.
 abbrev pub nought : Float

@@ -8,6 +8,7 @@ use Rattle.spi_rules.specs.declared.Progress.{Progress}
 use Rattle.spi_rules.specs.declared.Shift.{Shift}
 use Rattle.spi_rules.specs.declared.Shift.the-variants.{Free, Loaded, Begun}
 use Rattle.spi_rules.specs.Choice.{if_then_else_}
+use Rattle.spi_rules.specs.Changes.{withShift, withSck, withSdo}
 use Rattle.spi_rules.specs.Settings.{widthOf, ssenClient}
 use Rattle.spi_rules.specs.Buffers.{empty, firstWaiting}
 use Rattle.spi_rules.specs.Bits.{receivedAfter, sdoAfter, progressed}
@@ -36,19 +37,7 @@ begun s n (Begun p) = Begun p
 -- An edge short of 2w: one more is counted, and SDI is sampled or SDO changes.
 unfoldable pub shifted : Settings → Bool → Progress → Engine → Engine
 shifted s sdi p n =
-    record {
-      transmit = n .transmit;
-      receive = n .receive;
-      shift = Begun (progressed s sdi p);
-      pins =
-          record {
-            sck = n .pins .sck;
-            ss = n .pins .ss;
-            sdo = sdoAfter s (p .word) (p .edges + 1) (n .pins .sdo);
-          };
-      spirov = n .spirov;
-      interrupt = n .interrupt;
-    }
+    withSdo (sdoAfter s (p .word) (p .edges + 1) (n .pins .sdo)) (withShift (Begun (progressed s sdi p)) n)
 
 -- One edge of a begun word. It finishes at edge 2w and no sooner.
 unfoldable pub advanced : Settings → Bool → Progress → Engine → Engine
@@ -69,15 +58,7 @@ underWay s sck n = if Bool·beq sck (s .con1 .ckp) then n .shift else begun s n 
 
 -- The clock level is remembered.
 unfoldable pub clocked : Bool → Engine → Engine
-clocked sck n =
-    record {
-      transmit = n .transmit;
-      receive = n .receive;
-      shift = n .shift;
-      pins = record { sck = sck; ss = n .pins .ss; sdo = n .pins .sdo };
-      spirov = n .spirov;
-      interrupt = n .interrupt;
-    }
+clocked sck n = withSck sck n
 
 -- An edge to the level `sck`. Deselected, it only updates the remembered level.
 unfoldable pub edged : Settings → Bool → Bool → Engine → Engine

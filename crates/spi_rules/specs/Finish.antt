@@ -6,6 +6,7 @@ use Rattle.spi_rules.specs.declared.Engine.{Engine}
 use Rattle.spi_rules.specs.declared.Shift.the-variants.{Free}
 use Rattle.spi_rules.specs.declared.Event.the-variants.{Appended, Finished}
 use Rattle.spi_rules.specs.Choice.{if_then_else_}
+use Rattle.spi_rules.specs.Changes.{withReceive, withShift, withSpirov}
 use Rattle.spi_rules.specs.Settings.{depthOf, ssenClient}
 use Rattle.spi_rules.specs.Buffers.{full, appended}
 use Rattle.spi_rules.specs.Interrupts.{noted}
@@ -13,28 +14,12 @@ use Rattle.spi_rules.specs.Loading.{wordLeaves, loaded, rested}
 
 -- A received word is lost: it is dropped, and SPIROV stands from this step on.
 unfoldable pub overflowed : Engine → Engine
-overflowed n =
-    record {
-      transmit = n .transmit;
-      receive = n .receive;
-      shift = n .shift;
-      pins = n .pins;
-      spirov = true;
-      interrupt = n .interrupt;
-    }
+overflowed n = withSpirov true n
 
 -- A received word is appended, which is an event.
 unfoldable pub wordAppended : Settings → ℕ → Engine → Engine
 wordAppended s word n =
-    noted s (Appended (appended (depthOf s) word (n .receive) .count))
-    record {
-      transmit = n .transmit;
-      receive = appended (depthOf s) word (n .receive);
-      shift = n .shift;
-      pins = n .pins;
-      spirov = n .spirov;
-      interrupt = n .interrupt;
-    }
+    noted s (Appended (appended (depthOf s) word (n .receive) .count)) (withReceive (appended (depthOf s) word (n .receive)) n)
 
 -- When a received word is lost: it finds its buffer full.
 unfoldable pub isLost : Settings → Engine → Bool
@@ -50,16 +35,7 @@ sentDropped s filler n = if ssenClient s && not filler then wordLeaves s n else 
 
 -- The shift register is free again, and the finish itself is an event: the words then left to send are those waiting.
 unfoldable pub freed : Settings → Engine → Engine
-freed s n =
-    noted s (Finished (n .transmit .count))
-    record {
-      transmit = n .transmit;
-      receive = n .receive;
-      shift = Free;
-      pins = n .pins;
-      spirov = n .spirov;
-      interrupt = n .interrupt;
-    }
+freed s n = noted s (Finished (n .transmit .count)) (withShift Free n)
 
 -- The whole finish: the received word, the sent word, then the next word loads and, with CKE 1, shows its top bit.
 unfoldable pub finished : Settings → Bool → ℕ → Engine → Engine

@@ -8,6 +8,7 @@ use Rattle.spi_rules.specs.declared.Engine.{Engine}
 use Rattle.spi_rules.specs.declared.Event.{Event}
 use Rattle.spi_rules.specs.declared.Event.the-variants.{Taken, Appended, Left, Finished, Written}
 use Rattle.spi_rules.specs.Choice.{if_then_else_}
+use Rattle.spi_rules.specs.Changes.{withInterrupt}
 use Rattle.spi_rules.specs.Settings.{depthOf}
 
 -- The counts that SISEL names are the depth, one less, and three quarters of it: 8, 7 and 6 at depth 8.
@@ -43,12 +44,4 @@ raises s e = if s .con2 .spiben then enhancedRaises (depthOf s) (s .sisel) e els
 
 -- The engine after an event: its interrupt flag stands if it stood or if the event raises it.
 unfoldable pub noted : Settings → Event → Engine → Engine
-noted s e n =
-    record {
-      transmit = n .transmit;
-      receive = n .receive;
-      shift = n .shift;
-      pins = n .pins;
-      spirov = n .spirov;
-      interrupt = n .interrupt || raises s e;
-    }
+noted s e n = withInterrupt (n .interrupt || raises s e) n

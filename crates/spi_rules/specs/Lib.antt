@@ -1,6 +1,7 @@
 -- Document 01's rules as definitions that compute, a file for each topic. Read them in this order: each stands on those
 -- before it. The demands come first for a buyer: Demands, then what it mentions.
 pub mod Choice
+pub mod Changes
 pub mod Ring
 pub mod Settings
 pub mod Buffers

@@ -8,6 +8,7 @@ use Rattle.spi_rules.specs.declared.Shift.{Shift}
 use Rattle.spi_rules.specs.declared.Shift.the-variants.{Free, Loaded, Begun}
 use Rattle.spi_rules.specs.declared.Event.the-variants.{Left}
 use Rattle.spi_rules.specs.Choice.{if_then_else_}
+use Rattle.spi_rules.specs.Changes.{withTransmit, withShift, withSdo}
 use Rattle.spi_rules.specs.Settings.{widthOf, depthOf, ssenClient}
 use Rattle.spi_rules.specs.Registers.{bitOf, isFree}
 use Rattle.spi_rules.specs.Buffers.{empty, firstWaiting, departed}
@@ -16,28 +17,11 @@ use Rattle.spi_rules.specs.Interrupts.{noted}
 -- The first waiting word leaves the transmit buffer, which is an event.
 unfoldable pub wordLeaves : Settings → Engine → Engine
 wordLeaves s n =
-    noted s (Left (departed (depthOf s) (n .transmit) .count))
-    record {
-      transmit = departed (depthOf s) (n .transmit);
-      receive = n .receive;
-      shift = n .shift;
-      pins = n .pins;
-      spirov = n .spirov;
-      interrupt = n .interrupt;
-    }
+    noted s (Left (departed (depthOf s) (n .transmit) .count)) (withTransmit (departed (depthOf s) (n .transmit)) n)
 
 -- The first waiting word moves to the shift register.
 unfoldable pub moved : Settings → Engine → Engine
-moved s n =
-    wordLeaves s
-    record {
-      transmit = n .transmit;
-      receive = n .receive;
-      shift = Loaded (firstWaiting (n .transmit));
-      pins = n .pins;
-      spirov = n .spirov;
-      interrupt = n .interrupt;
-    }
+moved s n = wordLeaves s (withShift (Loaded (firstWaiting (n .transmit))) n)
 
 -- A word can load: the shift register is free, a word waits, and the module is no SSEN client, whose word stays in the
 -- transmit buffer until finished.
@@ -63,15 +47,7 @@ isBegun (Begun p) = true
 
 -- The engine with another SDO level.
 unfoldable pub sdoAt : Bool → Engine → Engine
-sdoAt level n =
-    record {
-      transmit = n .transmit;
-      receive = n .receive;
-      shift = n .shift;
-      pins = record { sck = n .pins .sck; ss = n .pins .ss; sdo = level };
-      spirov = n .spirov;
-      interrupt = n .interrupt;
-    }
+sdoAt level n = withSdo level n
 
 -- With CKE 1 and no word begun SDO shows the top bit of the word to be sent next. With CKE 0 it stays between words.
 unfoldable pub rested : Settings → Engine → Engine

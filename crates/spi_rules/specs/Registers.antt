@@ -10,6 +10,7 @@ use Rattle.spi_rules.specs.declared.Module.{Module}
 use Rattle.spi_rules.specs.declared.Shift.{Shift}
 use Rattle.spi_rules.specs.declared.Shift.the-variants.{Free, Loaded, Begun}
 use Rattle.spi_rules.specs.Choice.{if_then_else_}
+use Rattle.spi_rules.specs.Changes.{withTransmit, withReceive, withShift, withPins, withSpirov}
 use Rattle.spi_rules.specs.Settings.{widthOf, depthOf}
 use Rattle.spi_rules.specs.Buffers.{full, empty, emptyTransmit, emptyReceive}
 
@@ -130,36 +131,12 @@ spirovAfter v spirov = spirov && bitOf v 6
 
 -- A STAT write that leaves SPIEN as it was moves nothing but SPIROV.
 unfoldable pub statEngine : ℕ → Engine → Engine
-statEngine v n =
-    record {
-      transmit = n .transmit;
-      receive = n .receive;
-      shift = n .shift;
-      pins = n .pins;
-      spirov = spirovAfter v (n .spirov);
-      interrupt = n .interrupt;
-    }
+statEngine v n = withSpirov (spirovAfter v (n .spirov)) n
 
 -- SPIEN from 0 to 1 sets the remembered clock level to idle (the level CKP), select to high and SDO to 0.
 unfoldable pub enabledEngine : ℕ → Con1 → Engine → Engine
-enabledEngine v c n =
-    record {
-      transmit = n .transmit;
-      receive = n .receive;
-      shift = n .shift;
-      pins = record { sck = c .ckp; ss = true; sdo = false };
-      spirov = spirovAfter v (n .spirov);
-      interrupt = n .interrupt;
-    }
+enabledEngine v c n = withPins (record { sck = c .ckp; ss = true; sdo = false }) (withSpirov (spirovAfter v (n .spirov)) n)
 
 -- SPIEN from 1 to 0 empties both buffers and the shift register. The interrupt flag stays.
 unfoldable pub disabledEngine : ℕ → Engine → Engine
-disabledEngine v n =
-    record {
-      transmit = emptyTransmit;
-      receive = emptyReceive;
-      shift = Free;
-      pins = n .pins;
-      spirov = spirovAfter v (n .spirov);
-      interrupt = n .interrupt;
-    }
+disabledEngine v n = withTransmit emptyTransmit (withReceive emptyReceive (withShift Free (withSpirov (spirovAfter v (n .spirov)) n)))

@@ -4,34 +4,18 @@ use Rattle.spi_rules.specs.declared.Settings.{Settings}
 use Rattle.spi_rules.specs.declared.Engine.{Engine}
 use Rattle.spi_rules.specs.declared.Shift.the-variants.{Free}
 use Rattle.spi_rules.specs.Choice.{if_then_else_}
+use Rattle.spi_rules.specs.Changes.{withShift, withSs}
 use Rattle.spi_rules.specs.Settings.{ssenClient}
 use Rattle.spi_rules.specs.Loading.{isBegun, rested}
 
 -- The select level is remembered, whatever the role.
 unfoldable pub selectRemembered : Bool → Engine → Engine
-selectRemembered ss n =
-    record {
-      transmit = n .transmit;
-      receive = n .receive;
-      shift = n .shift;
-      pins = record { sck = n .pins .sck; ss = ss; sdo = n .pins .sdo };
-      spirov = n .spirov;
-      interrupt = n .interrupt;
-    }
+selectRemembered ss n = withSs ss n
 
 -- The begun word's bits are forgotten, those sent and those received. The word itself still waits in the transmit
 -- buffer, and a filler is gone. With CKE 1 SDO shows the top bit of the word to be sent; with CKE 0 it stays.
 unfoldable pub aborted : Settings → Engine → Engine
-aborted s n =
-    rested s
-    record {
-      transmit = n .transmit;
-      receive = n .receive;
-      shift = Free;
-      pins = n .pins;
-      spirov = n .spirov;
-      interrupt = n .interrupt;
-    }
+aborted s n = rested s (withShift Free n)
 
 -- An SSEN client is deselected while select is high.
 abbrev pub deselected : Settings → Bool → Bool

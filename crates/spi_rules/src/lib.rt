@@ -231,7 +231,13 @@ pub enum Line {
     Asked(Call),
 }
 
-// Where a script that is being played stands: the module so far, the lines answered, and the place of the next line.
+// Where a script that is being played stands: the lines answered, and the place of the next line.
+pub struct Bookmark {
+    pub lines: u32,
+    pub at: usize,
+}
+
+// A script that is being played, as the definitions see it: the module so far, and where the script stands.
 pub struct Session {
     pub spi: Module,
     pub lines: u32,
@@ -240,6 +246,6 @@ pub struct Session {
 
 // What playing a piece of a script returns: where the script stands after it, and how many bytes were written.
 pub struct Piece {
-    pub session: Session,
+    pub to: Bookmark,
     pub written: usize,
 }

@@ -6,10 +6,11 @@ use libc::STDOUT_FILENO;
 fn main() {
     let mut script = [0u8; 65535];
     let n = io::read_full(STDIN_FILENO, &mut script);
-    let mut session = spi_session::start();
+    let mut spi = [0u16; 96];
+    let mut place = spi_session::start(&mut spi);
     let mut out = [0u8; 4096];
     for _ in 0..256u32 {
-        let piece = spi_session::piece(&script[..n], session, &mut out);
+        let piece = spi_session::piece(&script[..n], &mut spi, place, &mut out);
         let written = piece.written;
         if written == 0 {
             return;
@@ -17,6 +18,6 @@ fn main() {
         if !io::write_all(STDOUT_FILENO, &out[..written]) {
             return;
         }
-        session = piece.session;
+        place = piece.to;
     }
 }

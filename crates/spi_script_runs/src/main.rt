@@ -11,10 +11,11 @@ fn print(text: &[u8]) {
 
 // Plays a script and prints its answers.
 fn play(script: &[u8]) {
-    let mut session = spi_session::start();
+    let mut spi = [0u16; 96];
+    let mut place = spi_session::start(&mut spi);
     let mut out = [0u8; 4096];
     for _ in 0..256u32 {
-        let piece = spi_session::piece(script, session, &mut out);
+        let piece = spi_session::piece(script, &mut spi, place, &mut out);
         let written = piece.written;
         if written == 0 {
             return;
@@ -22,7 +23,7 @@ fn play(script: &[u8]) {
         if !io::write_all(STDOUT_FILENO, &out[..written]) {
             return;
         }
-        session = piece.session;
+        place = piece.to;
     }
 }
 
@@ -64,13 +65,14 @@ fn print_tally(bytes: u32, sum: u32, text: &[u8]) {
 
 // Plays a script and prints how many bytes its answers are, their checksum, and their last line.
 fn tally(script: &[u8]) {
-    let mut session = spi_session::start();
+    let mut spi = [0u16; 96];
+    let mut place = spi_session::start(&mut spi);
     let mut out = [0u8; 4096];
     let mut last: usize = 0;
     let mut bytes: u32 = 0;
     let mut sum: u32 = 0;
     for _ in 0..256u32 {
-        let piece = spi_session::piece(script, session, &mut out);
+        let piece = spi_session::piece(script, &mut spi, place, &mut out);
         let written = piece.written;
         if written == 0 {
             break;
@@ -78,7 +80,7 @@ fn tally(script: &[u8]) {
         last = written;
         bytes += written as u32;
         sum = checksum(sum, &out[..written]);
-        session = piece.session;
+        place = piece.to;
     }
     print_tally(bytes, sum, &out[..last]);
 }

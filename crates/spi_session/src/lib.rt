@@ -1,35 +1,27 @@
-// Playing a script: each line is read, asked of the module and answered, piece by piece into a lent buffer.
+// Playing a script on a module in memory: each line is read, asked of the module and answered, piece by piece into a lent
+// buffer.
 use spi_rules::Answer;
+use spi_rules::Bookmark;
 use spi_rules::Call;
 use spi_rules::Line;
-use spi_rules::Module;
 use spi_rules::Piece;
 use spi_rules::Refusal;
 use spi_rules::Sdo;
-use spi_rules::Session;
 ghost use Prim.Native.Nat.{_+_, _%_, _≤_, _<_};
 ghost use mathlib.Core.Path.{_≡_};
 ghost use mathlib.Core.List.{[], _∷_};
 ghost use lib.ListN.{length};
 ghost use Rattle.spi_rules.specs.Script.{decimalOf, hexOf, fourHexOf, levelOf, sdoLetter, refusedText, okText, pinText, edgeText, doneText, answerText, lineAfter, answerLine, readFrom};
 ghost use Rattle.spi_rules.specs.Session.{started, played, answers, pieceAfter, pieceText};
-ghost use Rattle.spi_session.specs.Written.{Written};
-
-// What answering a line comes to: the module after it, and the next place in the buffer.
-struct Told {
-    spi: Module,
-    next: usize,
-}
+ghost use Rattle.spi_memory.specs.Memory.{moduleIn};
+ghost use Rattle.spi_session.specs.Written.{Written, sessionIn};
 
 // A script starts with a module at power-up.
-pub fn start() -> Session
-    ensures { λ r. ⌜ r ≡ started ⌝ }
+pub fn start(w: &mut [u16; 96]) -> Bookmark
+    ensures { λ r. ⌜ sessionIn (now (w .exit)) r ≡ started ⌝ }
 {
-    Session {
-        spi: spi_module::power_up(),
-        lines: 0,
-        at: 0,
-    }
+    spi_memory::power_up(w);
+    Bookmark { lines: 0, at: 0 }
 }
 
 // One byte more.
@@ -120,32 +112,33 @@ fn put_ok(out: &mut [u8; 4096], at: usize) -> usize
 }
 
 // SDO and the interrupt flag.
-fn put_pins(out: &mut [u8; 4096], at: usize, m: Module) -> usize
+fn put_pins(out: &mut [u8; 4096], at: usize, w: &[u16; 96]) -> usize
     requires { ⌜ at + 3 ≤ 4096 ⌝ }
-    ensures { λ r. ⌜ Written (pinText m) (now (out .entry)) at (now (out .exit)) r ⌝ }
+    ensures { λ r. ⌜ Written (pinText (moduleIn (now (w .entry)))) (now (out .entry)) at (now (out .exit)) r ⌝ }
 {
-    let second = put(out, at, sdo_letter(spi_views::sdo(m)));
+    let second = put(out, at, sdo_letter(spi_module::sdo(w)));
     let third = put(out, second, b' ');
-    put(out, third, level_letter(spi_views::interrupt(m)))
+    put(out, third, level_letter(spi_memory::interrupt_in(w)))
 }
 
 // SCK, SDO and the interrupt flag.
-fn put_edge(out: &mut [u8; 4096], at: usize, m: Module) -> usize
+fn put_edge(out: &mut [u8; 4096], at: usize, w: &[u16; 96]) -> usize
     requires { ⌜ at + 5 ≤ 4096 ⌝ }
-    ensures { λ r. ⌜ Written (edgeText m) (now (out .entry)) at (now (out .exit)) r ⌝ }
+    ensures { λ r. ⌜ Written (edgeText (moduleIn (now (w .entry)))) (now (out .entry)) at (now (out .exit)) r ⌝ }
 {
-    let second = put(out, at, level_letter(spi_views::sck(m)));
+    let pins = spi_memory::pins_in(w);
+    let second = put(out, at, level_letter(pins.sck));
     let third = put(out, second, b' ');
-    put_pins(out, third, m)
+    put_pins(out, third, w)
 }
 
 // What a call that was done tells.
-fn put_done(out: &mut [u8; 4096], at: usize, c: Call, m: Module) -> usize
+fn put_done(out: &mut [u8; 4096], at: usize, c: Call, w: &[u16; 96]) -> usize
     requires { ⌜ at + 3 ≤ 4096 ⌝ }
-    ensures { λ r. ⌜ Written (doneText c m) (now (out .entry)) at (now (out .exit)) r ⌝ }
+    ensures { λ r. ⌜ Written (doneText c (moduleIn (now (w .entry)))) (now (out .entry)) at (now (out .exit)) r ⌝ }
 {
     match c {
-        Call::Pin(_, _, _) => put_pins(out, at, m),
+        Call::Pin(_, _, _) => put_pins(out, at, w),
         Call::Write(_, _) => put_ok(out, at),
         Call::Clear => put_ok(out, at),
         Call::Read(_) => put_ok(out, at),
@@ -154,56 +147,48 @@ fn put_done(out: &mut [u8; 4096], at: usize, c: Call, m: Module) -> usize
 }
 
 // What an answer to a call tells.
-fn put_answer(out: &mut [u8; 4096], at: usize, c: Call, a: Answer, m: Module) -> usize
+fn put_answer(out: &mut [u8; 4096], at: usize, c: Call, a: Answer, w: &[u16; 96]) -> usize
     requires { ⌜ at + 5 ≤ 4096 ⌝ }
-    ensures { λ r. ⌜ Written (answerText c a m) (now (out .entry)) at (now (out .exit)) r ⌝ }
+    ensures { λ r. ⌜ Written (answerText c a (moduleIn (now (w .entry)))) (now (out .entry)) at (now (out .exit)) r ⌝ }
 {
     match a {
         Answer::Refused(r) => put_refused(out, at, r),
-        Answer::Done => put_done(out, at, c, m),
+        Answer::Done => put_done(out, at, c, w),
         Answer::Value(v) => put_value(out, at, v),
         Answer::NoEdge => put(out, at, b'N'),
-        Answer::Edge => put_edge(out, at, m),
+        Answer::Edge => put_edge(out, at, w),
     }
 }
 
 // The whole answer to a line: its number, a space, what it tells, and LF. A line that cannot be read gives 9.
-fn answer_line(out: &mut [u8; 4096], at: usize, number: u32, m: Module, line: Line) -> Told
+fn answer_line(out: &mut [u8; 4096], at: usize, number: u32, w: &mut [u16; 96], line: Line) -> usize
     requires { ⌜ (at + 16 ≤ 4096) × (number ≤ 65536) ⌝ }
-    ensures { λ r. ⌜ r .spi ≡ lineAfter m line ⌝ }
-    ensures { λ r. ⌜ Written (answerLine number m line) (now (out .entry)) at (now (out .exit)) (r .next) ⌝ }
+    ensures { λ r. ⌜ moduleIn (now (w .exit)) ≡ lineAfter (moduleIn (now (w .entry))) line ⌝ }
+    ensures { λ r. ⌜ Written (answerLine number (moduleIn (now (w .entry))) line) (now (out .entry)) at (now (out .exit)) r ⌝ }
 {
     let gap = put_decimal(out, at, number);
     let place = put(out, gap, b' ');
     match line {
         Line::Unreadable => {
             let end = put_refused(out, place, Refusal::UnreadableLine);
-            let next = put(out, end, b'\n');
-            Told { spi: m, next: next }
+            put(out, end, b'\n')
         }
         Line::Asked(c) => {
-            let o = spi_module::perform(m, c);
-            let answer = o.answer;
-            let after = o.after;
-            let end = put_answer(out, place, c, answer, after);
-            let next = put(out, end, b'\n');
-            Told {
-                spi: after,
-                next: next,
-            }
+            let answer = spi_module::perform(w, c);
+            let end = put_answer(out, place, c, answer, w);
+            put(out, end, b'\n')
         }
     }
 }
 
 // The next line of a script is played, if one is left. The script is cut at its limit already.
-fn play_line(script: &[u8], p: Piece, out: &mut [u8; 4096]) -> Piece
+fn play_line(script: &[u8], w: &mut [u16; 96], p: Piece, out: &mut [u8; 4096]) -> Piece
     requires { ⌜ (readFrom (now script) ≡ now script) × (p .written + 16 ≤ 4096) ⌝ }
-    ensures { λ r. ⌜ r .session ≡ played 1 (now (script .entry)) (p .session) ⌝ }
-    ensures { λ r. ⌜ Written (answers 1 (now (script .entry)) (p .session)) (now (out .entry)) (p .written) (now (out .exit)) (r .written) ⌝ }
+    ensures { λ r. ⌜ sessionIn (now (w .exit)) (r .to) ≡ played 1 (now (script .entry)) (sessionIn (now (w .entry)) (p .to)) ⌝ }
+    ensures { λ r. ⌜ Written (answers 1 (now (script .entry)) (sessionIn (now (w .entry)) (p .to))) (now (out .entry)) (p .written) (now (out .exit)) (r .written) ⌝ }
 {
-    let s = p.session;
-    let at = s.at;
-    let lines = s.lines;
+    let at = p.to.at;
+    let lines = p.to.lines;
     let written = p.written;
     if script.len() <= at {
         return p;
@@ -214,12 +199,9 @@ fn play_line(script: &[u8], p: Piece, out: &mut [u8; 4096]) -> Piece
     let end = at + spi_lines::line_length(script, at);
     let line = spi_lines::reading(&script[at..end]);
     let number = lines + 1;
-    let told = answer_line(out, written, number, s.spi, line);
-    let spi = told.spi;
-    let next = told.next;
+    let next = answer_line(out, written, number, w, line);
     Piece {
-        session: Session {
-            spi: spi,
+        to: Bookmark {
             lines: number,
             at: end + 1,
         },
@@ -239,20 +221,20 @@ fn bytes_read(script: &[u8]) -> usize
 
 // Plays the next 256 lines of a script, or those that are left if they are fewer, and puts their answers at the start of
 // the buffer. A script ends after its first 65,535 bytes.
-pub fn piece(script: &[u8], from: Session, out: &mut [u8; 4096]) -> Piece
-    ensures { λ r. ⌜ r .session ≡ pieceAfter (now (script .entry)) from ⌝ }
-    ensures { λ r. ⌜ Written (pieceText (now (script .entry)) from) (now (out .entry)) 0 (now (out .exit)) (r .written) ⌝ }
+pub fn piece(script: &[u8], w: &mut [u16; 96], from: Bookmark, out: &mut [u8; 4096]) -> Piece
+    ensures { λ r. ⌜ sessionIn (now (w .exit)) (r .to) ≡ pieceAfter (now (script .entry)) (sessionIn (now (w .entry)) from) ⌝ }
+    ensures { λ r. ⌜ Written (pieceText (now (script .entry)) (sessionIn (now (w .entry)) from)) (now (out .entry)) 0 (now (out .exit)) (r .written) ⌝ }
     ensures { λ r. ⌜ (r .written ≤ 4096) × (length (now (out .exit)) ≡ length (now (out .entry))) ⌝ }
 {
     let end = bytes_read(script);
     let read = &script[..end];
     let mut p = Piece {
-        session: from,
+        to: from,
         written: 0,
     };
     let mut k: u32 = 0;
     while k < 256 {
-        p = play_line(read, p, out);
+        p = play_line(read, w, p, out);
         k += 1;
     }
     p

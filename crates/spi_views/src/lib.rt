@@ -2,12 +2,14 @@
 // numbers.
 use spi_rules::Answer;
 use spi_rules::Module;
+use spi_rules::Pins;
 use spi_rules::Refusal;
 use spi_rules::Said;
 use spi_rules::Sdo;
+use spi_rules::Settings;
 ghost use mathlib.Core.Path.{_≡_};
 ghost use Rattle.spi_rules.specs.Refusals.{numberOf, saidOf};
-ghost use Rattle.spi_rules.specs.Calls.{interruptOf, sckOf, sdoOf};
+ghost use Rattle.spi_rules.specs.Calls.{interruptOf, sckOf, undrivenBy, sdoBy, sdoOf};
 
 // The paper's number for a refusal.
 pub fn refusal_number(r: Refusal) -> u8
@@ -75,12 +77,10 @@ pub fn sck(m: Module) -> bool
     m.engine.pins.sck
 }
 
-// The SDO pin: its level, or undriven.
-pub fn sdo(m: Module) -> Sdo
-    ensures { λ r. ⌜ r ≡ sdoOf m ⌝ }
+// The SDO pin, by settings and pins: its level, or undriven.
+pub fn sdo_by(s: Settings, pins: Pins) -> Sdo
+    ensures { λ r. ⌜ r ≡ sdoBy (undrivenBy s pins) pins ⌝ }
 {
-    let s = m.settings;
-    let pins = m.engine.pins;
     if !s.spien | (s.con1.dissdo | (spi_settings::ssen_client(s) & pins.ss)) {
         return Sdo::Undriven;
     }
@@ -88,4 +88,13 @@ pub fn sdo(m: Module) -> Sdo
         return Sdo::High;
     }
     Sdo::Low
+}
+
+// The SDO pin of a module.
+pub fn sdo(m: Module) -> Sdo
+    ensures { λ r. ⌜ r ≡ sdoOf m ⌝ }
+{
+    let s = m.settings;
+    let pins = m.engine.pins;
+    sdo_by(s, pins)
 }

@@ -1,6 +1,5 @@
-// A word's steps between the edges: it loads, it finishes, and what SDO shows meanwhile. None of this is work for an
-// edge within a word.
-use spi_rules::Engine;
+// A word between the edges, in memory: it is written, loads, is finished, is read, and what SDO shows meanwhile. Only the
+// parts that a step changes are stored.
 use spi_rules::Event;
 use spi_rules::Settings;
 use spi_rules::Shift;
@@ -9,56 +8,45 @@ ghost use mathlib.Core.Path.{_≡_};
 ghost use Rattle.spi_rules.specs.Interrupts.{noted};
 ghost use Rattle.spi_rules.specs.Loading.{wordLeaves, loaded, nextTop, rested};
 ghost use Rattle.spi_rules.specs.Finish.{delivered, sentDropped, freed, finished};
+ghost use Rattle.spi_rules.specs.Calls.{wordTaken, wordWritten};
+ghost use Rattle.spi_memory.specs.Memory.{Steps};
 
-// The engine once an event is taken note of by the interrupt flag.
-pub fn note(s: Settings, e: Event, n: Engine) -> Engine
-    ensures { λ r. ⌜ r ≡ noted s e n ⌝ }
+// An event is taken note of by the interrupt flag.
+fn note(w: &mut [u16; 96], e: Event)
+    ensures { λ _. ⌜ Steps (λ s. noted s e) (now (w .entry)) (now (w .exit)) ⌝ }
 {
+    let s = spi_memory::settings_in(w);
     let raised = spi_settings::raises_flag(s, e);
-    let mut to = n;
-    to.interrupt = n.interrupt | raised;
-    to
+    let flag = spi_memory::interrupt_in(w) | raised;
+    spi_memory::store_interrupt(w, flag);
 }
 
-// The engine once its first waiting word has left the transmit buffer.
-pub fn leave(s: Settings, n: Engine) -> Engine
-    ensures { λ r. ⌜ r ≡ wordLeaves s n ⌝ }
+// The first waiting word leaves the transmit buffer.
+fn leave(w: &mut [u16; 96])
+    ensures { λ _. ⌜ Steps wordLeaves (now (w .entry)) (now (w .exit)) ⌝ }
 {
-    let t = n.transmit;
+    let s = spi_memory::settings_in(w);
+    let t = spi_memory::transmit_in(w);
     let less = spi_buffers::without_first_waiting(spi_settings::depth(s), t);
-    let mut to = n;
-    to.transmit = less;
-    note(s, Event::Left(less.count), to)
+    spi_memory::store_transmit(w, less);
+    note(w, Event::Left(less.count));
 }
 
-// The engine once the first waiting word has loaded, if it can.
-pub fn load(s: Settings, n: Engine) -> Engine
-    ensures { λ r. ⌜ r ≡ loaded s n ⌝ }
+// The first waiting word loads, if it can.
+fn load(w: &mut [u16; 96])
+    ensures { λ _. ⌜ Steps loaded (now (w .entry)) (now (w .exit)) ⌝ }
 {
-    let t = n.transmit;
-    let shift = n.shift;
-    if spi_buffers::is_free(shift) & (!spi_settings::ssen_client(s) & !(t.count == 0)) {
+    let s = spi_memory::settings_in(w);
+    let t = spi_memory::transmit_in(w);
+    if spi_memory::is_free(w) & (!spi_settings::ssen_client(s) & !(t.count == 0)) {
         let word = spi_buffers::first_waiting(t);
-        let r = n.receive;
-        let p = n.pins;
-        leave(
-            s,
-            Engine {
-                transmit: t,
-                receive: r,
-                shift: Shift::Loaded(word),
-                pins: p,
-                spirov: n.spirov,
-                interrupt: n.interrupt,
-            },
-        )
-    } else {
-        n
+        spi_memory::store_loaded(w, word);
+        leave(w);
     }
 }
 
 // The top bit of the word to be sent next, false if there is none.
-pub fn next_top(s: Settings, t: Transmit, shift: Shift) -> bool
+fn next_top(s: Settings, t: Transmit, shift: Shift) -> bool
     ensures { λ r. ⌜ r ≡ nextTop s t shift ⌝ }
 {
     match shift {
@@ -71,81 +59,86 @@ pub fn next_top(s: Settings, t: Transmit, shift: Shift) -> bool
     }
 }
 
-// The engine with the SDO level that CKE 1 shows while no word is begun.
-pub fn rest(s: Settings, n: Engine) -> Engine
-    ensures { λ r. ⌜ r ≡ rested s n ⌝ }
+// With CKE 1 and no word begun SDO shows the top bit of the word to be sent next.
+pub fn rest(w: &mut [u16; 96])
+    ensures { λ _. ⌜ Steps rested (now (w .entry)) (now (w .exit)) ⌝ }
 {
-    let shift = n.shift;
-    if s.con1.cke & !spi_buffers::is_begun(shift) {
-        let t = n.transmit;
+    let s = spi_memory::settings_in(w);
+    if s.con1.cke & !spi_memory::is_begun(w) {
+        let shift = spi_memory::shift_in(w);
+        let t = spi_memory::transmit_in(w);
         let level = next_top(s, t, shift);
-        let mut to = n;
-        to.pins.sdo = level;
-        to
-    } else {
-        n
+        spi_memory::store_sdo(w, level);
     }
 }
 
-// The engine once a received word is appended, or lost with SPIROV set.
-pub fn deliver(s: Settings, word: u16, n: Engine) -> Engine
-    ensures { λ r. ⌜ r ≡ delivered s word n ⌝ }
+// A word is accepted for sending.
+pub fn accept_word(w: &mut [u16; 96], word: u16)
+    ensures { λ _. ⌜ Steps (λ s. wordWritten s word) (now (w .entry)) (now (w .exit)) ⌝ }
 {
-    let r = n.receive;
+    let s = spi_memory::settings_in(w);
+    let t = spi_memory::transmit_in(w);
+    let more = spi_buffers::with_written(spi_settings::depth(s), word, t);
+    spi_memory::store_transmit(w, more);
+    load(w);
+    let left = spi_memory::transmit_in(w);
+    note(w, Event::Written(left.count));
+    rest(w);
+}
+
+// A received word is appended, or lost with SPIROV set.
+fn deliver(w: &mut [u16; 96], word: u16)
+    ensures { λ _. ⌜ Steps (λ s. delivered s word) (now (w .entry)) (now (w .exit)) ⌝ }
+{
+    let s = spi_memory::settings_in(w);
+    let r = spi_memory::receive_in(w);
     let depth = spi_settings::depth(s);
     if depth <= r.count {
-        let mut to = n;
-        to.spirov = true;
-        to
+        spi_memory::store_spirov(w, true);
     } else {
         let more = spi_buffers::with_appended(depth, word, r);
-        let mut to = n;
-        to.receive = more;
-        note(s, Event::Appended(more.count), to)
+        spi_memory::store_receive(w, more);
+        note(w, Event::Appended(more.count));
     }
 }
 
-// The engine once an SSEN client has dropped the word that it sent, unless that was a filler.
-pub fn drop_sent(s: Settings, filler: bool, n: Engine) -> Engine
-    ensures { λ r. ⌜ r ≡ sentDropped s filler n ⌝ }
+// An SSEN client drops the word that it sent, unless that was a filler.
+fn drop_sent(w: &mut [u16; 96], filler: bool)
+    ensures { λ _. ⌜ Steps (λ s. sentDropped s filler) (now (w .entry)) (now (w .exit)) ⌝ }
 {
+    let s = spi_memory::settings_in(w);
     if spi_settings::ssen_client(s) & !filler {
-        leave(s, n)
-    } else {
-        n
+        leave(w);
     }
 }
 
-// The engine with its shift register free after a finish.
-pub fn free_after_finish(s: Settings, n: Engine) -> Engine
-    ensures { λ r. ⌜ r ≡ freed s n ⌝ }
+// The shift register is free after a finish.
+fn free_after_finish(w: &mut [u16; 96])
+    ensures { λ _. ⌜ Steps freed (now (w .entry)) (now (w .exit)) ⌝ }
 {
-    let t = n.transmit;
-    let r = n.receive;
-    let p = n.pins;
-    note(
-        s,
-        Event::Finished(t.count),
-        Engine {
-            transmit: t,
-            receive: r,
-            shift: Shift::Free,
-            pins: p,
-            spirov: n.spirov,
-            interrupt: n.interrupt,
-        },
-    )
+    let t = spi_memory::transmit_in(w);
+    spi_memory::store_free(w);
+    note(w, Event::Finished(t.count));
 }
 
-// The engine after a word's last edge.
-pub fn finish(s: Settings, filler: bool, word: u16, n: Engine) -> Engine
-    ensures { λ r. ⌜ r ≡ finished s filler word n ⌝ }
+// A word's last edge.
+pub fn finish(w: &mut [u16; 96], filler: bool, word: u16)
+    ensures { λ _. ⌜ Steps (λ s. finished s filler word) (now (w .entry)) (now (w .exit)) ⌝ }
 {
-    rest(
-        s,
-        load(
-            s,
-            free_after_finish(s, drop_sent(s, filler, deliver(s, word, n))),
-        ),
-    )
+    deliver(w, word);
+    drop_sent(w, filler);
+    free_after_finish(w);
+    load(w);
+    rest(w);
+}
+
+// The first unread word is taken.
+pub fn take_word(w: &mut [u16; 96])
+    ensures { λ _. ⌜ Steps wordTaken (now (w .entry)) (now (w .exit)) ⌝ }
+{
+    let s = spi_memory::settings_in(w);
+    let r = spi_memory::receive_in(w);
+    let less = spi_buffers::without_first_unread(spi_settings::depth(s), r);
+    spi_memory::store_receive(w, less);
+    note(w, Event::Taken(less.count));
 }

@@ -1,25 +1,54 @@
--- Answers as the one number that a call returns.
+-- What a caller is told: answers as the one number that a call returns, and the memory after it.
 use Prim.Native.Nat.{ℕ, _+_, _*_}
-use mathlib.Core.Bool.{Bool, not}
+use mathlib.Core.Bool.{Bool, true, not}
+use mathlib.Core.List.{List}
+use mathlib.Core.Path.{_≡_}
 use lib.Dec.{eqb}
 use Rattle.spi_rules.specs.declared.Module.{Module}
 use Rattle.spi_rules.specs.declared.ClockSaid.{ClockSaid}
+use Rattle.spi_rules.specs.declared.Answer.{Answer}
+use Rattle.spi_rules.specs.declared.Outcome.{Outcome}
 use Rattle.spi_rules.specs.declared.LinkAnswer.{LinkAnswer}
+use Rattle.spi_rules.specs.declared.Linked.{Linked}
 use Rattle.spi_rules.specs.declared.Sdo.{Sdo}
 use Rattle.spi_rules.specs.declared.Sdo.the-variants.{Low, High, Undriven}
 use Rattle.thurafeqa.specs.declared.ThurafeqaClock.{ThurafeqaClock}
 use Rattle.spi_rules.specs.Choice.{if_then_else_}
+use Rattle.spi_rules.specs.Refusals.{saidOf}
 use Rattle.spi_rules.specs.Link.{linkSaidOf}
 use Rattle.spi_rules.specs.Calls.{interruptOf, sckOf, sdoOf}
+use Rattle.spi_memory.specs.Memory.{moduleIn}
+use Rattle.spi_module.specs.Answered.{untouching}
+use Rattle.spi_link.specs.Wire.{isRefused}
 
 -- A level that comes in: 0 is low, any other number is high.
 unfoldable pub levelIn : ℕ → Bool
 levelIn x = not (eqb x 0)
 
+-- An answer as one number: the upper 16 bits are the refusal number, 0 if the call was not refused; the lower 16 bits are
+-- the register value of a read, or the edges that a tick made, 0 or 1.
+unfoldable pub answerNumber : Answer → ℕ
+answerNumber a = saidOf a .number * 65536 + saidOf a .value + saidOf a .edges
+
+-- A call returns the number of its definition's answer, and memory holds the definition's module. A refused call, and a
+-- tick that makes no edge, leave every number of memory as it was.
+pub record Tells (o : Outcome) (r : ℕ) (before after : List ℕ) : Type 0 where
+  pub number : r ≡ answerNumber (o .answer)
+  pub holds : moduleIn after ≡ o .after
+  pub untouched : untouching (o .answer) ≡ true → after ≡ before
+
 -- The answer of a linked run: the upper 16 bits are the refusal number, 0 if it was not refused, the lower 16 bits the
 -- edges used.
 unfoldable pub linkNumber : LinkAnswer → ℕ
 linkNumber a = linkSaidOf a .number * 65536 + linkSaidOf a .edges
+
+-- The same of a linked run: a refused one leaves every number of both memories as it was.
+pub record LinkTells (l : Linked) (r : ℕ) (host hostAfter client clientAfter : List ℕ) : Type 0 where
+  pub number : r ≡ linkNumber (l .answer)
+  pub hostHolds : moduleIn hostAfter ≡ l .host
+  pub clientHolds : moduleIn clientAfter ≡ l .client
+  pub hostUntouched : isRefused (l .answer) ≡ true → hostAfter ≡ host
+  pub clientUntouched : isRefused (l .answer) ≡ true → clientAfter ≡ client
 
 -- Bit 0 is the interrupt flag, bit 1 SCK, bit 2 the level of SDO, 0 if undriven, and bit 3 whether SDO is driven.
 unfoldable pub sdoBits : Sdo → ℕ

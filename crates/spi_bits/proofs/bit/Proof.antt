@@ -6,9 +6,6 @@ use Rattle.spi_rules.proofs.Sizes.{no-bit-above}
 use Rattle.spi_bits.proofs.bit.Statement.{statement}
 use Rattle.spi_bits.proofs.bit.Tie as tie
 
-shr-result : tie.Need-shr-result
-shr-result c = search needs
-
 returns : tie.Need-returns
 unfolding bitOf
 returns c = refl
@@ -17,4 +14,4 @@ returns-2 : tie.Need-returns-2
 returns-2 c = sym (no-bit-above (c .before .args .word) 16 (c .before .args .i) (c .before .fits .word .fits) (c .if1 .left))
 
 pub bit-spec : {M : Type 1} → statement M
-bit-spec = tie.close (tie.spec shr-result returns returns-2)
+bit-spec = tie.close (tie.spec (λ c. search needs) returns returns-2)

@@ -10,12 +10,6 @@ use Rattle.spi_rules.proofs.Sizes.{width-most, one-shifted}
 use Rattle.spi_bits.proofs.low_bits.Statement.{statement}
 use Rattle.spi_bits.proofs.low_bits.Tie as tie
 
-width-requires : tie.Need-width-requires
-width-requires c κs = search needs
-
-cast-result : tie.Need-cast-result
-cast-result c = search needs
-
 shl-result : tie.Need-shl-result
 shl-result c = omega (arith, width-most (c .before .args .s))
 
@@ -41,4 +35,4 @@ returns c =
 
 pub low-bits-spec : {M : Type 1} → statement M
 low-bits-spec =
-    tie.close (tie.spec width-requires cast-result shl-result rem-result cast-result-2 returns)
+    tie.close (tie.spec (λ c κs. search needs) (λ c. search needs) shl-result rem-result cast-result-2 returns)

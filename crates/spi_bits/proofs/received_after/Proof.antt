@@ -6,12 +6,6 @@ use Rattle.spi_rules.proofs.Choices.{so, not-so}
 use Rattle.spi_bits.proofs.received_after.Statement.{statement}
 use Rattle.spi_bits.proofs.received_after.Tie as tie
 
-is-sampling-requires : tie.Need-is-sampling-requires
-is-sampling-requires c κs = search needs
-
-shift-in-requires : tie.Need-shift-in-requires
-shift-in-requires c κs = search needs
-
 returns : tie.Need-returns
 unfolding receivedAfter
 returns c = so _ _ _ (cc) (cc)
@@ -21,4 +15,4 @@ unfolding receivedAfter
 returns-2 c = not-so _ _ _ (cc) refl
 
 pub received-after-spec : {M : Type 1} → statement M
-received-after-spec = tie.close (tie.spec is-sampling-requires shift-in-requires returns returns-2)
+received-after-spec = tie.close (tie.spec (λ c κs. search needs) (λ c κs. search needs) returns returns-2)

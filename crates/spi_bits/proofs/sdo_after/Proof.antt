@@ -6,12 +6,6 @@ use Rattle.spi_rules.proofs.Choices.{so, not-so}
 use Rattle.spi_bits.proofs.sdo_after.Statement.{statement}
 use Rattle.spi_bits.proofs.sdo_after.Tie as tie
 
-is-sampling-requires : tie.Need-is-sampling-requires
-is-sampling-requires c κs = search needs
-
-shown-bit-requires : tie.Need-shown-bit-requires
-shown-bit-requires c κs = search needs
-
 returns : tie.Need-returns
 unfolding sdoAfter
 returns c = so _ _ _ (cc) refl
@@ -21,4 +15,4 @@ unfolding sdoAfter
 returns-2 c = not-so _ _ _ (cc) (cc)
 
 pub sdo-after-spec : {M : Type 1} → statement M
-sdo-after-spec = tie.close (tie.spec is-sampling-requires shown-bit-requires returns returns-2)
+sdo-after-spec = tie.close (tie.spec (λ c κs. search needs) (λ c κs. search needs) returns returns-2)

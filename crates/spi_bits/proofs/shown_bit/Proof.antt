@@ -11,17 +11,8 @@ use Rattle.spi_rules.proofs.Sizes.{width-least}
 use Rattle.spi_bits.proofs.shown_bit.Statement.{statement}
 use Rattle.spi_bits.proofs.shown_bit.Tie as tie
 
-width-requires : tie.Need-width-requires
-width-requires c κs = search needs
-
-cast-top : tie.Need-cast-top
-cast-top c = search needs
-
 sub-top : tie.Need-sub-top
 sub-top c = omega (arith, width-least (c .before .args .s))
-
-bit-requires : tie.Need-bit-requires
-bit-requires c κs = search needs
 
 returns : tie.Need-returns
 unfolding shownBit
@@ -33,4 +24,4 @@ returns c =
     c .bit .ensures ∙ ap (bitOf (a .word)) at
 
 pub shown-bit-spec : {M : Type 1} → statement M
-shown-bit-spec = tie.close (tie.spec width-requires cast-top sub-top bit-requires returns)
+shown-bit-spec = tie.close (tie.spec (λ c κs. search needs) (λ c. search needs) sub-top (λ c κs. search needs) returns)

@@ -5,18 +5,9 @@ use Rattle.spi_rules.specs.Buffers.{firstUnread}
 use Rattle.spi_buffers.proofs.first_unread.Statement.{statement}
 use Rattle.spi_buffers.proofs.first_unread.Tie as tie
 
-cast-at : tie.Need-cast-at
-cast-at c = search needs
-
-mul-result : tie.Need-mul-result
-mul-result c = search needs
-
-element-copy-out-result : tie.Need-element-copy-out-result
-element-copy-out-result c = search needs
-
 returns : tie.Need-returns
 unfolding firstUnread
 returns c = refl
 
 pub first-unread-spec : {M : Type 1} → statement M
-first-unread-spec = tie.close (tie.spec cast-at mul-result element-copy-out-result returns)
+first-unread-spec = tie.close (tie.spec (λ c. search needs) (λ c. search needs) (λ c. search needs) returns)

@@ -8,9 +8,6 @@ use Rattle.spi_rules.proofs.Choices.{so-lt, not-so-lt}
 use Rattle.spi_buffers.proofs.next_position.Statement.{statement}
 use Rattle.spi_buffers.proofs.next_position.Tie as tie
 
-add-on : tie.Need-add-on
-add-on c = search needs
-
 returns : tie.Need-returns
 unfolding next
 returns c = so-lt _ _ _ _ (c .if2 .taken) refl
@@ -24,4 +21,4 @@ unfolding next
 returns-3 c = not-so-lt (c .before .args .at + 1) (c .before .args .depth) _ _ (omega arith) refl
 
 pub next-position-spec : {M : Type 1} → statement M
-next-position-spec = tie.close (tie.spec add-on returns returns-2 returns-3)
+next-position-spec = tie.close (tie.spec (λ c. search needs) returns returns-2 returns-3)

@@ -10,21 +10,6 @@ returns : tie.Need-returns
 unfolding appended
 returns c = so-le _ _ _ _ (c .if1 .taken) refl
 
-cast-at : tie.Need-cast-at
-cast-at c = search needs
-
-next-position-requires : tie.Need-next-position-requires
-next-position-requires c κs = search needs
-
-mul-to : tie.Need-mul-to
-mul-to c = search needs
-
-element-write-to : tie.Need-element-write-to
-element-write-to c = search needs
-
-add-to : tie.Need-add-to
-add-to c = search needs
-
 returns-2 : tie.Need-returns-2
 unfolding appended
 returns-2 c = not-so-le _ _ _ _ (c .before .before .before .if1 .left) (cc)
@@ -32,4 +17,4 @@ returns-2 c = not-so-le _ _ _ _ (c .before .before .before .if1 .left) (cc)
 pub with-appended-spec : {M : Type 1} → statement M
 with-appended-spec =
     tie.close
-    (tie.spec returns cast-at next-position-requires mul-to element-write-to add-to returns-2)
+    (tie.spec returns (λ c. search needs) (λ c κs. search needs) (λ c. search needs) (λ c. search needs) (λ c. search needs) returns-2)

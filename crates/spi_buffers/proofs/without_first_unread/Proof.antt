@@ -10,15 +10,9 @@ returns : tie.Need-returns
 unfolding taken
 returns c = so-eq _ _ _ _ (c .if1 .taken) refl
 
-next-position-requires : tie.Need-next-position-requires
-next-position-requires c κs = search needs
-
-sub-to : tie.Need-sub-to
-sub-to c = search needs
-
 returns-2 : tie.Need-returns-2
 unfolding taken
 returns-2 c = not-so-eq _ _ _ _ (c .before .before .if1 .left) (cc)
 
 pub without-first-unread-spec : {M : Type 1} → statement M
-without-first-unread-spec = tie.close (tie.spec returns next-position-requires sub-to returns-2)
+without-first-unread-spec = tie.close (tie.spec returns (λ c κs. search needs) (λ c. search needs) returns-2)

@@ -10,15 +10,6 @@ returns : tie.Need-returns
 unfolding clockOf
 returns c = so _ _ _ (cc) refl
 
-own-clock-requires : tie.Need-own-clock-requires
-own-clock-requires c κs = search needs
-
-rates-requires : tie.Need-rates-requires
-rates-requires c κs = search needs
-
-int-to-float-bound : tie.Need-int-to-float-bound
-int-to-float-bound c = search needs
-
 returns-2 : tie.Need-returns-2
 unfolding clockOf
 returns-2 c = not-so _ _ _ (cc) (so _ _ _ (cc) (cc))
@@ -30,4 +21,4 @@ returns-3 c = not-so _ _ _ (cc) (not-so _ _ _ (cc) refl)
 pub clock-of-spec : {M : Type 1} → statement M
 clock-of-spec =
     tie.close
-    (tie.spec returns own-clock-requires rates-requires int-to-float-bound returns-2 returns-3)
+    (tie.spec returns (λ c κs. search needs) (λ c κs. search needs) (λ c. search needs) returns-2 returns-3)

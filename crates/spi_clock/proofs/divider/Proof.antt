@@ -6,18 +6,6 @@ use Rattle.spi_rules.specs.Clock.{dividerOf}
 use Rattle.spi_clock.proofs.divider.Statement.{statement}
 use Rattle.spi_clock.proofs.divider.Tie as tie
 
-primary-requires : tie.Need-primary-requires
-primary-requires c κs = search needs
-
-cast-result : tie.Need-cast-result
-cast-result c = search needs
-
-secondary-requires : tie.Need-secondary-requires
-secondary-requires c κs = search needs
-
-cast-result-2 : tie.Need-cast-result-2
-cast-result-2 c = search needs
-
 mul-result : tie.Need-mul-result
 mul-result c =
     record { fits = lt-of-le-of-lt (mul-le-mul {n₂ = 255} {m₂ = 255} (search needs) (search needs)) (lit< tt) }
@@ -29,4 +17,4 @@ returns c = cc
 pub divider-spec : {M : Type 1} → statement M
 divider-spec =
     tie.close
-    (tie.spec primary-requires cast-result secondary-requires cast-result-2 mul-result returns)
+    (tie.spec (λ c κs. search needs) (λ c. search needs) (λ c κs. search needs) (λ c. search needs) mul-result returns)

@@ -5,15 +5,9 @@ use Rattle.spi_rules.specs.Clock.{primaryOf}
 use Rattle.spi_clock.proofs.primary.Statement.{statement}
 use Rattle.spi_clock.proofs.primary.Tie as tie
 
-cast-at : tie.Need-cast-at
-cast-at c = search needs
-
-array-read-result : tie.Need-array-read-result
-array-read-result c = search needs
-
 returns : tie.Need-returns
 unfolding primaryOf
 returns c = refl
 
 pub primary-spec : {M : Type 1} → statement M
-primary-spec = tie.close (tie.spec cast-at array-read-result returns)
+primary-spec = tie.close (tie.spec (λ c. search needs) (λ c. search needs) returns)

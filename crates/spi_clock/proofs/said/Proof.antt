@@ -11,24 +11,6 @@ zero-is-nought : ofBits binary64 0 ≡ nought
 unfolding ofBits
 zero-is-nought = refl
 
-enum-known-r : tie.Need-enum-known-r
-enum-known-r c = search needs
-
-refusal-number-requires : tie.Need-refusal-number-requires
-refusal-number-requires c κs = search needs
-
-enum-known-r-2 : tie.Need-enum-known-r-2
-enum-known-r-2 c = search needs
-
-enum-known-clock : tie.Need-enum-known-clock
-enum-known-clock c = search needs
-
-enum-known-clock-2 : tie.Need-enum-known-clock-2
-enum-known-clock-2 c = search needs
-
-enum-told : tie.Need-enum-told
-enum-told c = search needs
-
 returns : tie.Need-returns
 unfolding saidClock
 returns c = cc zero-is-nought
@@ -49,12 +31,8 @@ pub said-spec : {M : Type 1} → statement M
 said-spec =
     tie.close
     (tie.spec
-    enum-known-r
-    refusal-number-requires
-    enum-known-r-2
-    enum-known-clock
-    enum-known-clock-2
-    enum-told
+    (λ c. search needs) (λ c κs. search needs) (λ c. search needs) (λ c. search needs) (λ c. search needs)
+    (λ c. search needs)
     returns
     returns-2
     returns-3

@@ -5,12 +5,9 @@ use Rattle.spi_rules.specs.Clock.{secondaryOf}
 use Rattle.spi_clock.proofs.secondary.Statement.{statement}
 use Rattle.spi_clock.proofs.secondary.Tie as tie
 
-sub-result : tie.Need-sub-result
-sub-result c = search needs
-
 returns : tie.Need-returns
 unfolding secondaryOf
 returns c = refl
 
 pub secondary-spec : {M : Type 1} → statement M
-secondary-spec = tie.close (tie.spec sub-result returns)
+secondary-spec = tie.close (tie.spec (λ c. search needs) returns)

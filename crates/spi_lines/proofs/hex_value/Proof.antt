@@ -12,15 +12,6 @@ use Rattle.spi_lines.proofs.hex_value.Tie as tie
 sub-result : tie.Need-sub-result
 sub-result c = ⊎-elim (λ w. omega arith) (λ w. omega arith) (hex-range (c .before .args .b) (c .before .pre))
 
-cast-result : tie.Need-cast-result
-cast-result c = search needs
-
-sub-result-2 : tie.Need-sub-result-2
-sub-result-2 c = search needs
-
-cast-result-2 : tie.Need-cast-result-2
-cast-result-2 c = search needs
-
 returns : tie.Need-returns
 unfolding hexValue
 returns c = (so-le _ _ _ _ (c .if1 .taken) refl, omega arith)
@@ -33,4 +24,4 @@ returns-2 c =
     (hex-range (c .before .args .b) (c .before .pre))
 
 pub hex-value-spec : {M : Type 1} → statement M
-hex-value-spec = tie.close (tie.spec sub-result cast-result sub-result-2 cast-result-2 returns returns-2)
+hex-value-spec = tie.close (tie.spec sub-result (λ c. search needs) (λ c. search needs) (λ c. search needs) returns returns-2)

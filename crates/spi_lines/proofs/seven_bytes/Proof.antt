@@ -7,15 +7,6 @@ use Rattle.spi_lines.proofs.Forms.{not-write, not-read, not-tick, not-c
 use Rattle.spi_lines.proofs.seven_bytes.Statement.{statement}
 use Rattle.spi_lines.proofs.seven_bytes.Tie as tie
 
-is-level-requires : tie.Need-is-level-requires
-is-level-requires c κs = search needs
-
-is-level-requires-2 : tie.Need-is-level-requires-2
-is-level-requires-2 c κs = search needs
-
-is-level-requires-3 : tie.Need-is-level-requires-3
-is-level-requires-3 c κs = search needs
-
 returns : tie.Need-returns
 unfolding levelValue
 returns c =
@@ -32,4 +23,4 @@ returns-2 c =
 pub seven-bytes-spec : {M : Type 1} → statement M
 seven-bytes-spec =
     tie.close
-    (tie.spec is-level-requires is-level-requires-2 is-level-requires-3 returns returns-2)
+    (tie.spec (λ c κs. search needs) (λ c κs. search needs) (λ c κs. search needs) returns returns-2)

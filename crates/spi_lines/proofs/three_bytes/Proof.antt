@@ -26,24 +26,15 @@ not-a-read c =
     let a = c .before .before .args in
     cc (read-tests (a .k) (a .s) (a .n))
 
-is-digit-requires : tie.Need-is-digit-requires
-is-digit-requires c κs = search needs
-
 sub-t9 : tie.Need-sub-t9
 unfolding readForm
 sub-t9 c =
     omega
     (arith, digit-range (c .before .before .args .n) (fits-at readForm (line (c .before .before)) (is-read c) 2 (omega arith)) .0)
 
-cast-t10 : tie.Need-cast-t10
-cast-t10 c = search needs
-
 returns : tie.Need-returns
 unfolding digitValue
 returns c = sym (as-read (line (c .before .before)) refl (is-read c))
-
-is-level-requires : tie.Need-is-level-requires
-is-level-requires c κs = search needs
 
 returns-2 : tie.Need-returns-2
 unfolding levelValue
@@ -62,4 +53,4 @@ returns-3 c =
 pub three-bytes-spec : {M : Type 1} → statement M
 three-bytes-spec =
     tie.close
-    (tie.spec is-digit-requires sub-t9 cast-t10 returns is-level-requires returns-2 returns-3)
+    (tie.spec (λ c κs. search needs) sub-t9 (λ c. search needs) returns (λ c κs. search needs) returns-2 returns-3)

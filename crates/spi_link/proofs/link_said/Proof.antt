@@ -4,15 +4,6 @@ use Rattle.spi_rules.specs.Link.{linkSaidOf}
 use Rattle.spi_link.proofs.link_said.Statement.{statement}
 use Rattle.spi_link.proofs.link_said.Tie as tie
 
-enum-known-a : tie.Need-enum-known-a
-enum-known-a c = search needs
-
-refusal-number-requires : tie.Need-refusal-number-requires
-refusal-number-requires c κs = search needs
-
-enum-known-a-2 : tie.Need-enum-known-a-2
-enum-known-a-2 c = search needs
-
 returns : tie.Need-returns
 unfolding linkSaidOf
 returns c = cc
@@ -23,4 +14,4 @@ returns-2 c = cc
 
 pub link-said-spec : {M : Type 1} → statement M
 link-said-spec =
-    tie.close (tie.spec enum-known-a refusal-number-requires enum-known-a-2 returns returns-2)
+    tie.close (tie.spec (λ c. search needs) (λ c κs. search needs) (λ c. search needs) returns returns-2)

@@ -1,84 +1,107 @@
 -- The refusals are tested in the order of the definition.
 use borrow.Author.Needs.{needs}
-use Rattle.spi_rules.specs.Link.{runOf, toldOf, linkedOf}
+use mathlib.Core.Path.{refl, _∙_, ap}
+use Rattle.spi_rules.specs.Link.{hostTurn, refuseLink, runOf, toldOf, linkedOf}
 use Rattle.spi_rules.proofs.Choices.{so, not-so, so-lt, not-so-lt}
+use Rattle.spi_memory.specs.Memory.{moduleIn}
+use Rattle.spi_link.proofs.Turns.{linkable, wired-shown}
+use Rattle.spi_link.proofs.Ends.{kept, changed}
 use Rattle.spi_link.proofs.linked.Statement.{statement}
 use Rattle.spi_link.proofs.linked.Tie as tie
 
-refused-requires : tie.Need-refused-requires
-refused-requires c κs = search needs
-
 returns : tie.Need-returns
-unfolding linkedOf
-returns c = so-lt _ _ _ _ (c .before .if1 .taken) (cc)
-
-either-disabled-requires : tie.Need-either-disabled-requires
-either-disabled-requires c κs = search needs
-
-refused-requires-2 : tie.Need-refused-requires-2
-refused-requires-2 c κs = search needs
+unfolding linkedOf refuseLink
+returns c = kept (so-lt _ _ _ _ (c .if1 .taken) refl)
 
 returns-2 : tie.Need-returns-2
-unfolding linkedOf
+unfolding linkedOf refuseLink
 returns-2 c =
-    not-so-lt _ _ _ _ (c .before .before .before .if1 .left)
-    (so _ _ _ (cc) (cc))
-
-wrong-roles-requires : tie.Need-wrong-roles-requires
-wrong-roles-requires c κs = search needs
-
-refused-requires-3 : tie.Need-refused-requires-3
-refused-requires-3 c κs = search needs
+    let settings-in = c .before .before .before .before .before .settings-in .ensures in
+    let settings-in2 = c .before .before .before .settings-in2 .ensures in
+    kept (not-so-lt _ _ _ _ (c .before .before .if1 .left) (so _ _ _ (rw ((c .before .either-disabled .ensures), settings-in, settings-in2) at (c .if2 .taken)) refl))
 
 returns-3 : tie.Need-returns-3
-unfolding linkedOf
+unfolding linkedOf refuseLink
 returns-3 c =
-    not-so-lt _ _ _ _ (c .before .before .before .before .before .if1 .left)
-    (not-so _ _ _ (cc) (so _ _ _ (cc) (cc)))
-
-different-modes-requires : tie.Need-different-modes-requires
-different-modes-requires c κs = search needs
-
-refused-requires-4 : tie.Need-refused-requires-4
-refused-requires-4 c κs = search needs
+    let if1 = c .before .before .before .before .if1 .left in
+    let either-disabled = c .before .before .before .either-disabled .ensures in
+    let settings-in = c .before .before .before .before .before .before .before .settings-in .ensures in
+    let settings-in2 = c .before .before .before .before .before .settings-in2 .ensures in
+    kept
+    (not-so-lt _ _ _ _ if1
+    (not-so _ _ _ (rw (either-disabled, settings-in, settings-in2) at (c .before .before .if2 .left))
+    (so _ _ _ (rw ((c .before .wrong-roles .ensures), settings-in, settings-in2) at (c .if3 .taken)) refl)))
 
 returns-4 : tie.Need-returns-4
-unfolding linkedOf
+unfolding linkedOf refuseLink
 returns-4 c =
-    not-so-lt _ _ _ _ (c .before .before .before .before .before .before .before .if1 .left)
-    (not-so _ _ _ (cc) (not-so _ _ _ (cc) (so _ _ _ (cc) (cc))))
+    let if1 = c .before .before .before .before .before .before .if1 .left in
+    let either-disabled = c .before .before .before .before .before .either-disabled .ensures in
+    let settings-in = c .before .before .before .before .before .before .before .before .before .settings-in .ensures in
+    let settings-in2 = c .before .before .before .before .before .before .before .settings-in2 .ensures in
+    let if2 = c .before .before .before .before .if2 .left in
+    let wrong-roles = c .before .before .before .wrong-roles .ensures in
+    kept
+    (not-so-lt _ _ _ _ if1
+    (not-so _ _ _ (rw (either-disabled, settings-in, settings-in2) at if2)
+    (not-so _ _ _ (rw (wrong-roles, settings-in, settings-in2) at (c .before .before .if3 .left))
+    (so _ _ _ (rw ((c .before .different-modes .ensures), settings-in, settings-in2) at (c .if4 .taken)) refl))))
 
 client-sees-requires : tie.Need-client-sees-requires
-client-sees-requires c κs = search needs
-
-cast-host-turn : tie.Need-cast-host-turn
-cast-host-turn c = search needs
+client-sees-requires c κs =
+    let either-disabled = c .before .before .before .before .before .before .before .either-disabled .ensures in
+    let settings-in = c .before .before .before .before .before .before .before .before .before .before .before .settings-in .ensures in
+    let settings-in2 = c .before .before .before .before .before .before .before .before .before .settings-in2 .ensures in
+    let if2 = c .before .before .before .before .before .before .if2 .left in
+    let wrong-roles = c .before .before .before .before .before .wrong-roles .ensures in
+    let if3 = c .before .before .before .before .if3 .left in
+    linkable _ _ (rw (either-disabled, settings-in, settings-in2) at if2) (rw (wrong-roles, settings-in, settings-in2) at if3)
 
 host-turn-requires : tie.Need-host-turn-requires
-host-turn-requires c κs = search needs
+host-turn-requires c κs =
+    let either-disabled = c .before .before .before .before .before .before .before .before .before .before .either-disabled .ensures in
+    let settings-in = c .before .before .before .before .before .before .before .before .before .before .before .before .before .before .settings-in .ensures in
+    let settings-in2 = c .before .before .before .before .before .before .before .before .before .before .before .before .settings-in2 .ensures in
+    let if2 = c .before .before .before .before .before .before .before .before .before .if2 .left in
+    let wrong-roles = c .before .before .before .before .before .before .before .before .wrong-roles .ensures in
+    let if3 = c .before .before .before .before .before .before .before .if3 .left in
+    wired-shown (c .before .before .client-sees .ensures) (linkable _ _ (rw (either-disabled, settings-in, settings-in2) at if2) (rw (wrong-roles, settings-in, settings-in2) at if3))
 
 returns-5 : tie.Need-returns-5
 unfolding linkedOf toldOf runOf
 returns-5 c =
-    not-so-lt _ _ _ _ (c .before .before .before .before .before .before .before .before .before .before .if1 .left)
-    (not-so _ _ _ (cc) (not-so _ _ _ (cc) (not-so _ _ _ (cc) (cc))))
+    let if1 = c .before .before .before .before .before .before .before .before .before .before .before .before .if1 .left in
+    let either-disabled = c .before .before .before .before .before .before .before .before .before .before .before .either-disabled .ensures in
+    let settings-in = c .before .before .before .before .before .before .before .before .before .before .before .before .before .before .before .settings-in .ensures in
+    let settings-in2 = c .before .before .before .before .before .before .before .before .before .before .before .before .before .settings-in2 .ensures in
+    let if2 = c .before .before .before .before .before .before .before .before .before .before .if2 .left in
+    let wrong-roles = c .before .before .before .before .before .before .before .before .before .wrong-roles .ensures in
+    let if3 = c .before .before .before .before .before .before .before .before .if3 .left in
+    let different-modes = c .before .before .before .before .before .before .before .different-modes .ensures in
+    let if4 = c .before .before .before .before .before .before .if4 .left in
+    let limit = c .before .before .before .before .before .before .before .before .before .before .before .before .before .before .before .before .before .args .limit in
+    let host = c .before .before .before .before .before .before .before .before .before .before .before .before .before .before .before .before .before .args .host .now in
+    let client-sees = c .before .before .before .client-sees .ensures in
+    changed refl
+    (not-so-lt _ _ _ _ if1
+    (not-so _ _ _ (rw (either-disabled, settings-in, settings-in2) at if2)
+    (not-so _ _ _ (rw (wrong-roles, settings-in, settings-in2) at if3)
+    (not-so _ _ _ (rw (different-modes, settings-in, settings-in2) at if4)
+    (ap toldOf ((c .host-turn .ensures .0) ∙ ap (hostTurn limit (moduleIn host)) client-sees))))))
 
 pub linked-spec : {M : Type 1} → statement M
 linked-spec =
     tie.close
     (tie.spec
-    refused-requires
+    (λ c κs. search needs) (λ c κs. search needs)
     returns
-    either-disabled-requires
-    refused-requires-2
+    (λ c κs. search needs)
     returns-2
-    wrong-roles-requires
-    refused-requires-3
+    (λ c κs. search needs)
     returns-3
-    different-modes-requires
-    refused-requires-4
+    (λ c κs. search needs)
     returns-4
     client-sees-requires
-    cast-host-turn
+    (λ c. search needs)
     host-turn-requires
     returns-5)

@@ -1,12 +1,11 @@
--- A byte is its own low 8 bits.
-use native.Mathlib.Omega.{arith}
-use Rattle.spi_memory.specs.Memory.{byteIn}
+-- A byte is its own low byte.
 use Rattle.spi_memory.proofs.byte_number.Statement.{statement}
+use Rattle.spi_memory.proofs.Bytes.{byte-small}
+use native.Mathlib.Omega.{arith}
 use Rattle.spi_memory.proofs.byte_number.Tie as tie
 
 returns : tie.Need-returns
-unfolding byteIn
-returns c = omega arith
+returns c = byte-small _ (omega arith)
 
 pub byte-number-spec : {M : Type 1} → statement M
 byte-number-spec = tie.close (tie.spec returns)

@@ -1,14 +1,11 @@
--- The first number of the shift register tells.
+-- The first number tells it.
 use borrow.Author.Needs.{needs}
 use Rattle.spi_memory.proofs.Looks.{begun-looked}
 use Rattle.spi_memory.proofs.is_begun.Statement.{statement}
 use Rattle.spi_memory.proofs.is_begun.Tie as tie
 
-element-copy-out-result : tie.Need-element-copy-out-result
-element-copy-out-result c = search needs
-
 returns : tie.Need-returns
-returns c = begun-looked (c .before .args .w .now)
+returns c = begun-looked _
 
 pub is-begun-spec : {M : Type 1} → statement M
-is-begun-spec = tie.close (tie.spec element-copy-out-result returns)
+is-begun-spec = tie.close (tie.spec (λ c. search needs) returns)

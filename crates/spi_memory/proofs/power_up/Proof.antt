@@ -1,15 +1,15 @@
 -- A memory of zeros holds a module that has just powered up.
+use Rattle.spi_memory.proofs.power_up.Statement.{statement}
 use mathlib.Core.Path.{refl}
 use Rattle.spi_rules.specs.Choice.{if_then_else_}
-use Rattle.spi_rules.specs.Registers as registers
+use Rattle.spi_rules.specs.Registers.{bitOf, con1From, con2From}
 use Rattle.spi_rules.specs.Buffers.{emptyTransmit, emptyReceive}
 use Rattle.spi_rules.specs.Calls.{poweredUp}
-use Rattle.spi_memory.specs.Memory.{bitIn, byteIn, con1From, con2From, settingsFrom, transmitFrom, receiveFrom, shiftFrom, pinsFrom, settingsIn, transmitIn, receiveIn, shiftIn, pinsIn, engineIn, moduleIn}
-use Rattle.spi_memory.proofs.power_up.Statement.{statement}
+use Rattle.spi_memory.specs.Memory.{bitIn, byteIn, settingsIn, engineIn}
 use Rattle.spi_memory.proofs.power_up.Tie as tie
 
 returns : tie.Need-returns
-unfolding if_then_else_ bitIn byteIn con1From con2From settingsFrom transmitFrom receiveFrom shiftFrom pinsFrom settingsIn transmitIn receiveIn shiftIn pinsIn engineIn moduleIn registers.bitOf registers.con1From registers.con2From emptyTransmit emptyReceive poweredUp
+unfolding if_then_else_ bitIn byteIn settingsIn engineIn bitOf con1From con2From emptyTransmit emptyReceive poweredUp
 returns c = refl
 
 pub power-up-spec : {M : Type 1} → statement M

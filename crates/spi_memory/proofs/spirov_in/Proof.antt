@@ -1,16 +1,13 @@
--- The definition, at its place.
+-- The definition.
 use borrow.Author.Needs.{needs}
 use mathlib.Core.Path.{refl}
-use Rattle.spi_memory.specs.Memory.{bitIn}
+use Rattle.spi_memory.specs.Memory.{bitIn, engineIn}
 use Rattle.spi_memory.proofs.spirov_in.Statement.{statement}
 use Rattle.spi_memory.proofs.spirov_in.Tie as tie
 
-element-copy-out-result : tie.Need-element-copy-out-result
-element-copy-out-result c = search needs
-
 returns : tie.Need-returns
-unfolding bitIn
+unfolding bitIn engineIn
 returns c = refl
 
 pub spirov-in-spec : {M : Type 1} → statement M
-spirov-in-spec = tie.close (tie.spec element-copy-out-result returns)
+spirov-in-spec = tie.close (tie.spec (λ c. search needs) returns)

@@ -1,19 +1,17 @@
--- The number is written, and read back.
+-- What is written is read back.
 use borrow.Author.Needs.{needs}
-use Rattle.spi_memory.proofs.Stores.{free-stored}
+use mathlib.Core.Path.{refl}
+use mathlib.Core.List.{[], _∷_}
+use Rattle.spi_rules.specs.Choice.{if_then_else_}
+use Rattle.spi_memory.specs.Memory.{settingsIn, engineIn}
+use Rattle.spi_memory.specs.Writes.{at}
+use Rattle.spi_memory.proofs.Stored.{engine-step}
 use Rattle.spi_memory.proofs.store_free.Statement.{statement}
 use Rattle.spi_memory.proofs.store_free.Tie as tie
 
-is-whole-requires : tie.Need-is-whole-requires
-is-whole-requires c κs = search needs
-
-element-write-w : tie.Need-element-write-w
-element-write-w c = search needs
-
 returns : tie.Need-returns
-returns c =
-    free-stored _
-    (c .is-whole .ensures .1)
+unfolding if_then_else_ settingsIn engineIn
+returns c = engine-step _ (at 64 _ ∷ []) (c .is-whole .ensures .1) refl refl (refl)
 
 pub store-free-spec : {M : Type 1} → statement M
-store-free-spec = tie.close (tie.spec is-whole-requires element-write-w returns)
+store-free-spec = tie.close (tie.spec (λ c κs. search needs) (λ c. search needs) returns)

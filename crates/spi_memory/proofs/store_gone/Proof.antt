@@ -1,31 +1,21 @@
--- The numbers are written, and read back.
+-- What is written is read back.
 use borrow.Author.Needs.{needs}
-use Rattle.spi_memory.proofs.Stores.{gone-stored}
+use mathlib.Core.Path.{refl}
+use mathlib.Core.List.{[], _∷_}
+use Rattle.spi_rules.specs.Choice.{if_then_else_}
+use Rattle.spi_memory.specs.Memory.{settingsIn, engineIn}
+use Rattle.spi_memory.specs.Writes.{at}
+use Rattle.spi_memory.proofs.Stored.{engine-step}
+use Rattle.spi_memory.proofs.Looks.{gone-on}
 use Rattle.spi_memory.proofs.store_gone.Statement.{statement}
 use Rattle.spi_memory.proofs.store_gone.Tie as tie
 
-is-whole-requires : tie.Need-is-whole-requires
-is-whole-requires c κs = search needs
-
-byte-number-requires : tie.Need-byte-number-requires
-byte-number-requires c κs = search needs
-
-element-write-w : tie.Need-element-write-w
-element-write-w c = search needs
-
-element-write-w-2 : tie.Need-element-write-w-2
-element-write-w-2 c = search needs
-
 returns : tie.Need-returns
+unfolding if_then_else_ settingsIn engineIn
 returns c =
-    gone-stored _
-    (c .before .is-whole .ensures .1)
-    _
-    _
-    _
-    (c .byte-number .ensures)
+    engine-step _ (at 67 _ ∷ at 68 _ ∷ []) (c .before .is-whole .ensures .1) refl refl (rw ((c .byte-number .ensures), gone-on _ _ _))
 
 pub store-gone-spec : {M : Type 1} → statement M
 store-gone-spec =
     tie.close
-    (tie.spec is-whole-requires byte-number-requires element-write-w element-write-w-2 returns)
+    (tie.spec (λ c κs. search needs) (λ c κs. search needs) (λ c. search needs) (λ c. search needs) returns)

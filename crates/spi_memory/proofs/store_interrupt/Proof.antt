@@ -1,26 +1,19 @@
--- The number is written, and read back.
+-- What is written is read back.
 use borrow.Author.Needs.{needs}
-use Rattle.spi_memory.proofs.Stores.{interrupt-stored}
+use mathlib.Core.Path.{refl}
+use mathlib.Core.List.{[], _∷_}
+use Rattle.spi_rules.specs.Choice.{if_then_else_}
+use Rattle.spi_memory.specs.Memory.{settingsIn, engineIn}
+use Rattle.spi_memory.specs.Writes.{at}
+use Rattle.spi_memory.proofs.Stored.{engine-step}
 use Rattle.spi_memory.proofs.store_interrupt.Statement.{statement}
 use Rattle.spi_memory.proofs.store_interrupt.Tie as tie
 
-is-whole-requires : tie.Need-is-whole-requires
-is-whole-requires c κs = search needs
-
-number-requires : tie.Need-number-requires
-number-requires c κs = search needs
-
-element-write-w : tie.Need-element-write-w
-element-write-w c = search needs
-
 returns : tie.Need-returns
+unfolding if_then_else_ settingsIn engineIn
 returns c =
-    interrupt-stored _
-    (c .before .is-whole .ensures .1)
-    _
-    _
-    (c .number .ensures)
+    engine-step _ (at 73 _ ∷ []) (c .before .is-whole .ensures .1) refl refl (rw ((c .number .ensures)))
 
 pub store-interrupt-spec : {M : Type 1} → statement M
 store-interrupt-spec =
-    tie.close (tie.spec is-whole-requires number-requires element-write-w returns)
+    tie.close (tie.spec (λ c κs. search needs) (λ c κs. search needs) (λ c. search needs) returns)

@@ -1,24 +1,18 @@
--- The numbers are written, and read back.
+-- What is written is read back.
 use borrow.Author.Needs.{needs}
-use Rattle.spi_memory.proofs.Stores.{loaded-stored}
+use mathlib.Core.Path.{refl}
+use mathlib.Core.List.{[], _∷_}
+use Rattle.spi_rules.specs.Choice.{if_then_else_}
+use Rattle.spi_memory.specs.Memory.{settingsIn, engineIn}
+use Rattle.spi_memory.specs.Writes.{at}
+use Rattle.spi_memory.proofs.Stored.{engine-step}
 use Rattle.spi_memory.proofs.store_loaded.Statement.{statement}
 use Rattle.spi_memory.proofs.store_loaded.Tie as tie
 
-is-whole-requires : tie.Need-is-whole-requires
-is-whole-requires c κs = search needs
-
-element-write-w : tie.Need-element-write-w
-element-write-w c = search needs
-
-element-write-w-2 : tie.Need-element-write-w-2
-element-write-w-2 c = search needs
-
 returns : tie.Need-returns
-returns c =
-    loaded-stored _
-    (c .is-whole .ensures .1)
-    _
+unfolding if_then_else_ settingsIn engineIn
+returns c = engine-step _ (at 64 _ ∷ at 66 _ ∷ []) (c .is-whole .ensures .1) refl refl (refl)
 
 pub store-loaded-spec : {M : Type 1} → statement M
 store-loaded-spec =
-    tie.close (tie.spec is-whole-requires element-write-w element-write-w-2 returns)
+    tie.close (tie.spec (λ c κs. search needs) (λ c. search needs) (λ c. search needs) returns)

@@ -1,12 +1,14 @@
--- The store clears the flag and nothing else.
+-- The flag is stored.
+use borrow.Author.Needs.{needs}
 use mathlib.Core.Path.{refl}
-use Rattle.spi_rules.specs.Calls.{answering, clearOf}
+use Rattle.spi_rules.specs.Calls.{clearOf}
+use Rattle.spi_module.proofs.Answers.{changed, answered}
 use Rattle.spi_module.proofs.clear.Statement.{statement}
 use Rattle.spi_module.proofs.clear.Tie as tie
 
 returns : tie.Need-returns
-unfolding clearOf answering
-returns c = refl
+unfolding clearOf
+returns c = changed refl (answered _ (c .store-interrupt .ensures) refl)
 
 pub clear-spec : {M : Type 1} → statement M
-clear-spec = tie.close (tie.spec returns)
+clear-spec = tie.close (tie.spec (λ c κs. search needs) returns)

@@ -1,42 +1,31 @@
 -- The refusals are tested in the order of the definition.
 use borrow.Author.Needs.{needs}
-use Rattle.spi_rules.specs.Calls.{answering, pinsOf}
+use mathlib.Core.Path.{refl}
+use Rattle.spi_rules.specs.Calls.{refuse, pinsOf}
 use Rattle.spi_rules.proofs.Choices.{so, not-so}
+use Rattle.spi_module.proofs.Answers.{kept, changed, answered}
 use Rattle.spi_module.proofs.pins.Statement.{statement}
 use Rattle.spi_module.proofs.pins.Tie as tie
 
-refused-requires : tie.Need-refused-requires
-refused-requires c κs = search needs
-
 returns : tie.Need-returns
-unfolding pinsOf
-returns c = so _ _ _ (cc) (cc)
-
-own-clock-requires : tie.Need-own-clock-requires
-own-clock-requires c κs = search needs
-
-refused-requires-2 : tie.Need-refused-requires-2
-refused-requires-2 c κs = search needs
+unfolding pinsOf refuse
+returns c = kept (so _ _ _ (rw (c .before .before .settings-in .ensures) at (c .if1 .taken)) refl)
 
 returns-2 : tie.Need-returns-2
-unfolding pinsOf
-returns-2 c = not-so _ _ _ (cc) (so _ _ _ (cc) (cc))
-
-step-requires : tie.Need-step-requires
-step-requires c κs = search needs
+unfolding pinsOf refuse
+returns-2 c =
+    let settings-in = c .before .before .before .before .settings-in .ensures in
+    kept (not-so _ _ _ (rw settings-in at (c .before .before .if1 .left)) (so _ _ _ (rw ((c .before .own-clock .ensures), settings-in) at (c .if2 .taken)) refl))
 
 returns-3 : tie.Need-returns-3
-unfolding pinsOf answering
-returns-3 c = not-so _ _ _ (cc) (not-so _ _ _ (cc) (cc))
+unfolding pinsOf
+returns-3 c =
+    let settings-in = c .before .before .before .before .before .before .settings-in .ensures in
+    let if1 = c .before .before .before .before .if1 .left in
+    let own-clock = c .before .before .before .own-clock .ensures in
+    changed refl (not-so _ _ _ (rw settings-in at if1) (not-so _ _ _ (rw (own-clock, settings-in) at (c .before .before .if2 .left)) (answered _ (c .see .ensures) refl)))
 
 pub pins-spec : {M : Type 1} → statement M
 pins-spec =
     tie.close
-    (tie.spec
-    refused-requires
-    returns
-    own-clock-requires
-    refused-requires-2
-    returns-2
-    step-requires
-    returns-3)
+    (tie.spec (λ c κs. search needs) returns (λ c κs. search needs) returns-2 (λ c κs. search needs) returns-3)

@@ -1,72 +1,57 @@
--- The refusal comes first, then the register decides.
+-- The registers are tested in the order of the definition.
 use borrow.Author.Needs.{needs}
-use Rattle.spi_rules.specs.Calls.{writeOf, withCon1, withCon2}
+use mathlib.Core.Path.{refl}
+use Rattle.spi_rules.specs.Calls.{refuse, writeOf}
 use Rattle.spi_rules.proofs.Choices.{so-lt, not-so-lt, so-eq, not-so-eq}
+use Rattle.spi_module.proofs.Answers.{kept, likewise}
 use Rattle.spi_module.proofs.write.Statement.{statement}
 use Rattle.spi_module.proofs.write.Tie as tie
 
-refused-requires : tie.Need-refused-requires
-refused-requires c κs = search needs
-
 returns : tie.Need-returns
-unfolding writeOf
-returns c = so-lt _ _ _ _ (c .before .if1 .taken) (cc)
-
-write-stat-requires : tie.Need-write-stat-requires
-write-stat-requires c κs = search needs
+unfolding writeOf refuse
+returns c = kept (so-lt _ _ _ _ (c .if1 .taken) refl)
 
 returns-2 : tie.Need-returns-2
 unfolding writeOf
-returns-2 c = not-so-lt _ _ _ _ (c .before .before .if1 .left) (so-eq _ _ _ _ (c .before .if2 .taken) (cc))
-
-con1-from-requires : tie.Need-con1-from-requires
-con1-from-requires c κs = search needs
-
-configure-requires : tie.Need-configure-requires
-configure-requires c κs = search needs
+returns-2 c =
+    let if1 = c .before .before .before .if1 .left in
+    likewise (c .write-stat .ensures) (not-so-lt _ _ _ _ if1 (so-eq _ _ _ _ (c .before .before .if2 .taken) refl))
 
 returns-3 : tie.Need-returns-3
-unfolding writeOf withCon1
+unfolding writeOf
 returns-3 c =
-    not-so-lt _ _ _ _ (c .before .before .before .before .before .if1 .left)
-    (not-so-eq _ _ _ _ (c .before .before .before .before .if2 .left) (so-eq _ _ _ _ (c .before .before .before .if3 .taken) (cc)))
-
-con2-from-requires : tie.Need-con2-from-requires
-con2-from-requires c κs = search needs
-
-configure-requires-2 : tie.Need-configure-requires-2
-configure-requires-2 c κs = search needs
+    let if1 = c .before .before .before .before .if1 .left in
+    let if2 = c .before .before .before .if2 .left in
+    likewise (c .write-con1 .ensures) (not-so-lt _ _ _ _ if1 (not-so-eq _ _ _ _ if2 (so-eq _ _ _ _ (c .before .before .if3 .taken) refl)))
 
 returns-4 : tie.Need-returns-4
-unfolding writeOf withCon2
+unfolding writeOf
 returns-4 c =
-    not-so-lt _ _ _ _ (c .before .before .before .before .before .before .if1 .left)
-    (not-so-eq _ _ _ _ (c .before .before .before .before .before .if2 .left)
-    (not-so-eq _ _ _ _ (c .before .before .before .before .if3 .left) (so-eq _ _ _ _ (c .before .before .before .if4 .taken) (cc))))
-
-write-buf-requires : tie.Need-write-buf-requires
-write-buf-requires c κs = search needs
+    let if1 = c .before .before .before .before .before .if1 .left in
+    let if2 = c .before .before .before .before .if2 .left in
+    let if3 = c .before .before .before .if3 .left in
+    likewise (c .write-con2 .ensures)
+    (not-so-lt _ _ _ _ if1 (not-so-eq _ _ _ _ if2 (not-so-eq _ _ _ _ if3 (so-eq _ _ _ _ (c .before .before .if4 .taken) refl))))
 
 returns-5 : tie.Need-returns-5
 unfolding writeOf
 returns-5 c =
-    not-so-lt _ _ _ _ (c .before .before .before .before .if1 .left)
-    (not-so-eq _ _ _ _ (c .before .before .before .if2 .left)
-    (not-so-eq _ _ _ _ (c .before .before .if3 .left) (not-so-eq _ _ _ _ (c .before .if4 .left) (cc))))
+    let if1 = c .before .before .before .before .before .if1 .left in
+    let if2 = c .before .before .before .before .if2 .left in
+    let if3 = c .before .before .before .if3 .left in
+    likewise (c .write-buf .ensures)
+    (not-so-lt _ _ _ _ if1 (not-so-eq _ _ _ _ if2 (not-so-eq _ _ _ _ if3 (not-so-eq _ _ _ _ (c .before .before .if4 .left) refl))))
 
 pub write-spec : {M : Type 1} → statement M
 write-spec =
     tie.close
     (tie.spec
-    refused-requires
     returns
-    write-stat-requires
+    (λ c κs. search needs)
     returns-2
-    con1-from-requires
-    configure-requires
+    (λ c κs. search needs)
     returns-3
-    con2-from-requires
-    configure-requires-2
+    (λ c κs. search needs)
     returns-4
-    write-buf-requires
+    (λ c κs. search needs)
     returns-5)

@@ -7,12 +7,6 @@ use Rattle.spi_rules.proofs.Choices.{so, not-so}
 use Rattle.spi_registers.proofs.spibec_value.Statement.{statement}
 use Rattle.spi_registers.proofs.spibec_value.Tie as tie
 
-at-most-7-requires : tie.Need-at-most-7-requires
-at-most-7-requires c κs = search needs
-
-at-most-7-requires-2 : tie.Need-at-most-7-requires-2
-at-most-7-requires-2 c κs = search needs
-
 returns : tie.Need-returns
 unfolding spibec
 returns c = (
@@ -33,4 +27,4 @@ returns-3 c = (not-so _ _ _ (c .if1 .left) refl, omega arith)
 
 pub spibec-value-spec : {M : Type 1} → statement M
 spibec-value-spec =
-    tie.close (tie.spec at-most-7-requires at-most-7-requires-2 returns returns-2 returns-3)
+    tie.close (tie.spec (λ c κs. search needs) (λ c κs. search needs) returns returns-2 returns-3)

@@ -10,58 +10,13 @@ use Rattle.spi_script.proofs.main.Statement.{statement}
 use Rattle.spi_script.proofs.main.Tie as tie
 
 abbrev Inv-loop : tie.InvT-loop
-Inv-loop script n session₀ out₀ counter₀ session out counter = (counter ≤ 256) × (4096 ≡ length out)
+Inv-loop script n spi₀ place₀ out₀ counter₀ spi place out counter = (counter ≤ 256) × (4096 ≡ length out)
 
 abbrev μ-loop : tie.MeasureT-loop
-μ-loop script n session₀ out₀ counter₀ session out counter = 256 - counter
-
-slice-aggregate-read-full : tie.Need-slice-aggregate-read-full Inv-loop μ-loop
-slice-aggregate-read-full c = search needs
-
-read-full-requires : tie.Need-read-full-requires Inv-loop μ-loop
-read-full-requires c κs = search needs
-
-start-requires : tie.Need-start-requires Inv-loop μ-loop
-start-requires c κs = search needs
-
-loop-holds : tie.Need-loop-holds Inv-loop μ-loop
-loop-holds c = search needs
-
-array-share-prefix-script : tie.Need-array-share-prefix-script Inv-loop μ-loop
-array-share-prefix-script c = search needs
-
-slice-aggregate-piece : tie.Need-slice-aggregate-piece Inv-loop μ-loop
-slice-aggregate-piece c = search needs
-
-piece-requires : tie.Need-piece-requires Inv-loop μ-loop
-piece-requires c κs = search needs
-
-returns : tie.Need-returns Inv-loop μ-loop
-returns c = search needs
-
-array-share-prefix-out : tie.Need-array-share-prefix-out Inv-loop μ-loop
-array-share-prefix-out c = search needs
+μ-loop script n spi₀ place₀ out₀ counter₀ spi place out counter = 256 - counter
 
 slice-aggregate-write-all : tie.Need-slice-aggregate-write-all Inv-loop μ-loop
 slice-aggregate-write-all c = sym (length-take-le _ _ (omega arith))
-
-write-all-requires : tie.Need-write-all-requires Inv-loop μ-loop
-write-all-requires c κs = search needs
-
-returns-2 : tie.Need-returns-2 Inv-loop μ-loop
-returns-2 c = search needs
-
-add-counter : tie.Need-add-counter Inv-loop μ-loop
-add-counter c = search needs
-
-loop-less : tie.Need-loop-less Inv-loop μ-loop
-loop-less c = search needs
-
-loop-again : tie.Need-loop-again Inv-loop μ-loop
-loop-again c = search needs
-
-returns-3 : tie.Need-returns-3 Inv-loop μ-loop
-returns-3 c = search needs
 
 pub main-spec : {M : Type 1} → statement M
 main-spec =
@@ -69,19 +24,8 @@ main-spec =
     (tie.spec
     Inv-loop
     μ-loop
-    slice-aggregate-read-full
-    read-full-requires
-    start-requires
-    loop-holds
-    array-share-prefix-script
-    slice-aggregate-piece
-    piece-requires
-    returns
-    array-share-prefix-out
+    (λ c. search needs) (λ c κs. search needs) (λ c κs. search needs) (λ c. search needs) (λ c. search needs)
+    (λ c. search needs) (λ c κs. search needs) (λ c. search needs) (λ c. search needs)
     slice-aggregate-write-all
-    write-all-requires
-    returns-2
-    add-counter
-    loop-less
-    loop-again
-    returns-3)
+    (λ c κs. search needs) (λ c. search needs) (λ c. search needs) (λ c. search needs) (λ c. search needs)
+    (λ c. search needs))

@@ -9,14 +9,5 @@ use Rattle.spi_script_runs.proofs.tally_first.Tie as tie
 slice-aggregate-tally : tie.Need-slice-aggregate-tally
 slice-aggregate-tally c = sym (length-take-le _ _ (omega arith))
 
-tally-requires : tie.Need-tally-requires
-tally-requires c κs = search needs
-
-returns : tie.Need-returns
-returns c = search needs
-
-returns-2 : tie.Need-returns-2
-returns-2 c = search needs
-
 pub tally-first-spec : {M : Type 1} → statement M
-tally-first-spec = tie.close (tie.spec slice-aggregate-tally tally-requires returns returns-2)
+tally-first-spec = tie.close (tie.spec slice-aggregate-tally (λ c κs. search needs) (λ c. search needs) (λ c. search needs))

@@ -4,18 +4,17 @@ use mathlib.Core.Path.{ap}
 use borrow.Author.Needs.{needs}
 use lib.ListN.{length}
 use native.Mathlib.Omega.{arith}
+use Rattle.spi_session.specs.Written.{sessionIn}
 use Rattle.spi_session.proofs.Lines.{Playing, playing-starts, playing-goes-on, piece-ends, read-part, cut-part}
 use Rattle.spi_session.proofs.piece.Statement.{statement}
 use Rattle.spi_session.proofs.piece.Tie as tie
 
 abbrev Inv-loop : tie.InvT-loop
-Inv-loop script out₀ end read p₀ k₀ out p k = Playing 256 read (p₀ .session) out₀ k (p .session) (p .written) out
+Inv-loop script w₀ out₀ end read p₀ k₀ w out p k =
+    Playing 256 read (sessionIn w₀ (p₀ .to)) out₀ k (sessionIn w (p .to)) (p .written) out
 
 abbrev μ-loop : tie.MeasureT-loop
-μ-loop script out₀ end read p₀ k₀ out p k = 256 - k
-
-bytes-read-requires : tie.Need-bytes-read-requires Inv-loop μ-loop
-bytes-read-requires c κs = search needs
+μ-loop script w₀ out₀ end read p₀ k₀ w out p k = 256 - k
 
 slice-aggregate-read : tie.Need-slice-aggregate-read Inv-loop μ-loop
 slice-aggregate-read c = cc (ap length (read-part (c .before .before .before .args .script .now) _ (c .before .bytes-read .ensures)), c .before .bytes-read .ensures)
@@ -24,7 +23,7 @@ loop-holds : tie.Need-loop-holds Inv-loop μ-loop
 loop-holds c = playing-starts 256 _ _ _
 
 play-line-requires : tie.Need-play-line-requires Inv-loop μ-loop
-play-line-requires c κs = (cut-part _ _ (c .before .before .before .before .bytes-read .ensures), omega (arith, c .before .before .loop .inv .room))
+play-line-requires c κs = (cut-part _ _ (c .before .before .before .before .before .bytes-read .ensures), omega (arith, c .before .before .before .loop .inv .room))
 
 add-k : tie.Need-add-k Inv-loop μ-loop
 add-k c = omega arith
@@ -33,7 +32,7 @@ loop-less : tie.Need-loop-less Inv-loop μ-loop
 loop-less c = omega arith
 
 loop-again : tie.Need-loop-again Inv-loop μ-loop
-loop-again c = playing-goes-on (c .before .before .before .loop .inv) (omega arith) (c .play-line .ensures .0) (c .play-line .ensures .1)
+loop-again c = playing-goes-on (c .before .before .before .before .loop .inv) (omega arith) (c .play-line .ensures .0) (c .play-line .ensures .1)
 
 returns : tie.Need-returns Inv-loop μ-loop
 returns c =
@@ -46,7 +45,7 @@ piece-spec =
     (tie.spec
     Inv-loop
     μ-loop
-    bytes-read-requires
+    (λ c κs. search needs)
     slice-aggregate-read
     loop-holds
     play-line-requires

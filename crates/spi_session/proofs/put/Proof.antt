@@ -5,15 +5,9 @@ use Rattle.spi_rules.specs.Session.{put}
 use Rattle.spi_session.proofs.put.Statement.{statement}
 use Rattle.spi_session.proofs.put.Tie as tie
 
-element-write-out : tie.Need-element-write-out
-element-write-out c = search needs
-
-add-result : tie.Need-add-result
-add-result c = search needs
-
 returns : tie.Need-returns
 unfolding put
 returns c = record { buffer = cc; behind = omega arith }
 
 pub put-spec : {M : Type 1} → statement M
-put-spec = tie.close (tie.spec element-write-out add-result returns)
+put-spec = tie.close (tie.spec (λ c. search needs) (λ c. search needs) returns)

@@ -7,14 +7,8 @@ use Rattle.spi_session.proofs.Texts.{written-case}
 use Rattle.spi_session.proofs.put_hex.Statement.{statement}
 use Rattle.spi_session.proofs.put_hex.Tie as tie
 
-hex-letter-requires : tie.Need-hex-letter-requires
-hex-letter-requires c κs = search needs
-
-put-requires : tie.Need-put-requires
-put-requires c κs = search needs
-
 returns : tie.Need-returns
 returns c = written-case (λ (b : ℕ). b ∷ []) (sym (c .before .hex-letter .ensures)) (c .put .ensures)
 
 pub put-hex-spec : {M : Type 1} → statement M
-put-hex-spec = tie.close (tie.spec hex-letter-requires put-requires returns)
+put-hex-spec = tie.close (tie.spec (λ c κs. search needs) (λ c κs. search needs) returns)

@@ -6,15 +6,9 @@ use Rattle.spi_rules.specs.Session.{put}
 use Rattle.spi_session.proofs.put_ok.Statement.{statement}
 use Rattle.spi_session.proofs.put_ok.Tie as tie
 
-put-requires : tie.Need-put-requires
-put-requires c κs = search needs
-
-put-requires-2 : tie.Need-put-requires-2
-put-requires-2 c κs = search needs
-
 returns : tie.Need-returns
 unfolding bytes okText put
 returns c = record { buffer = cc; behind = omega arith }
 
 pub put-ok-spec : {M : Type 1} → statement M
-put-ok-spec = tie.close (tie.spec put-requires put-requires-2 returns)
+put-ok-spec = tie.close (tie.spec (λ c κs. search needs) (λ c κs. search needs) returns)

@@ -7,18 +7,6 @@ use Rattle.spi_session.proofs.Texts.{written-then, written-case, refusa
 use Rattle.spi_session.proofs.put_refused.Statement.{statement}
 use Rattle.spi_session.proofs.put_refused.Tie as tie
 
-put-requires : tie.Need-put-requires
-put-requires c κs = search needs
-
-put-requires-2 : tie.Need-put-requires-2
-put-requires-2 c κs = search needs
-
-refusal-number-requires : tie.Need-refusal-number-requires
-refusal-number-requires c κs = search needs
-
-cast-put-decimal : tie.Need-cast-put-decimal
-cast-put-decimal c = search needs
-
 put-decimal-requires : tie.Need-put-decimal-requires
 put-decimal-requires c κs = omega (arith, refusal-number-short _ _ (c .refusal-number .ensures))
 
@@ -33,9 +21,6 @@ pub put-refused-spec : {M : Type 1} → statement M
 put-refused-spec =
     tie.close
     (tie.spec
-    put-requires
-    put-requires-2
-    refusal-number-requires
-    cast-put-decimal
+    (λ c κs. search needs) (λ c κs. search needs) (λ c κs. search needs) (λ c. search needs)
     put-decimal-requires
     returns)

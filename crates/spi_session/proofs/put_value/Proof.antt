@@ -5,18 +5,6 @@ use Rattle.spi_session.proofs.Texts.{written-then}
 use Rattle.spi_session.proofs.put_value.Statement.{statement}
 use Rattle.spi_session.proofs.put_value.Tie as tie
 
-put-hex-requires : tie.Need-put-hex-requires
-put-hex-requires c κs = search needs
-
-put-hex-requires-2 : tie.Need-put-hex-requires-2
-put-hex-requires-2 c κs = search needs
-
-put-hex-requires-3 : tie.Need-put-hex-requires-3
-put-hex-requires-3 c κs = search needs
-
-put-hex-requires-4 : tie.Need-put-hex-requires-4
-put-hex-requires-4 c κs = search needs
-
 returns : tie.Need-returns
 unfolding fourHexOf
 returns c = written-then (c .before .before .before .before .before .before .put-hex .ensures) (written-then (c .before .before .before .before .put-hex2 .ensures) (written-then (c .before .before .put-hex3 .ensures) (c .put-hex4 .ensures)))
@@ -24,4 +12,4 @@ returns c = written-then (c .before .before .before .before .before .before .put
 pub put-value-spec : {M : Type 1} → statement M
 put-value-spec =
     tie.close
-    (tie.spec put-hex-requires put-hex-requires-2 put-hex-requires-3 put-hex-requires-4 returns)
+    (tie.spec (λ c κs. search needs) (λ c κs. search needs) (λ c κs. search needs) (λ c κs. search needs) returns)

@@ -1,15 +1,14 @@
--- The definition, with the module that power-up gives.
+-- The module that memory holds after power-up.
 use borrow.Author.Needs.{needs}
+use mathlib.Core.Path.{ap}
+use Rattle.spi_rules.specs.declared.Module.{Module}
 use Rattle.spi_rules.specs.Session.{started}
 use Rattle.spi_session.proofs.start.Statement.{statement}
 use Rattle.spi_session.proofs.start.Tie as tie
 
-power-up-requires : tie.Need-power-up-requires
-power-up-requires c κs = search needs
-
 returns : tie.Need-returns
 unfolding started
-returns c = cc
+returns c = ap (λ (m : Module). record { spi = m; lines = 0; at = 0 }) (c .power-up .ensures)
 
 pub start-spec : {M : Type 1} → statement M
-start-spec = tie.close (tie.spec power-up-requires returns)
+start-spec = tie.close (tie.spec (λ c κs. search needs) returns)

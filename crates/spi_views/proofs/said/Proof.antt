@@ -4,24 +4,6 @@ use Rattle.spi_rules.specs.Refusals.{saidOf}
 use Rattle.spi_views.proofs.said.Statement.{statement}
 use Rattle.spi_views.proofs.said.Tie as tie
 
-enum-known-a : tie.Need-enum-known-a
-enum-known-a c = search needs
-
-refusal-number-requires : tie.Need-refusal-number-requires
-refusal-number-requires c κs = search needs
-
-enum-told : tie.Need-enum-told
-enum-told c = search needs
-
-enum-known-a-2 : tie.Need-enum-known-a-2
-enum-known-a-2 c = search needs
-
-enum-told-2 : tie.Need-enum-told-2
-enum-told-2 c = search needs
-
-enum-told-3 : tie.Need-enum-told-3
-enum-told-3 c = search needs
-
 returns : tie.Need-returns
 unfolding saidOf
 returns c = cc
@@ -46,12 +28,8 @@ pub said-spec : {M : Type 1} → statement M
 said-spec =
     tie.close
     (tie.spec
-    enum-known-a
-    refusal-number-requires
-    enum-told
-    enum-known-a-2
-    enum-told-2
-    enum-told-3
+    (λ c. search needs) (λ c κs. search needs) (λ c. search needs) (λ c. search needs) (λ c. search needs)
+    (λ c. search needs)
     returns
     returns-2
     returns-3

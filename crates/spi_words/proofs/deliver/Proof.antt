@@ -1,34 +1,36 @@
--- A full buffer loses the word and sets SPIROV; otherwise the word is appended.
+-- The branch is the choice of the definition.
 use borrow.Author.Needs.{needs}
 use mathlib.Core.Path.{refl}
-use native.Mathlib.Omega.{arith}
-use Rattle.spi_rules.specs.Finish.{overflowed, wordAppended, delivered, isLost}
+use Rattle.spi_rules.specs.Finish.{overflowed, wordAppended, isLost, delivered}
 use Rattle.spi_rules.proofs.Choices.{so-le, not-so-le}
-use Rattle.spi_rules.specs.Settings.{depthOf}
+use Rattle.spi_memory.proofs.Taken.{_then_, alike}
 use Rattle.spi_words.proofs.deliver.Statement.{statement}
 use Rattle.spi_words.proofs.deliver.Tie as tie
 
-depth-requires : tie.Need-depth-requires
-depth-requires c κs = search needs
-
-with-appended-requires : tie.Need-with-appended-requires
-with-appended-requires c κs = search needs
-
-note-requires : tie.Need-note-requires
-note-requires c κs = search needs
-
 returns : tie.Need-returns
-unfolding delivered isLost overflowed
+unfolding overflowed isLost delivered
 returns c =
-    let a = c .before .before .before .before .args in
-    so-le (depthOf (a .s)) (a .n .receive .count) _ _ (omega arith) refl
+    let depth = c .before .before .before .before .depth .ensures in
+    let settings-in = c .before .before .before .before .before .before .before .settings-in .ensures in
+    let receive-in = c .before .before .before .before .before .receive-in .ensures in
+    alike (c .store-spirov .ensures) (so-le _ _ _ _ (rw (depth, settings-in, receive-in) at (c .before .before .if1 .taken)) refl)
 
 returns-2 : tie.Need-returns-2
-unfolding delivered isLost wordAppended
+unfolding wordAppended isLost delivered
 returns-2 c =
-    let a = c .before .before .before .before .before .before .args in
-    not-so-le (depthOf (a .s)) (a .n .receive .count) _ _ (omega arith) (cc)
+    let depth = c .before .before .before .before .before .before .before .depth .ensures in
+    let settings-in = c .before .before .before .before .before .before .before .before .before .before .settings-in .ensures in
+    let receive-in = c .before .before .before .before .before .before .before .before .receive-in .ensures in
+    let if1 = c .before .before .before .before .before .if1 .left in
+    let with-appended = c .before .before .before .before .with-appended .ensures in
+    alike ((c .before .before .store-receive .ensures) then (c .note .ensures))
+    (not-so-le _ _ _ _ (rw (depth, settings-in, receive-in) at if1) (rw (with-appended, receive-in, depth, settings-in)))
 
 pub deliver-spec : {M : Type 1} → statement M
 deliver-spec =
-    tie.close (tie.spec depth-requires with-appended-requires note-requires returns returns-2)
+    tie.close
+    (tie.spec
+    (λ c κs. search needs) (λ c κs. search needs) (λ c κs. search needs) (λ c κs. search needs)
+    (λ c κs. search needs) (λ c κs. search needs) (λ c κs. search needs)
+    returns
+    returns-2)

@@ -3,22 +3,22 @@ use borrow.Author.Needs.{needs}
 use mathlib.Core.Path.{refl}
 use Rattle.spi_rules.specs.Finish.{sentDropped}
 use Rattle.spi_rules.proofs.Choices.{so, not-so}
+use Rattle.spi_memory.proofs.Taken.{alike, stays}
 use Rattle.spi_words.proofs.drop_sent.Statement.{statement}
 use Rattle.spi_words.proofs.drop_sent.Tie as tie
 
-ssen-client-requires : tie.Need-ssen-client-requires
-ssen-client-requires c κs = search needs
-
-leave-requires : tie.Need-leave-requires
-leave-requires c κs = search needs
-
 returns : tie.Need-returns
 unfolding sentDropped
-returns c = so _ _ _ (cc) (cc)
+returns c =
+    let ssen-client = c .before .before .before .ssen-client .ensures in
+    let settings-in = c .before .before .before .before .settings-in .ensures in
+    alike (c .leave .ensures) (so _ _ _ (rw (ssen-client, settings-in) at (c .before .before .if1 .taken)) refl)
 
 returns-2 : tie.Need-returns-2
 unfolding sentDropped
-returns-2 c = not-so _ _ _ (cc) refl
+returns-2 c =
+    stays (not-so _ _ _ (rw ((c .before .ssen-client .ensures), (c .before .before .settings-in .ensures)) at (c .if1 .left)) refl)
 
 pub drop-sent-spec : {M : Type 1} → statement M
-drop-sent-spec = tie.close (tie.spec ssen-client-requires leave-requires returns returns-2)
+drop-sent-spec =
+    tie.close (tie.spec (λ c κs. search needs) (λ c κs. search needs) (λ c κs. search needs) returns returns-2)

@@ -1,35 +1,22 @@
--- The steps of the definition, one call each.
+-- The steps of the definition.
 use borrow.Author.Needs.{needs}
 use Rattle.spi_rules.specs.Finish.{finished}
+use Rattle.spi_memory.proofs.Taken.{_then_}
 use Rattle.spi_words.proofs.finish.Statement.{statement}
 use Rattle.spi_words.proofs.finish.Tie as tie
 
-deliver-requires : tie.Need-deliver-requires
-deliver-requires c κs = search needs
-
-drop-sent-requires : tie.Need-drop-sent-requires
-drop-sent-requires c κs = search needs
-
-free-after-finish-requires : tie.Need-free-after-finish-requires
-free-after-finish-requires c κs = search needs
-
-load-requires : tie.Need-load-requires
-load-requires c κs = search needs
-
-rest-requires : tie.Need-rest-requires
-rest-requires c κs = search needs
-
 returns : tie.Need-returns
 unfolding finished
-returns c = cc
+returns c =
+    let deliver = c .before .before .before .before .before .before .before .before .deliver .ensures in
+    let drop-sent = c .before .before .before .before .before .before .drop-sent .ensures in
+    let free-after-finish = c .before .before .before .before .free-after-finish .ensures in
+    deliver then drop-sent then free-after-finish then (c .before .before .load .ensures) then (c .rest .ensures)
 
 pub finish-spec : {M : Type 1} → statement M
 finish-spec =
     tie.close
     (tie.spec
-    deliver-requires
-    drop-sent-requires
-    free-after-finish-requires
-    load-requires
-    rest-requires
+    (λ c κs. search needs) (λ c κs. search needs) (λ c κs. search needs) (λ c κs. search needs)
+    (λ c κs. search needs)
     returns)

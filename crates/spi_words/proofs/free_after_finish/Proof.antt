@@ -1,15 +1,16 @@
--- The event is noted in the engine that the definition names.
+-- The steps of the definition.
 use borrow.Author.Needs.{needs}
 use Rattle.spi_rules.specs.Finish.{freed}
+use Rattle.spi_memory.proofs.Taken.{_then_, alike}
 use Rattle.spi_words.proofs.free_after_finish.Statement.{statement}
 use Rattle.spi_words.proofs.free_after_finish.Tie as tie
 
-note-requires : tie.Need-note-requires
-note-requires c κs = search needs
-
 returns : tie.Need-returns
 unfolding freed
-returns c = cc
+returns c =
+    let transmit-in = c .before .before .before .before .transmit-in .ensures in
+    alike ((c .before .before .store-free .ensures) then (c .note .ensures)) (rw transmit-in)
 
 pub free-after-finish-spec : {M : Type 1} → statement M
-free-after-finish-spec = tie.close (tie.spec note-requires returns)
+free-after-finish-spec =
+    tie.close (tie.spec (λ c κs. search needs) (λ c κs. search needs) (λ c κs. search needs) returns)

@@ -1,38 +1,37 @@
 -- The branch is the choice of the definition.
 use borrow.Author.Needs.{needs}
 use mathlib.Core.Path.{refl}
-use Rattle.spi_rules.specs.Loading.{moved, canLoad, loaded}
+use Rattle.spi_rules.specs.Loading.{canLoad, moved, loaded}
 use Rattle.spi_rules.proofs.Choices.{so, not-so}
+use Rattle.spi_memory.proofs.Taken.{_then_, alike, stays}
 use Rattle.spi_words.proofs.load.Statement.{statement}
 use Rattle.spi_words.proofs.load.Tie as tie
 
-is-free-requires : tie.Need-is-free-requires
-is-free-requires c κs = search needs
-
-ssen-client-requires : tie.Need-ssen-client-requires
-ssen-client-requires c κs = search needs
-
-first-waiting-requires : tie.Need-first-waiting-requires
-first-waiting-requires c κs = search needs
-
-leave-requires : tie.Need-leave-requires
-leave-requires c κs = search needs
-
 returns : tie.Need-returns
-unfolding loaded canLoad moved
-returns c = so _ _ _ (cc) (cc)
+unfolding canLoad moved loaded
+returns c =
+    let is-free = c .before .before .before .before .before .before .before .before .is-free .ensures in
+    let ssen-client = c .before .before .before .before .before .before .before .ssen-client .ensures in
+    let settings-in = c .before .before .before .before .before .before .before .before .before .before .before .before .settings-in .ensures in
+    let transmit-in = c .before .before .before .before .before .before .before .before .before .before .transmit-in .ensures in
+    let if1 = c .before .before .before .before .before .if1 .taken in
+    let first-waiting = c .before .before .before .before .first-waiting .ensures in
+    alike ((c .before .before .store-loaded .ensures) then (c .leave .ensures))
+    (so _ _ _ (rw (is-free, ssen-client, settings-in, transmit-in) at if1) (rw (first-waiting, transmit-in)))
 
 returns-2 : tie.Need-returns-2
-unfolding loaded canLoad
-returns-2 c = not-so _ _ _ (cc) refl
+unfolding canLoad loaded
+returns-2 c =
+    let is-free = c .before .before .before .is-free .ensures in
+    let settings-in = c .before .before .before .before .before .before .before .settings-in .ensures in
+    let transmit-in = c .before .before .before .before .before .transmit-in .ensures in
+    stays (not-so _ _ _ (rw (is-free, (c .before .before .ssen-client .ensures), settings-in, transmit-in) at (c .if1 .left)) refl)
 
 pub load-spec : {M : Type 1} → statement M
 load-spec =
     tie.close
     (tie.spec
-    is-free-requires
-    ssen-client-requires
-    first-waiting-requires
-    leave-requires
+    (λ c κs. search needs) (λ c κs. search needs) (λ c κs. search needs) (λ c κs. search needs)
+    (λ c κs. search needs) (λ c κs. search needs) (λ c κs. search needs)
     returns
     returns-2)

@@ -6,56 +6,32 @@ use Rattle.spi_rules.proofs.Choices.{by-case}
 use Rattle.spi_words.proofs.next_top.Statement.{statement}
 use Rattle.spi_words.proofs.next_top.Tie as tie
 
-enum-told : tie.Need-enum-told
-enum-told c = search needs
-
-ssen-client-requires : tie.Need-ssen-client-requires
-ssen-client-requires c κs = search needs
-
-first-waiting-requires : tie.Need-first-waiting-requires
-first-waiting-requires c κs = search needs
-
-top-bit-requires : tie.Need-top-bit-requires
-top-bit-requires c κs = search needs
-
-enum-known-shift : tie.Need-enum-known-shift
-enum-known-shift c = search needs
-
-top-bit-requires-2 : tie.Need-top-bit-requires-2
-top-bit-requires-2 c κs = search needs
-
-enum-told-2 : tie.Need-enum-told-2
-enum-told-2 c = search needs
-
 returns : tie.Need-returns
 unfolding nextTop
 returns c =
-    let a = c .before .before .before .before .before .before .args in
-    by-case (nextTop (a .s) (a .t)) (c .before .before .before .before .enum-told .given .1) (cc)
+    let s = c .before .before .before .before .before .before .args .s in
+    let t = c .before .before .before .before .before .before .args .t in
+    let enum-told = c .before .before .before .before .enum-told .given .1 in
+    by-case (nextTop s t) enum-told (cc)
 
 returns-2 : tie.Need-returns-2
 unfolding nextTop
 returns-2 c =
-    let a = c .before .before .before .before .args in
-    by-case (nextTop (a .s) (a .t)) (c .before .before .shift .given .1) (cc)
+    let s = c .before .before .before .before .args .s in
+    let t = c .before .before .before .before .args .t in
+    by-case (nextTop s t) (c .before .before .shift .given .1) (cc)
 
 returns-3 : tie.Need-returns-3
 unfolding nextTop
 returns-3 c =
-    let a = c .before .before .args in
-    by-case (nextTop (a .s) (a .t)) (c .enum-told2 .given .1) refl
+    by-case (nextTop (c .before .before .args .s) (c .before .before .args .t)) (c .enum-told2 .given .1) refl
 
 pub next-top-spec : {M : Type 1} → statement M
 next-top-spec =
     tie.close
     (tie.spec
-    enum-told
-    ssen-client-requires
-    first-waiting-requires
-    top-bit-requires
-    enum-known-shift
-    top-bit-requires-2
-    enum-told-2
+    (λ c. search needs) (λ c κs. search needs) (λ c κs. search needs) (λ c κs. search needs) (λ c. search needs)
+    (λ c κs. search needs) (λ c. search needs)
     returns
     returns-2
     returns-3)

@@ -1,25 +1,40 @@
 -- SDO is set to the level that the definition chooses.
 use borrow.Author.Needs.{needs}
-use mathlib.Core.Path.{refl, ap}
 use mathlib.Core.Bool.{Bool}
+use mathlib.Core.Path.{refl, ap}
 use Rattle.spi_rules.specs.Loading.{rested, sdoAt}
 use Rattle.spi_rules.proofs.Choices.{so, not-so}
+use Rattle.spi_memory.specs.Memory.{engineIn}
+use Rattle.spi_memory.proofs.Taken.{alike, stays}
 use Rattle.spi_words.proofs.rest.Statement.{statement}
 use Rattle.spi_words.proofs.rest.Tie as tie
 
-is-begun-requires : tie.Need-is-begun-requires
-is-begun-requires c κs = search needs
-
-next-top-requires : tie.Need-next-top-requires
-next-top-requires c κs = search needs
-
 returns : tie.Need-returns
 unfolding rested sdoAt
-returns c = ap (λ (level : Bool). sdoAt level (c .before .before .before .before .before .before .args .n)) (so _ _ _ (cc) (cc))
+returns c =
+    let w = c .before .before .before .before .before .before .before .before .before .before .before .before .before .args .w .now in
+    let settings-in = c .before .before .before .before .before .before .before .before .before .before .before .settings-in .ensures in
+    let is-begun = c .before .before .before .before .before .before .before .before .before .is-begun .ensures in
+    let if1 = c .before .before .before .before .before .before .before .if1 .taken in
+    let transmit-in = c .before .before .before .transmit-in .ensures in
+    let shift-in = c .before .before .before .before .before .shift-in .ensures in
+    alike (c .store-sdo .ensures)
+    (ap (λ (x : Bool). sdoAt x (engineIn w))
+    (so _ _ _ (rw (settings-in, is-begun) at if1) (rw ((c .before .before .next-top .ensures), settings-in, transmit-in, shift-in))))
 
 returns-2 : tie.Need-returns-2
 unfolding rested sdoAt
-returns-2 c = ap (λ (level : Bool). sdoAt level (c .before .before .before .args .n)) (not-so _ _ _ (cc) refl)
+returns-2 c =
+    let w = c .before .before .before .before .before .before .args .w .now in
+    let settings-in = c .before .before .before .before .settings-in .ensures in
+    stays
+    (ap (λ (x : Bool). sdoAt x (engineIn w)) (not-so _ _ _ (rw (settings-in, (c .before .before .is-begun .ensures)) at (c .if1 .left)) refl))
 
 pub rest-spec : {M : Type 1} → statement M
-rest-spec = tie.close (tie.spec is-begun-requires next-top-requires returns returns-2)
+rest-spec =
+    tie.close
+    (tie.spec
+    (λ c κs. search needs) (λ c κs. search needs) (λ c κs. search needs) (λ c κs. search needs)
+    (λ c κs. search needs) (λ c κs. search needs)
+    returns
+    returns-2)

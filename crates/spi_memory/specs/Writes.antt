@@ -1,0 +1,29 @@
+-- Single numbers that are written into memory, one after the other.
+use Prim.Native.Nat.{ℕ, _+_}
+use mathlib.Core.List.{List, [], _∷_}
+use lib.ListN.{getD, set}
+
+-- A place and the number that is written there.
+pub record Write : Type 0 where
+  pub place : ℕ
+  pub number : ℕ
+
+abbrev pub at : ℕ → ℕ → Write
+at place number = record { place = place; number = number }
+
+abbrev pub writes : List ℕ → List Write → List ℕ
+writes w [] = w
+writes w (x ∷ xs) = writes (set w (x .place) (x .number)) xs
+
+-- Eight words, from a place on.
+abbrev pub wordsWritten : ℕ → List ℕ → List Write
+wordsWritten first words =
+    at first (getD words 0 0)
+    ∷ at (first + 1) (getD words 1 0)
+    ∷ at (first + 2) (getD words 2 0)
+    ∷ at (first + 3) (getD words 3 0)
+    ∷ at (first + 4) (getD words 4 0)
+    ∷ at (first + 5) (getD words 5 0)
+    ∷ at (first + 6) (getD words 6 0)
+    ∷ at (first + 7) (getD words 7 0)
+    ∷ []

@@ -1,2 +1,0 @@
--- Definitions of calls on a module in memory.
-pub mod Steps

@@ -1,0 +1,33 @@
+-- The branch is the choice of the definition.
+use borrow.Author.Needs.{needs}
+use mathlib.Core.Path.{refl}
+use Rattle.spi_rules.specs.Registers.{bitOf}
+use Rattle.spi_rules.specs.Calls.{turnsOn, refuse, writeStat}
+use Rattle.spi_rules.proofs.Choices.{so, not-so}
+use Rattle.spi_module.proofs.Answers.{kept, changed, then-set}
+use Rattle.spi_module.proofs.write_stat.Statement.{statement}
+use Rattle.spi_module.proofs.write_stat.Tie as tie
+
+returns : tie.Need-returns
+unfolding writeStat turnsOn bitOf refuse
+returns c =
+    let settings-in = c .before .before .before .settings-in .ensures in
+    kept (so _ _ _ (rw ((c .before .are-bad .ensures), settings-in) at (c .if1 .taken)) refl)
+
+returns-2 : tie.Need-returns-2
+unfolding writeStat turnsOn bitOf
+returns-2 c =
+    let are-bad = c .before .before .before .before .before .are-bad .ensures in
+    let settings-in = c .before .before .before .before .before .before .before .settings-in .ensures in
+    let if1 = c .before .before .before .before .if1 .left in
+    changed refl
+    (not-so _ _ _ (rw (are-bad, settings-in) at if1) (then-set _ (c .before .before .stat-written .ensures) (c .store-stat .ensures) refl refl))
+
+pub write-stat-spec : {M : Type 1} → statement M
+write-stat-spec =
+    tie.close
+    (tie.spec
+    (λ c κs. search needs) (λ c κs. search needs)
+    returns
+    (λ c κs. search needs) (λ c κs. search needs)
+    returns-2)

@@ -1,0 +1,82 @@
+// The calls by value: each takes any module and any value, always answers, and returns the answer with the module after the
+// call. The module is put into memory, the call is made there, and the module is read back.
+use spi_rules::Call;
+use spi_rules::Linked;
+use spi_rules::Module;
+use spi_rules::Outcome;
+ghost use mathlib.Core.Path.{_≡_};
+ghost use Rattle.spi_rules.specs.Calls.{poweredUp, readOf, writeOf, tickOf, pinsOf, clearOf, performOf};
+ghost use Rattle.spi_rules.specs.Link.{linkedOf};
+
+// A module as it powers up.
+pub fn power_up() -> Module
+    ensures { λ r. ⌜ r ≡ poweredUp ⌝ }
+{
+    let mut w = [0; 96];
+    spi_memory::power_up(&mut w);
+    spi_memory::module_in(&w)
+}
+
+// Any call by its name.
+pub fn perform(m: Module, c: Call) -> Outcome
+    ensures { λ r. ⌜ r ≡ performOf m c ⌝ }
+{
+    let mut w = spi_memory::memory_of(m);
+    let answer = spi_module::perform(&mut w, c);
+    let after = spi_memory::module_in(&w);
+    Outcome {
+        answer: answer,
+        after: after,
+    }
+}
+
+// A read of a register.
+pub fn read(m: Module, register: u32) -> Outcome
+    ensures { λ r. ⌜ r ≡ readOf m register ⌝ }
+{
+    perform(m, Call::Read(register))
+}
+
+// A write of a register.
+pub fn write(m: Module, register: u32, v: u16) -> Outcome
+    ensures { λ r. ⌜ r ≡ writeOf m register v ⌝ }
+{
+    perform(m, Call::Write(register, v))
+}
+
+// A tick of a host's own clock, with the SDI level: one edge, or none with no word loaded.
+pub fn tick(m: Module, sdi: bool) -> Outcome
+    ensures { λ r. ⌜ r ≡ tickOf m sdi ⌝ }
+{
+    perform(m, Call::Tick(sdi))
+}
+
+// The levels of SCK, SDI and SS are shown to a module that is clocked from its pin.
+pub fn pins(m: Module, sck: bool, sdi: bool, ss: bool) -> Outcome
+    ensures { λ r. ⌜ r ≡ pinsOf m sck sdi ss ⌝ }
+{
+    perform(m, Call::Pin(sck, sdi, ss))
+}
+
+// The interrupt flag is cleared.
+pub fn clear(m: Module) -> Outcome
+    ensures { λ r. ⌜ r ≡ clearOf m ⌝ }
+{
+    perform(m, Call::Clear)
+}
+
+// A linked run with an edge limit.
+pub fn linked(host: Module, client: Module, limit: u32) -> Linked
+    ensures { λ r. ⌜ r ≡ linkedOf host client limit ⌝ }
+{
+    let mut h = spi_memory::memory_of(host);
+    let mut c = spi_memory::memory_of(client);
+    let answer = spi_link::linked(&mut h, &mut c, limit);
+    let host_after = spi_memory::module_in(&h);
+    let client_after = spi_memory::module_in(&c);
+    Linked {
+        answer: answer,
+        host: host_after,
+        client: client_after,
+    }
+}
