@@ -1,13 +1,13 @@
 // The clock report: from the prescalers and the instruction rate to the two floats of a host's own clock.
-use spi_rules::Clock;
-use spi_rules::ClockSaid;
+use spi_clock_rules::Clock;
+use spi_clock_rules::ClockSaid;
+use spi_clock_rules::Rates;
+use spi_clock_rules::Reported;
 use spi_rules::Module;
-use spi_rules::Rates;
 use spi_rules::Refusal;
-use spi_rules::Reported;
 use spi_rules::Settings;
 ghost use mathlib.Core.Path.{_≡_};
-ghost use Rattle.spi_rules.specs.Clock.{primaryOf, secondaryOf, dividerOf, ratesOf, clockOf, reportBy, reportOf, saidClock};
+ghost use Rattle.spi_clock_rules.specs.Clock.{primaryOf, secondaryOf, dividerOf, ratesOf, clockOf, reportBy, reportOf, saidClock};
 
 // The primary prescaler by PPRE.
 const PRIMARY: [u8; 4] = [64, 16, 4, 1];

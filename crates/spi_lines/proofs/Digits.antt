@@ -8,7 +8,7 @@ use mathlib.Core.Logic.{_⊎_, inl, inr, ⊎-map}
 use mathlib.Core.Path.{_≡_, refl}
 use borrow.Author.Tests.{leb-true}
 use lib.Dec.{leb}
-use Rattle.spi_rules.specs.Script.{digit, hexDigit, between, fitsPlace}
+use Rattle.spi_script_rules.specs.Script.{digit, hexDigit, between, fitsPlace}
 use Rattle.spi_rules.proofs.Keeps.{and-left, and-right}
 
 -- A disjunction that is true has a part that is true.

@@ -11,8 +11,8 @@ use borrow.Author.Tests.{eq-eqb, ne-eqb}
 use lib.ListN.{length, getD, drop, drop-of-length-le}
 use lib.Seq.{drop-cons}
 use Rattle.spi_rules.specs.Choice.{if_then_else_}
-use Rattle.spi_rules.specs.Script.{lf}
-use Rattle.spi_rules.specs.Session.{firstLine}
+use Rattle.spi_script_rules.specs.Script.{lf}
+use Rattle.spi_script_rules.specs.Session.{firstLine}
 
 module _ (bytes : List ℕ) (place : ℕ) where
   pub stops : place < length bytes → getD bytes place 0 ≡ lf → length (firstLine (drop place bytes)) ≡ 0

@@ -1,13 +1,13 @@
 // Reading a script: where a line ends, and the call that it asks for.
 use spi_rules::Call;
-use spi_rules::Line;
+use spi_script_rules::Line;
 ghost use Prim.Native.Nat.{_≤_};
 ghost use mathlib.Core.Bool.{true};
 ghost use mathlib.Core.Path.{_≡_};
 ghost use mathlib.Core.List.{[], _∷_};
 ghost use lib.ListN.{length, drop};
-ghost use Rattle.spi_rules.specs.Script.{digit, hexDigit, level, fitsPlace, hexValue, readingOf};
-ghost use Rattle.spi_rules.specs.Session.{firstLine};
+ghost use Rattle.spi_script_rules.specs.Script.{digit, hexDigit, level, fitsPlace, hexValue, readingOf};
+ghost use Rattle.spi_script_rules.specs.Session.{firstLine};
 
 // How many bytes stand before the next LF, counted from a place on, or before the end if there is none.
 pub fn line_length(script: &[u8], at: usize) -> usize

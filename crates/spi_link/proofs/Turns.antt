@@ -15,18 +15,18 @@ use Rattle.spi_rules.specs.declared.Module.{Module}
 use Rattle.spi_rules.specs.declared.Outcome.{Outcome}
 use Rattle.spi_rules.specs.declared.Answer.the-variants.{NoEdge, Edge}
 use Rattle.spi_rules.specs.declared.Sdo.the-variants.{Low, High, Undriven}
-use Rattle.spi_rules.specs.declared.Run.{Run}
+use Rattle.spi_link_rules.specs.declared.Run.{Run}
 use Rattle.spi_rules.specs.Choice.{if_then_else_}
 use Rattle.spi_rules.specs.Settings.{ssenClient, ownClock}
 use Rattle.spi_rules.specs.Registers.{isFree}
 use Rattle.spi_rules.specs.Select.{deselected}
-use Rattle.spi_rules.specs.Edge.{stepped}
+use Rattle.spi_rules.specs.Edge.{levels, stepped}
 use Rattle.spi_rules.specs.Calls.{answering, tickOf, performOf, sckOf, undriven, sdoOf}
-use Rattle.spi_rules.specs.Link.{levelRead, madeEdge, hostTicked, clientSees, ended, clientTurn, handedOver, hostTurn, eitherDisabled, wrongRoles}
+use Rattle.spi_link_rules.specs.Link.{levelRead, madeEdge, hostTicked, clientSees, runStops, clientTurn, handedOver, hostTurn, eitherDisabled, wrongRoles}
 use Rattle.spi_rules.proofs.Keeps.{if-true, if-false, clash, and-false, or-left, or-right}
 use Rattle.spi_rules.proofs.Choices.{by-case}
-use Rattle.spi_rules.proofs.Accepted.{own-not-client, tick-is, pin-is}
-use Rattle.spi_rules.proofs.LinkSelect.{stepped-select}
+use Rattle.spi_rules.proofs.CallsWhen.{own-not-client, tick-is, pin-is}
+use Rattle.spi_rules.proofs.OrderSelect.{stepped-select}
 use Rattle.spi_module.specs.Answered.{turned}
 use Rattle.spi_module.proofs.Edges.{own-turn}
 use Rattle.spi_link.specs.Wire.{openLevel, Linkable, Wired}
@@ -73,12 +73,12 @@ module _ {host client : Module} where
       module-level client (w .linkable .clientOn) (and-false (ssenClient (client .settings)) _ (w .selected))
 
   pub shown : Linkable host client →
-      on (λ s. stepped s (host .engine .pins .sck) (openLevel host) false) client ≡ clientSees host client
+      on (λ s. stepped s (levels (host .engine .pins .sck) (openLevel host) false)) client ≡ clientSees host client
   unfolding clientSees sckOf performOf answering
   shown l =
       let pin : ownClock (client .settings) ≡ false =
       ap (λ (b : Bool). b && not (client .settings .con1 .dissck)) (l .isClient) in
-      ap (λ (x : Bool). on (λ s. stepped s (host .engine .pins .sck) x false) client) (host-level l)
+      ap (λ (x : Bool). on (λ s. stepped s (levels (host .engine .pins .sck) x false)) client) (host-level l)
       ∙ sym (ap (λ (o : Outcome). o .after)
       (pin-is client (host .engine .pins .sck) (levelRead (sdoOf host)) false (l .clientOn) pin))
 
@@ -100,7 +100,7 @@ module _ {host client : Module} where
         selected = w .selected;
       }
 
-pub ends : (host client : Module) {left : ℕ} {z : Run} → left ≡ 0 → z ≡ ended host client → z ≡ hostTurn left host client
+pub ends : (host client : Module) {left : ℕ} {z : Run} → left ≡ 0 → z ≡ runStops host client → z ≡ hostTurn left host client
 unfolding hostTurn
 ends host client e h = rw e h
 
@@ -113,7 +113,7 @@ goes host client (suc left) some o e h =
     by-case (λ (x : Outcome). handedOver (hostTurn left) x client) e (simp unary-clauses at h)
 
 module _ {host client : Module} {left : ℕ} {z : Run} (some : left ≡ 0 → ⊥) where
-  pub stops : Linkable host client → isFree (host .engine .shift) ≡ true → z ≡ ended host client →
+  pub stops : Linkable host client → isFree (host .engine .shift) ≡ true → z ≡ runStops host client →
       z ≡ hostTurn left host client
   unfolding hostTicked tickOf handedOver madeEdge if_then_else_
   stops l free h =

@@ -1,12 +1,12 @@
 // Two modules in memory on one wire: a linked run of a host with its own clock and a client, turn by turn. Any numbers and
 // any limit are answered, and a refused run leaves every number as it was.
-use spi_rules::LinkAnswer;
-use spi_rules::LinkSaid;
+use spi_link_rules::LinkAnswer;
+use spi_link_rules::LinkSaid;
 use spi_rules::Refusal;
 use spi_rules::Settings;
 ghost use Prim.Native.Nat.{_-_, _≤_};
 ghost use mathlib.Core.Path.{_≡_};
-ghost use Rattle.spi_rules.specs.Link.{clientSees, hostTurn, clientTurn, eitherDisabled, wrongRoles, differentModes, linkedOf, linkSaidOf};
+ghost use Rattle.spi_link_rules.specs.Link.{clientSees, hostTurn, clientTurn, eitherDisabled, wrongRoles, differentModes, linkedOf, linkSaidOf};
 ghost use Rattle.spi_memory.specs.Memory.{moduleIn};
 ghost use Rattle.spi_link.specs.Wire.{openLevel, Linkable, Wired, runIn, Links};
 

@@ -22,12 +22,12 @@ use Rattle.spi_rules.specs.Settings.{ssenClient, ownClock}
 use Rattle.spi_rules.specs.Bits.{samples, shiftedIn, receivedAfter, shownBit, sdoAfter, progressed}
 use Rattle.spi_rules.specs.Loading.{isBegun}
 use Rattle.spi_rules.specs.Select.{deselected, selectRemembered, selectSeen}
-use Rattle.spi_rules.specs.Edge.{begun, underWay, shifted, advanced, advancedIfBegun, clocked, edged, stepped}
+use Rattle.spi_rules.specs.Edge.{begun, underWay, shifted, advanced, advancedIfBegun, clocked, edged, levels, stepped}
 use Rattle.spi_rules.proofs.Keeps.{if-keeps, if-true, if-false, and-first, clash, like}
 use Rattle.spi_rules.proofs.Choices.{so, not-so, by-case}
-use Rattle.spi_rules.proofs.Accepted.{own-edge}
-use Rattle.spi_rules.proofs.PreservedEdge.{selected-sck}
-use Rattle.spi_rules.proofs.LinkSelect.{seen-select}
+use Rattle.spi_rules.proofs.CallsWhen.{own-edge}
+use Rattle.spi_rules.proofs.InvariantEdge.{selected-sck}
+use Rattle.spi_rules.proofs.OrderSelect.{seen-select}
 use Rattle.spi_memory.specs.Memory.{wentOn, goneOn}
 use Rattle.spi_module.specs.Answered.{edgeCounted, turned}
 
@@ -99,7 +99,7 @@ select-high s = and-true (ssenClient s)
 
 -- Levels that are seen.
 module _ (s : Settings) (sck sdi ss : Bool) (n : Engine) where
-  pub seen-off : deselected s ss ≡ true → withSck sck (selectSeen s ss n) ≡ stepped s sck sdi ss n
+  pub seen-off : deselected s ss ≡ true → withSck sck (selectSeen s ss n) ≡ stepped s (levels sck sdi ss) n
   unfolding stepped edged clocked
   seen-off off =
       let x : Engine = selectSeen s ss n in
@@ -112,12 +112,12 @@ module _ (s : Settings) (sck sdi ss : Bool) (n : Engine) where
   unfolding selectSeen
   seen-on on = not-so _ _ _ (and-first (deselected s ss) (isBegun (n .shift)) on) refl
 
-  pub seen-same : deselected s ss ≡ false → Bool·beq sck (n .pins .sck) ≡ true → selectRemembered ss n ≡ stepped s sck sdi ss n
+  pub seen-same : deselected s ss ≡ false → Bool·beq sck (n .pins .sck) ≡ true → selectRemembered ss n ≡ stepped s (levels sck sdi ss) n
   unfolding stepped
   seen-same on e = so _ _ _ e (seen-on on)
 
   pub seen-edge : deselected s ss ≡ false → Bool·beq sck (n .pins .sck) ≡ false →
-      edgeCounted s sck sdi (selectRemembered ss n) ≡ stepped s sck sdi ss n
+      edgeCounted s sck sdi (selectRemembered ss n) ≡ stepped s (levels sck sdi ss) n
   unfolding stepped edged edgeCounted selectRemembered
   seen-edge on e =
       let edge : edgeCounted s sck sdi (selectRemembered ss n) ≡ edged s sck sdi (selectRemembered ss n) =
@@ -125,6 +125,6 @@ module _ (s : Settings) (sck sdi ss : Bool) (n : Engine) where
       not-so _ _ _ e (edge ∙ ap (edged s sck sdi) (seen-on on))
 
 pub own-turn : (s : Settings) (sdi : Bool) (n : Engine) → ownClock s ≡ true →
-    turned s sdi n ≡ stepped s (not (n .pins .sck)) sdi (n .pins .ss) n
+    turned s sdi n ≡ stepped s (levels (not (n .pins .sck)) sdi (n .pins .ss)) n
 unfolding turned edgeCounted
 own-turn s sdi n own = sym (own-edge s n own sdi)

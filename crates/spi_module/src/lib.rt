@@ -12,7 +12,7 @@ ghost use Rattle.spi_rules.specs.Settings.{ssenClient};
 ghost use Rattle.spi_rules.specs.Registers.{con1From, con2From, statValue};
 ghost use Rattle.spi_rules.specs.Loading.{isBegun};
 ghost use Rattle.spi_rules.specs.Select.{deselected, selectSeen};
-ghost use Rattle.spi_rules.specs.Edge.{fresh, advanced, advancedIfBegun, stepped};
+ghost use Rattle.spi_rules.specs.Edge.{fresh, advanced, advancedIfBegun, levels, stepped};
 ghost use Rattle.spi_rules.specs.Calls.{readBuf, readOf, statWritten, writeStat, withCon1, withCon2, configured, writeBuf, writeOf, tickOf, pinsOf, clearOf, performOf, sdoOf};
 ghost use Rattle.spi_rules.specs.declared.Shift.the-variants.{Free, Loaded};
 ghost use Rattle.spi_memory.specs.Memory.{settingsIn, engineIn, moduleIn, Steps};
@@ -149,7 +149,7 @@ fn deselect(w: &mut [u16; 96])
 // The levels SCK, SDI and SS are seen by a module that this SS does not deselect.
 fn see_selected(w: &mut [u16; 96], sck: bool, sdi: bool, ss: bool)
     requires { ⌜ deselected (settingsIn (now w)) ss ≡ false ⌝ }
-    ensures { λ _. ⌜ Steps (λ s. stepped s sck sdi ss) (now (w .entry)) (now (w .exit)) ⌝ }
+    ensures { λ _. ⌜ Steps (λ s. stepped s (levels sck sdi ss)) (now (w .entry)) (now (w .exit)) ⌝ }
 {
     let before = spi_memory::pins_in(w);
     spi_memory::store_ss(w, ss);
@@ -161,7 +161,7 @@ fn see_selected(w: &mut [u16; 96], sck: bool, sdi: bool, ss: bool)
 
 // The levels SCK and SDI are seen with SS high. An SSEN client is deselected: an edge only updates the remembered level.
 fn see_high(w: &mut [u16; 96], sck: bool, sdi: bool)
-    ensures { λ _. ⌜ Steps (λ s. stepped s sck sdi true) (now (w .entry)) (now (w .exit)) ⌝ }
+    ensures { λ _. ⌜ Steps (λ s. stepped s (levels sck sdi true)) (now (w .entry)) (now (w .exit)) ⌝ }
 {
     let s = spi_memory::settings_in(w);
     if spi_settings::ssen_client(s) {
@@ -174,7 +174,7 @@ fn see_high(w: &mut [u16; 96], sck: bool, sdi: bool)
 
 // The levels SCK, SDI and SS are seen.
 pub fn see(w: &mut [u16; 96], sck: bool, sdi: bool, ss: bool)
-    ensures { λ _. ⌜ Steps (λ s. stepped s sck sdi ss) (now (w .entry)) (now (w .exit)) ⌝ }
+    ensures { λ _. ⌜ Steps (λ s. stepped s (levels sck sdi ss)) (now (w .entry)) (now (w .exit)) ⌝ }
 {
     if ss {
         see_high(w, sck, sdi);

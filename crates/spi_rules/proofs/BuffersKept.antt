@@ -22,7 +22,7 @@ use Rattle.spi_rules.specs.Settings.{widthOf, depthOf}
 use Rattle.spi_rules.specs.Buffers.{full, empty, emptyTransmit, emptyReceive, firstWaiting, firstUnread, written, departed, appended, taken}
 use Rattle.spi_rules.proofs.Keeps.{if-keeps}
 use Rattle.spi_rules.proofs.Parts.{BufferHolds, TransmitHolds, ReceiveHolds}
-use Rattle.spi_rules.proofs.RingPositions.{ring-empty, ring-push, ring-pop, write-within, after-apart}
+use Rattle.spi_rules.proofs.BuffersPositions.{ring-empty, ring-push, ring-pop, write-within, after-apart}
 use Rattle.spi_rules.proofs.Sizes.{depth-least, depth-most, power-least}
 
 -- What all cells have and a stored value has, all cells have after the store.

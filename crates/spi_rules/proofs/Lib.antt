@@ -1,59 +1,54 @@
--- What follows from the definitions in specs/.
--- Laws about choices, sizes, rings and bits, and what the proofs speak of:
+-- What follows from the definitions in specs/, a file for each thing proved, named by its group.
+-- Laws about choices, sizes and bits, and what the proofs speak of:
 pub mod Choices
 pub mod Keeps
 pub mod Parts
 pub mod Sizes
-pub mod RingPositions
-pub mod RingLaws
-pub mod BuffersKept
-pub mod ShiftKept
 pub mod Sampling
 pub mod WordBits
--- A refused call changes nothing, refusals are those of the table, and no contract leaves two outcomes:
-pub mod Unchanged
+-- Buffers: the rings, and what each step does to the words in them:
+pub mod BuffersPositions
+pub mod BuffersOrder
+pub mod BuffersKept
+-- Refusals: a refused call changes nothing, refusals are those of the table, and answers are in kind:
+pub mod RefusalsUnchanged
 pub mod RefusalsExact
-pub mod OneOutcome
-pub mod AnswersAndSettings
--- Every call keeps the invariant:
-pub mod PreservedFinish
-pub mod PreservedEdge
-pub mod PreservedBuf
-pub mod Reached
-pub mod PreservedSettings
-pub mod Preserved
--- What the invariant is good for:
-pub mod Accepted
-pub mod Uses
-pub mod UsesWords
--- Word order:
-pub mod Losses
-pub mod WordsTied
-pub mod WordsFinish
-pub mod WordsEdge
-pub mod WordsBegin
-pub mod WordsStep
-pub mod WordsBuf
-pub mod WordsStat
-pub mod WordsKept
-pub mod WordOrderHolds
+pub mod RefusalsKinds
+-- The invariant: every call keeps it, and what it is good for:
+pub mod InvariantShift
+pub mod InvariantFinish
+pub mod InvariantEdge
+pub mod InvariantBuf
+pub mod InvariantParts
+pub mod InvariantSettings
+pub mod InvariantHolds
+pub mod CallsWhen
+pub mod InvariantUses
+pub mod InvariantWords
+-- Order: a module and its ledger stay tied, whatever the calls:
+pub mod OrderSelect
+pub mod OrderLosses
+pub mod OrderTied
+pub mod OrderFinish
+pub mod OrderEdge
+pub mod OrderBegin
+pub mod OrderStep
+pub mod OrderBuf
+pub mod OrderStat
+pub mod OrderKept
+-- Flags: what is seen of a call raises the flag, sets SPIROV and moves SDO, and reads show it:
+pub mod FlagsRaised
+pub mod FlagsSeen
+pub mod FlagsFinish
+pub mod FlagsReads
+pub mod FlagsSdo
 -- Edges owed:
 pub mod OwedParts
-pub mod EdgeOwes
-pub mod EdgesOwedHold
--- Two modules on one wire:
-pub mod LinkRuns
-pub mod LinkIdle
-pub mod LinkSelect
-pub mod LinkRefusals
--- The clock report:
-pub mod ClockExact
--- The script program:
-pub mod ScriptLines
-pub mod ScriptSizes
-pub mod ScriptText
-pub mod SessionWhole
+pub mod OwedEdge
+pub mod OwedCalls
+pub mod OwedHold
 -- The paper's figures:
 pub mod ExamplesHold
--- The demands, all of them:
+-- The demands on one module, all of them:
+pub mod LivesHold
 pub mod DemandsHold

@@ -136,7 +136,7 @@ pub record WordHolds (s : Settings) (n : Engine) (filler : Bool) (word : ℕ) : 
 -- A begun word at an edge: the clock stands where that edge takes it, and the rest is as before the edge. An edge that
 -- samples finds SDO at the bit that it samples.
 pub record EdgeHolds (s : Settings) (n : Engine) (p : Progress) : Type 0 where
-  pub unfinished : p .edges < wordEdges s
+  pub short : p .edges < wordEdges s
   pub received : p .received < 2 ^ sampled (s .con1 .cke) (p .edges)
   pub clock : n .pins .sck ≡ Bool·beq (s .con1 .ckp) (eqb ((p .edges + 1) % 2) 0)
   pub shows : samples (s .con1 .cke) (p .edges + 1) ≡ true →

@@ -6,7 +6,7 @@ use lib.Dec.{eqb}
 use Rattle.spi_rules.specs.declared.Settings.{Settings}
 use Rattle.spi_rules.specs.declared.Progress.{Progress}
 use Rattle.spi_rules.specs.Choice.{if_then_else_}
-use Rattle.spi_rules.specs.Settings.{widthOf}
+use Rattle.spi_rules.specs.Settings.{widthOf, ckeOf}
 use Rattle.spi_rules.specs.Registers.{bitOf}
 
 -- An edge samples SDI or changes SDO. CKE 0 samples on even edges, CKE 1 on odd ones.
@@ -19,7 +19,7 @@ shiftedIn received sdi = (received * 2 + boolByte sdi) % 65536
 
 -- The bits received once an edge has been given.
 unfoldable pub receivedAfter : Settings → ℕ → Bool → ℕ → ℕ
-receivedAfter s edge sdi received = if samples (s .con1 .cke) edge then shiftedIn received sdi else received
+receivedAfter s edge sdi received = if samples (ckeOf s) edge then shiftedIn received sdi else received
 
 -- The bit that SDO shows once edge number `edge`, short of 2w, has changed it. CKE 0: the odd edges 1, 3, 5 .. show the
 -- bits from the top. CKE 1: the top bit stood there before edge 1, and the even edges 2, 4, .. show those below it.
@@ -28,7 +28,7 @@ shownBit s word edge = bitOf word (widthOf s - 1 - edge / 2)
 
 -- The SDO level once an edge short of 2w has been given.
 unfoldable pub sdoAfter : Settings → ℕ → ℕ → Bool → Bool
-sdoAfter s word edge sdo = if samples (s .con1 .cke) edge then sdo else shownBit s word edge
+sdoAfter s word edge sdo = if samples (ckeOf s) edge then sdo else shownBit s word edge
 
 -- The word once an edge short of 2w has been given.
 unfoldable pub progressed : Settings → Bool → Progress → Progress

@@ -14,7 +14,7 @@ use Rattle.spi_rules.specs.declared.Outcome.{Outcome}
 use Rattle.spi_rules.specs.declared.Shift.the-variants.{Free}
 use Rattle.spi_rules.specs.declared.Event.the-variants.{Taken, Written}
 use Rattle.spi_rules.specs.declared.Refusal.{Refusal}
-use Rattle.spi_rules.specs.declared.Refusal.the-variants.{NoSuchRegister, Disabled, Enabled, BadSettings, TransmitFull, ReceiveEmpty, WrongClock}
+use Rattle.spi_rules.specs.declared.Refusal.the-variants.{NoSuchRegister, Disabled, Enabled, TransmitFull, ReceiveEmpty, WrongClock}
 use Rattle.spi_rules.specs.declared.Answer.{Answer}
 use Rattle.spi_rules.specs.declared.Answer.the-variants.{Refused, Done, Value, NoEdge, Edge}
 use Rattle.spi_rules.specs.declared.Call.{Call}
@@ -23,14 +23,14 @@ use Rattle.spi_rules.specs.declared.Sdo.{Sdo}
 use Rattle.spi_rules.specs.declared.Sdo.the-variants.{Low, High, Undriven}
 use Rattle.spi_rules.specs.Choice.{if_then_else_}
 use Rattle.spi_rules.specs.Changes.{withTransmit, withReceive, withInterrupt}
-use Rattle.spi_rules.specs.Settings.{depthOf, ownClock}
-use Rattle.spi_rules.specs.Refusals.{badSettings}
+use Rattle.spi_rules.specs.Settings.{depthOf, clockStops, ownClock}
+use Rattle.spi_rules.specs.Refusals.{causes, badSettings, firstGiven}
 use Rattle.spi_rules.specs.Registers.{con1From, con1Value, con2From, con2Value, bitOf, isFree, statValue, statSettings, statEngine, enabledEngine, disabledEngine, lowBits, spitbf}
 use Rattle.spi_rules.specs.Buffers.{empty, emptyTransmit, emptyReceive, firstUnread, taken, written}
 use Rattle.spi_rules.specs.Interrupts.{noted}
 use Rattle.spi_rules.specs.Loading.{loaded, rested}
 use Rattle.spi_rules.specs.Select.{deselected}
-use Rattle.spi_rules.specs.Edge.{stepped}
+use Rattle.spi_rules.specs.Edge.{levels, stepped}
 
 -- A refusal returns its number only.
 unfoldable pub refuse : Module → Refusal → Outcome
@@ -94,7 +94,7 @@ statWritten s v n =
 -- STAT write. With bad settings SPIEN cannot go from 0 to 1: the write is refused and takes nothing.
 unfoldable pub writeStat : Module → ℕ → Outcome
 writeStat m v =
-    if turnsOn (m .settings) v && badSettings (m .settings) then refuse m BadSettings
+    if turnsOn (m .settings) v && badSettings (m .settings) then refuse m (firstGiven (causes (m .settings)))
     else record {
       answer = Done;
       after =
@@ -142,15 +142,16 @@ unfoldable pub tickOf : Module → Bool → Outcome
 tickOf m sdi =
     if not (m .settings .spien) then refuse m Disabled
     else if not (ownClock (m .settings)) then refuse m WrongClock
-    else if isFree (m .engine .shift) then record { answer = NoEdge; after = m }
-    else answering m Edge (stepped (m .settings) (not (m .engine .pins .sck)) sdi (m .engine .pins .ss) (m .engine))
+    else if clockStops (m .settings) && isFree (m .engine .shift) then record { answer = NoEdge; after = m }
+    else answering m Edge
+    (stepped (m .settings) (levels (not (m .engine .pins .sck)) sdi (m .engine .pins .ss)) (m .engine))
 
 -- Pin call: 2, then 7; then the levels SCK, SDI and SS are seen.
 unfoldable pub pinsOf : Module → Bool → Bool → Bool → Outcome
 pinsOf m sck sdi ss =
     if not (m .settings .spien) then refuse m Disabled
     else if ownClock (m .settings) then refuse m WrongClock
-    else answering m Done (stepped (m .settings) sck sdi ss (m .engine))
+    else answering m Done (stepped (m .settings) (levels sck sdi ss) (m .engine))
 
 -- The clear call, enabled or not: nothing else clears the interrupt flag.
 unfoldable pub clearOf : Module → Outcome

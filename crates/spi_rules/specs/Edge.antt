@@ -66,7 +66,17 @@ edged s sck sdi n =
     if deselected s (n .pins .ss) then clocked sck n
     else advancedIfBegun s sdi (underWay s sck n) (clocked sck n)
 
--- The levels SCK, SDI and SS are seen: SS is acted on first, then an SCK level unlike the remembered one is an edge.
-unfoldable pub stepped : Settings → Bool → Bool → Bool → Engine → Engine
-stepped s sck sdi ss n =
-    if Bool·beq sck (n .pins .sck) then selectSeen s ss n else edged s sck sdi (selectSeen s ss n)
+-- The levels that a step carries.
+pub record Levels : Type 0 where
+  pub sck : Bool
+  pub sdi : Bool
+  pub ss : Bool
+
+abbrev pub levels : Bool → Bool → Bool → Levels
+levels sck sdi ss = record { sck = sck; sdi = sdi; ss = ss }
+
+-- Levels are seen: SS is acted on first, then an SCK level unlike the remembered one is an edge.
+unfoldable pub stepped : Settings → Levels → Engine → Engine
+stepped s x n =
+    if Bool·beq (x .sck) (n .pins .sck) then selectSeen s (x .ss) n
+    else edged s (x .sck) (x .sdi) (selectSeen s (x .ss) n)

@@ -1,5 +1,5 @@
--- What is true of every module that calls reach from power-up. proofs/Preserved.antt shows that power-up has it and every
--- call keeps it; proofs/Uses.antt has a theorem for each clause.
+-- What is true of every module that calls reach from power-up. proofs/InvariantHolds.antt shows that power-up has it and every
+-- call keeps it; proofs/InvariantUses.antt has a theorem for each clause.
 use Prim.Native.Nat.{ℕ, _+_, _-_, _/_, _%_, _^_, _≤_, _<_}
 use mathlib.Core.Bool.{Bool, true, false, Bool·beq}
 use mathlib.Core.List.{List}
@@ -13,8 +13,8 @@ use Rattle.spi_rules.specs.declared.Progress.{Progress}
 use Rattle.spi_rules.specs.declared.Shift.{Shift}
 use Rattle.spi_rules.specs.declared.Shift.the-variants.{Free, Loaded, Begun}
 use Rattle.spi_rules.specs.Choice.{if_then_else_}
-use Rattle.spi_rules.specs.Ring.{capacity, after}
-use Rattle.spi_rules.specs.Settings.{widthOf, depthOf, ssenClient, ownClock}
+use Rattle.spi_rules.specs.Ring.{after}
+use Rattle.spi_rules.specs.Settings.{widthOf, depthOf, ckeOf, ssenClient, ownClock}
 use Rattle.spi_rules.specs.Refusals.{badSettings}
 use Rattle.spi_rules.specs.Registers.{bitOf}
 use Rattle.spi_rules.specs.Buffers.{emptyTransmit, emptyReceive, firstWaiting}
@@ -42,16 +42,16 @@ CellsHold w cells = (i : ℕ) → getD cells i 0 < 2 ^ w
 unfoldable pub sampled : Bool → ℕ → ℕ
 sampled cke edges = if cke then (edges + 1) / 2 else edges / 2
 
--- A begun word: within its 2w edges, its bits within the width, the clock where the edges left it, and SDO at the bit
--- that the last change showed. A filler is made
--- of zeros and no host sends one. An SSEN client is selected, and the word it sends is still the first that waits.
+-- A begun word: within its 2w edges, its bits within the width, the clock where the edges left it, and SDO at the bit that
+-- the last change showed. A filler is made of zeros and no host sends one. An SSEN client is selected, and the word it
+-- sends is still the first that waits.
 pub record ProgressHolds (s : Settings) (n : Engine) (p : Progress) : Type 0 where
   pub started : 1 ≤ p .edges
-  pub unfinished : p .edges < wordEdges s
+  pub short : p .edges < wordEdges s
   pub word : p .word < 2 ^ widthOf s
-  pub received : p .received < 2 ^ sampled (s .con1 .cke) (p .edges)
+  pub received : p .received < 2 ^ sampled (ckeOf s) (p .edges)
   pub clock : n .pins .sck ≡ Bool·beq (s .con1 .ckp) (eqb (p .edges % 2) 0)
-  pub shows : n .pins .sdo ≡ bitOf (p .word) (widthOf s - 1 - (if s .con1 .cke then p .edges else p .edges - 1) / 2)
+  pub shows : n .pins .sdo ≡ bitOf (p .word) (widthOf s - 1 - (if ckeOf s then p .edges else p .edges - 1) / 2)
   pub zeros : p .filler ≡ true → p .word ≡ 0
   pub host : s .con1 .msten ≡ true → p .filler ≡ false
   pub selected : ssenClient s ≡ true → n .pins .ss ≡ false
@@ -74,15 +74,15 @@ pub record Emptied (n : Engine) : Type 0 where
 
 -- With CKE 1 and no word begun SDO shows the top bit of the word to be sent next.
 abbrev pub RestHolds : Settings → Engine → Type 0
-RestHolds s n = s .spien ≡ true → s .con1 .cke ≡ true → isBegun (n .shift) ≡ false → n .pins .sdo ≡ nextTop s (n .transmit) (n .shift)
+RestHolds s n = s .spien ≡ true → ckeOf s ≡ true → isBegun (n .shift) ≡ false → n .pins .sdo ≡ nextTop s (n .transmit) (n .shift)
 
 -- All of it.
 pub record ModuleHolds (m : Module) : Type 0 where
   pub settings : SettingsHold (m .settings)
   pub transmit : RingHolds (depthOf (m .settings)) (m .engine .transmit .write .0) (m .engine .transmit .read .0) (m .engine .transmit .count)
   pub receive : RingHolds (depthOf (m .settings)) (m .engine .receive .write .0) (m .engine .receive .read .0) (m .engine .receive .count)
-  pub transmitCells : length (m .engine .transmit .words) ≡ capacity
-  pub receiveCells : length (m .engine .receive .words) ≡ capacity
+  pub transmitCells : length (m .engine .transmit .words) ≡ 8
+  pub receiveCells : length (m .engine .receive .words) ≡ 8
   pub transmitWords : CellsHold (widthOf (m .settings)) (m .engine .transmit .words)
   pub receiveWords : CellsHold (widthOf (m .settings)) (m .engine .receive .words)
   pub shift : ShiftHolds (m .settings) (m .engine) (m .engine .shift)

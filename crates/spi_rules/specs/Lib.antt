@@ -1,5 +1,5 @@
--- Document 01's rules as definitions that compute, a file for each topic. Read them in this order: each stands on those
--- before it. The demands come first for a buyer: Demands, then what it mentions.
+-- Document 01's rules of one module as definitions that compute, a file for each topic. Read them in this order: each
+-- stands on those before it. The demands come first for a buyer: Demands, then what it mentions.
 pub mod Choice
 pub mod Changes
 pub mod Ring
@@ -14,14 +14,11 @@ pub mod Finish
 pub mod Select
 pub mod Edge
 pub mod Calls
-pub mod Clock
-pub mod Link
-pub mod Script
-pub mod Session
+pub mod Words
 pub mod Invariant
-pub mod Figures
 pub mod Examples
-pub mod ScriptExamples
 pub mod RefusalTable
 pub mod Ledger
+pub mod Watch
+pub mod Flags
 pub mod Demands

@@ -9,7 +9,7 @@ use Rattle.spi_rules.specs.declared.Shift.the-variants.{Free, Loaded, Be
 use Rattle.spi_rules.specs.declared.Event.the-variants.{Left}
 use Rattle.spi_rules.specs.Choice.{if_then_else_}
 use Rattle.spi_rules.specs.Changes.{withTransmit, withShift, withSdo}
-use Rattle.spi_rules.specs.Settings.{widthOf, depthOf, ssenClient}
+use Rattle.spi_rules.specs.Settings.{widthOf, depthOf, ssenClient, ckeOf}
 use Rattle.spi_rules.specs.Registers.{bitOf, isFree}
 use Rattle.spi_rules.specs.Buffers.{empty, firstWaiting, departed}
 use Rattle.spi_rules.specs.Interrupts.{noted}
@@ -53,5 +53,5 @@ sdoAt level n = withSdo level n
 unfoldable pub rested : Settings → Engine → Engine
 rested s n =
     sdoAt
-    (if s .con1 .cke && not (isBegun (n .shift)) then nextTop s (n .transmit) (n .shift) else n .pins .sdo)
+    (if ckeOf s && not (isBegun (n .shift)) then nextTop s (n .transmit) (n .shift) else n .pins .sdo)
     n

@@ -1,6 +1,7 @@
 -- Document 01, "What each refusal number says", and what answers say in numbers.
 use Prim.Native.Nat.{ℕ}
-use mathlib.Core.Bool.{Bool, not, _&&_, _||_}
+use mathlib.Core.Bool.{Bool, false, not, _&&_, _||_}
+use mathlib.Core.List.{List, [], _∷_}
 use lib.Dec.{eqb}
 use Rattle.spi_rules.specs.declared.Settings.{Settings}
 use Rattle.spi_rules.specs.declared.Refusal.{Refusal}
@@ -8,6 +9,7 @@ use Rattle.spi_rules.specs.declared.Refusal.the-variants.{NoSuchRegister
 use Rattle.spi_rules.specs.declared.Answer.{Answer}
 use Rattle.spi_rules.specs.declared.Answer.the-variants.{Refused, Done, Value, NoEdge, Edge}
 use Rattle.spi_rules.specs.declared.Said.{Said}
+use Rattle.spi_rules.specs.Choice.{if_then_else_}
 use Rattle.spi_rules.specs.Settings.{ownClock}
 
 -- The table's number for each refusal. This is the one place that writes them.
@@ -35,15 +37,27 @@ numberOf DifferentModes = 10
 -- a linked run is asked for more edges than one host can owe
 numberOf TooManyEdges = 11
 
--- What an answer says in the paper's numbers.
-unfoldable pub saidOf : Answer → Said
-saidOf (Refused r) = record { number = numberOf r; value = 0; edges = 0 }
-saidOf Done = record { number = 0; value = 0; edges = 0 }
-saidOf (Value v) = record { number = 0; value = v; edges = 0 }
-saidOf NoEdge = record { number = 0; value = 0; edges = 0 }
-saidOf Edge = record { number = 0; value = 0; edges = 1 }
+-- What an answer says in the paper's numbers. Its kind has a number of its own, so that no two answers say the same.
+abbrev pub saidOf : Answer → Said
+saidOf (Refused r) = record { kind = 0; number = numberOf r; value = 0; edges = 0 }
+saidOf Done = record { kind = 1; number = 0; value = 0; edges = 0 }
+saidOf (Value v) = record { kind = 2; number = 0; value = v; edges = 0 }
+saidOf NoEdge = record { kind = 3; number = 0; value = 0; edges = 0 }
+saidOf Edge = record { kind = 4; number = 0; value = 0; edges = 1 }
 
--- Refusal 4 has four causes, in the order in which they are looked at.
+abbrev pub isDone : Answer → Bool
+isDone a = eqb (saidOf a .kind) 1
+
+abbrev pub isValue : Answer → Bool
+isValue a = eqb (saidOf a .kind) 2
+
+abbrev pub isEdge : Answer → Bool
+isEdge a = eqb (saidOf a .kind) 4
+
+-- Why settings cannot be enabled. A cause is a refusal and whether it is given.
+pub record Cause : Type 0 where
+  pub why : Refusal
+  pub given : Bool
 
 -- framing is asked for
 abbrev pub framing : Settings → Bool
@@ -61,6 +75,25 @@ lateSampling s = s .con1 .smp
 abbrev pub unselectedCke : Settings → Bool
 unselectedCke s = not (s .con1 .msten) && (s .con1 .cke && not (s .con1 .ssen))
 
--- One of the four holds.
+-- The causes, in the order in which they are looked at.
+abbrev pub causes : Settings → List Cause
+causes s =
+    record { why = BadSettings; given = framing s }
+    ∷ record { why = BadSettings; given = undivided s }
+    ∷ record { why = BadSettings; given = lateSampling s }
+    ∷ record { why = BadSettings; given = unselectedCke s }
+    ∷ []
+
+abbrev pub anyGiven : List Cause → Bool
+anyGiven [] = false
+anyGiven (c ∷ []) = c .given
+anyGiven (c ∷ (d ∷ rest)) = c .given || anyGiven (d ∷ rest)
+
+-- Whether any is given, and the first that is.
 abbrev pub badSettings : Settings → Bool
-badSettings s = framing s || (undivided s || (lateSampling s || unselectedCke s))
+badSettings s = anyGiven (causes s)
+
+abbrev pub firstGiven : List Cause → Refusal
+firstGiven [] = BadSettings
+firstGiven (c ∷ []) = c .why
+firstGiven (c ∷ (d ∷ rest)) = if c .given then c .why else firstGiven (d ∷ rest)

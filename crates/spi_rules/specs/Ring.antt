@@ -1,5 +1,5 @@
 -- Document 01, "Registers": the rings. A ring is a list of cells, the capacity many, of which the first `depth` are used
--- in turn. Its laws (proofs/RingLaws.antt) hold for any element type, capacity and depth.
+-- in turn. Its laws (proofs/BuffersOrder.antt) hold for any element type, capacity and depth.
 use Prim.Native.Nat.{ℕ, zero, suc, _+_, _-_, _%_}
 use mathlib.Core.List.{List, [], _∷_}
 use lib.Dec.{ltb}

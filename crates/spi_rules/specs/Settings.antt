@@ -1,6 +1,6 @@
 -- Document 01, "Registers" and "One edge at a time": what the settings decide.
 use Prim.Native.Nat.{ℕ}
-use mathlib.Core.Bool.{Bool, not, _&&_}
+use mathlib.Core.Bool.{Bool, true, not, _&&_}
 use Rattle.spi_rules.specs.declared.Settings.{Settings}
 use Rattle.spi_rules.specs.Choice.{if_then_else_}
 
@@ -16,9 +16,19 @@ enhancedDepth = 8
 unfoldable pub depthOf : Settings → ℕ
 depthOf s = if s .con2 .spiben then enhancedDepth else 1
 
+-- CKE and SSEN as the edge rules see them, and whether the clock of a host stops between words.
+abbrev pub ckeOf : Settings → Bool
+ckeOf s = s .con1 .cke
+
+abbrev pub ssenOf : Settings → Bool
+ssenOf s = s .con1 .ssen
+
+abbrev pub clockStops : Settings → Bool
+clockStops s = true
+
 -- A client that watches its select pin: MSTEN 0 with SSEN.
 abbrev pub ssenClient : Settings → Bool
-ssenClient s = not (s .con1 .msten) && s .con1 .ssen
+ssenClient s = not (s .con1 .msten) && ssenOf s
 
 -- A host with its own clock: MSTEN 1 and DISSCK 0. Every other module is clocked from its pin.
 abbrev pub ownClock : Settings → Bool

@@ -139,6 +139,7 @@ pub enum Answer {
 // An answer in the paper's numbers: the refusal number, 0 if not refused; the register value, 0 if none is told; and
 // how many edges a tick made. saidOf in specs/Refusals.antt gives them for each answer.
 pub struct Said {
+    pub kind: u8,
     pub number: u8,
     pub value: u16,
     pub edges: u8,
@@ -165,87 +166,4 @@ pub enum Sdo {
     Low,
     High,
     Undriven,
-}
-
-// What a host's own clock gives: bits per second, and seconds per bit.
-pub struct Rates {
-    pub rate: f64,
-    pub bittime: f64,
-}
-
-// Where a module's clock comes from: its own divider, its pin, whose clock must stay below the instruction rate that is
-// carried, or nowhere while it is disabled.
-pub enum Clock {
-    Internal(Rates),
-    External(f64),
-    None,
-}
-
-// What the clock report answers: a refusal, or the clock.
-pub enum Reported {
-    Refused(Refusal),
-    Answered(Clock),
-}
-
-// A clock report in the paper's numbers: the refusal number, 0 if not refused; which clock it is, neither if there is
-// none; and the floats that it carries, 0 where it carries none. saidClock in specs/Clock.antt gives them for each case.
-pub struct ClockSaid {
-    pub number: u8,
-    pub internal: bool,
-    pub external: bool,
-    pub rate: f64,
-    pub bittime: f64,
-    pub below: f64,
-}
-
-// What a linked run comes to: the edges that the host made, and both modules after it.
-pub struct Run {
-    pub used: u16,
-    pub host: Module,
-    pub client: Module,
-}
-
-// What a linked run answers: a refusal, or the edges used, the host's only.
-pub enum LinkAnswer {
-    Refused(Refusal),
-    Used(u16),
-}
-
-// That answer in the paper's numbers: the refusal number, 0 if not refused, and the edges used, 0 if refused. linkSaidOf
-// in specs/Link.antt gives them.
-pub struct LinkSaid {
-    pub number: u8,
-    pub edges: u16,
-}
-
-// What a linked run returns: its answer, and both modules after it.
-pub struct Linked {
-    pub answer: LinkAnswer,
-    pub host: Module,
-    pub client: Module,
-}
-
-// A line of a script: it cannot be read, or it asks for a call.
-pub enum Line {
-    Unreadable,
-    Asked(Call),
-}
-
-// Where a script that is being played stands: the lines answered, and the place of the next line.
-pub struct Bookmark {
-    pub lines: u32,
-    pub at: usize,
-}
-
-// A script that is being played, as the definitions see it: the module so far, and where the script stands.
-pub struct Session {
-    pub spi: Module,
-    pub lines: u32,
-    pub at: usize,
-}
-
-// What playing a piece of a script returns: where the script stands after it, and how many bytes were written.
-pub struct Piece {
-    pub to: Bookmark,
-    pub written: usize,
 }

@@ -1,6 +1,7 @@
-// Scripts that the program carries with it, each played as crates/spi_script plays its input: a heading, then what the
-// script prints. Where that would be long, a line tells how many bytes it is and their checksum, and its last line
-// follows. The last run plays standard input.
+// Many scripts in one run, each played as crates/spi_script plays its input: a heading, then what the script prints. They
+// stand in standard input one after the other, document 01's worked script and its examples a to k first. Scripts of every
+// byte in every place, and around the limits, are made here; for them a line tells how many bytes they print and their
+// checksum, and the last line follows.
 use libc::STDIN_FILENO;
 use libc::STDOUT_FILENO;
 ghost use Prim.Native.Nat.{_≤_};
@@ -112,124 +113,54 @@ fn tally_first(script: &[u8], count: usize) {
     }
 }
 
-// A heading and a script.
-fn run(heading: &[u8], script: &[u8]) {
-    print(heading);
-    play(script);
-}
-
-// A heading and a script of three parts, the second so many times.
-fn run_parts(heading: &[u8], first: &[u8], second: &[u8], times: u32, third: &[u8]) {
-    let mut script = [0u8; 4096];
-    let mut end = put(&mut script, 0, first);
-    for _ in 0..times {
-        end = put(&mut script, end, second);
+// Plays the bytes of an input between two places.
+fn play_between(input: &[u8], from: usize, to: usize) {
+    if to <= input.len() {
+        if from <= to {
+            play(&input[from..to]);
+        }
     }
-    end = put(&mut script, end, third);
-    print(heading);
-    play_first(&script, end);
 }
 
-// How a script starts and ends.
-fn ends() {
-    run(b"no byte\n", b"");
-    run(b"nothing after a final LF is a line\n", b"C\n");
-    run(b"a last line needs no LF\n", b"C\nR 0");
-    run(b"a last line that cannot be read\n", b"C\nR");
-    run(b"empty lines\n", b"\n\nC\n\n");
+// Prints the bytes of an input between two places.
+fn print_between(input: &[u8], from: usize, to: usize) {
+    if to <= input.len() {
+        if from <= to {
+            print(&input[from..to]);
+        }
+    }
 }
 
-// Each kind of line, done and refused.
-fn kinds() {
-    run(
-        b"the lines of a host\n",
-        b"W 1 0020\nR 1\nW 0 8000\nT 0\nW 3 00A5\nT 0\nT 0\nP 0 0 0\nC\nR 0\n",
-    );
-    run(
-        b"the lines of a client\n",
-        b"W 1 0080\nR 1\nW 0 8000\nT 0\nW 3 00A5\nP 0 0 1\nP 0 0 0\nP 1 0 0\nC\nR 0\n",
-    );
-    run(
-        b"register bits\n",
-        b"W 1 FFFF\nR 1\nW 2 FFFF\nR 2\nW 1 0000\nW 2 0000\nW 0 7FFF\nR 0\nW 0 8000\nR 0\nW 0 0000\nR 0\n",
-    );
+// The byte at a place has a heading behind it.
+fn before_heading(input: &[u8], at: usize) -> bool {
+    if input.len() <= at {
+        return false;
+    }
+    if input.len() - at < 3 {
+        return false;
+    }
+    (input[at + 1] == b'#') & (input[at + 2] == b' ')
 }
 
-// Each refusal that a script can meet.
-fn refusals() {
-    run(
-        b"refusal 1\n",
-        b"R 4\nW 4 0000\nR 9\nW 9 FFFF\nW 0 8000\nR 4\n",
-    );
-    run(
-        b"refusal 2\n",
-        b"R 3\nW 3 00A5\nT 0\nP 0 0 0\nW 1 0020\nP 0 0 0\nT 0\nR 0\n",
-    );
-    run(
-        b"refusal 3\n",
-        b"W 0 8000\nW 1 0000\nW 2 0000\nW 1 0020\nR 1\nW 0 0000\nW 1 0020\nR 1\n",
-    );
-    run(
-        b"refusal 4: framed\n",
-        b"W 2 8000\nW 0 A01C\nR 0\nW 2 0000\nW 0 A01C\nR 0\n",
-    );
-    run(
-        b"refusal 4: late sampling\n",
-        b"W 1 0220\nW 0 8000\nW 1 0280\nW 0 8000\nW 1 0020\nW 0 8000\n",
-    );
-    run(
-        b"refusal 4: both prescalers 1:1\n",
-        b"W 1 003F\nW 0 8000\nW 1 003B\nW 0 8000\nW 0 0000\nW 1 103F\nW 0 8000\n",
-    );
-    run(
-        b"refusal 4: a client with CKE and no SSEN\n",
-        b"W 1 0100\nW 0 8000\nW 1 1100\nW 0 8000\nW 1 0180\nW 0 8000\n",
-    );
-    run(
-        b"refusal 5: standard\n",
-        b"W 1 0020\nW 0 8000\nW 3 0011\nW 3 0022\nW 3 0033\nR 0\n",
-    );
-    run_parts(
-        b"refusal 5: enhanced host\n",
-        b"W 1 0020\nW 2 0001\nW 0 8000\n",
-        b"W 3 0081\n",
-        10,
-        b"R 0\n",
-    );
-    run_parts(
-        b"refusal 5: enhanced client with SSEN\n",
-        b"W 1 0080\nW 2 0001\nW 0 8000\n",
-        b"W 3 0081\n",
-        9,
-        b"R 0\n",
-    );
-    run(
-        b"refusal 6\n",
-        b"W 1 0020\nW 0 8000\nR 3\nW 3 00A5\nT 1\nR 3\n",
-    );
-    run(
-        b"refusal 7\n",
-        b"W 0 8000\nT 0\nW 0 0000\nW 1 0020\nW 0 8000\nP 0 0 0\nW 0 0000\nW 1 1020\nW 0 8000\nT 0\n",
-    );
-    run(b"refusal 9\n", b"W 0 8000\n\nE 9\nW 0\nR 0\n");
-}
-
-// Lines that cannot be read.
-fn unreadable() {
-    run(
-        b"case, spaces and digits\n",
-        b"c\nr 0\nR 0 \n R 0\nR  0\nR0\nR 00\nW 1 00a5\nW 1 0A5\nW 1 000A5\nT 2\nP 0 0\nP 0 0 0 0\nC C\nR 0\n",
-    );
-    run(
-        b"bytes that are no text\n",
-        b"\x00\n\xFF\nC\x00\n\x00C\nC\r\nC\t\n\tC\nR\t0\nR\x000\n\xC3\nR \xB0\nC\x8AC\nC\x0BC\nC\x0CC\n\x1A\nC\n",
-    );
-    run(
-        b"16 and 17 bytes\n",
-        b"R 0             \nR 0              \n0123456789ABCDEFC\nC\n",
-    );
-    run_parts(b"259 bytes\n", b"R 0", b" ", 256, b"\nC\n");
-    run_parts(b"4,003 bytes\n", b"R 0", b"W 1 0020", 500, b"\nC");
+// Scripts in one input: each has a heading, a line that starts with `# `, and is parted from the next heading by an LF.
+fn play_all(input: &[u8]) {
+    let mut start: usize = 0;
+    let mut heading = true;
+    for i in 0..input.len() {
+        if input[i] == b'\n' {
+            if heading {
+                print_between(input, start, i);
+                print(b"\n");
+                start = i + 1;
+                heading = false;
+            } else if before_heading(input, i) {
+                play_between(input, start, i);
+                start = i + 1;
+                heading = true;
+            }
+        }
+    }
+    play_between(input, start, input.len());
 }
 
 // A line with every byte in turn between its two parts.
@@ -263,206 +194,6 @@ fn places() {
     every_place(b"every byte in T\n", b"T 0", 3);
     every_place(b"every byte in P\n", b"P 0 0 0", 7);
     every_place(b"every byte in C\n", b"C", 1);
-}
-
-// A host sends a word and receives one in each clock mode. Of each two ticks one has the level of a bit of 3C and the
-// other its opposite: with CKE 0 the even ticks are sampled, with CKE 1 the odd ones.
-fn hosts(ticks: &[u8]) {
-    run_parts(
-        b"host, CKP 0, CKE 0\n",
-        b"W 1 0020\nW 0 8000\nW 3 00A5\n",
-        ticks,
-        1,
-        b"R 3\nR 3\nT 0\n",
-    );
-    run_parts(
-        b"host, CKP 1, CKE 0\n",
-        b"W 1 0060\nW 0 8000\nW 3 00A5\n",
-        ticks,
-        1,
-        b"R 3\nR 3\nT 0\n",
-    );
-    run_parts(
-        b"host, CKP 0, CKE 1\n",
-        b"W 1 0120\nW 0 8000\nW 3 00A5\n",
-        ticks,
-        1,
-        b"R 3\nR 3\nT 0\n",
-    );
-    run_parts(
-        b"host, CKP 1, CKE 1\n",
-        b"W 1 0160\nW 0 8000\nW 3 00A5\n",
-        ticks,
-        1,
-        b"R 3\nR 3\nT 0\n",
-    );
-    run_parts(
-        b"16-bit host, CKP 0, CKE 0\n",
-        b"W 1 0420\nW 0 8000\nW 3 A596\n",
-        ticks,
-        1,
-        b"T 0\nT 1\nT 1\nT 0\nT 0\nT 1\nT 1\nT 0\nT 0\nT 1\nT 1\nT 0\nT 1\nT 0\nT 1\nT 0\nR 3\nR 3\nT 0\n",
-    );
-    run_parts(
-        b"16-bit host, CKP 1, CKE 1\n",
-        b"W 1 0560\nW 0 8000\nW 3 A596\n",
-        ticks,
-        1,
-        b"T 0\nT 1\nT 1\nT 0\nT 0\nT 1\nT 1\nT 0\nT 0\nT 1\nT 1\nT 0\nT 1\nT 0\nT 1\nT 0\nR 3\nR 3\nT 0\n",
-    );
-    run(
-        b"host with DISSDO\n",
-        b"W 1 0820\nW 0 8000\nW 3 00FF\nT 1\nT 0\nT 1\n",
-    );
-}
-
-// The same of a client, whose clock is seen on its pin: it rises first where CKP is 0, and falls first where CKP is 1.
-fn clients(rising: &[u8], falling: &[u8]) {
-    run_parts(
-        b"client, CKP 0, CKE 0\n",
-        b"W 0 8000\nW 3 00A5\nP 0 0 1\n",
-        rising,
-        1,
-        b"R 3\nR 3\n",
-    );
-    run_parts(
-        b"client, CKP 1, CKE 0\n",
-        b"W 1 0040\nW 0 8000\nW 3 00A5\nP 1 0 1\n",
-        falling,
-        1,
-        b"R 3\nR 3\n",
-    );
-    run_parts(
-        b"client with SSEN, CKP 0, CKE 1\n",
-        b"W 1 0180\nW 0 8000\nW 3 00A5\nP 0 0 1\nP 0 0 0\n",
-        rising,
-        1,
-        b"R 3\nR 3\n",
-    );
-    run_parts(
-        b"client with SSEN, CKP 1, CKE 1\n",
-        b"W 1 01C0\nW 0 8000\nW 3 00A5\nP 1 0 1\nP 1 0 0\n",
-        falling,
-        1,
-        b"R 3\nR 3\n",
-    );
-    run_parts(
-        b"an abort, CKE 0\n",
-        b"W 1 0080\nW 0 8000\nW 3 00A5\nP 1 1 0\nP 0 1 0\nP 1 1 0\nP 1 1 1\nP 0 1 1\n",
-        rising,
-        1,
-        b"R 3\nR 3\nP 0 0 1\n",
-    );
-    run_parts(
-        b"an abort, CKE 1\n",
-        b"W 1 0180\nW 0 8000\nW 3 00A5\nP 1 1 0\nP 0 1 0\nP 1 1 1\nP 0 1 1\nP 0 1 0\n",
-        rising,
-        1,
-        b"R 3\nR 3\nP 0 0 1\n",
-    );
-    run(
-        b"an abort of a filler\n",
-        b"W 1 0080\nW 0 8000\nP 1 1 0\nW 3 00FF\nP 0 1 0\nP 1 1 1\nP 0 1 1\nR 3\nP 1 1 0\n",
-    );
-    run_parts(
-        b"a word written during a filler\n",
-        b"W 0 8000\nP 1 0 0\nW 3 00FF\nP 0 1 0\n",
-        b"P 1 0 0\nP 0 1 0\n",
-        7,
-        b"R 3\nP 1 0 0\n",
-    );
-    run_parts(
-        b"host with DISSCK\n",
-        b"W 1 1020\nW 0 8000\nP 1 1 0\nP 0 1 0\nW 3 00A5\nT 0\n",
-        rising,
-        1,
-        b"P 1 1 1\nP 0 1 1\nR 3\nR 3\n",
-    );
-    run(
-        b"client with DISSDO\n",
-        b"W 1 0800\nW 0 8000\nW 3 00FF\nP 1 1 0\nP 0 1 0\n",
-    );
-}
-
-// A word lost, and what disabling leaves.
-fn losses() {
-    run_parts(
-        b"an overflow\n",
-        b"W 1 0020\nW 0 8000\nW 3 0011\nW 3 0022\n",
-        b"T 0\nT 1\n",
-        16,
-        b"R 0\nR 3\nR 3\nR 0\nW 0 8040\nR 0\nW 0 0040\nR 0\nW 0 8040\nR 0\nW 0 8000\nR 0\n",
-    );
-    run(
-        b"disabled and enabled\n",
-        b"W 1 0020\nW 2 0001\nW 0 8000\nW 3 0011\nW 3 0022\nT 0\nR 0\nW 0 0000\nR 0\nW 0 8000\nR 0\nT 0\n",
-    );
-}
-
-// The line at which each condition raises the flag. The client without SSEN sees its flag at every pin call.
-fn interrupts() {
-    run_parts(
-        b"the flag in standard operation\n",
-        b"W 0 8000\n",
-        b"P 1 1 0\nP 0 1 0\n",
-        8,
-        b"C\nP 0 1 0\nR 3\nP 0 1 0\n",
-    );
-    run_parts(
-        b"SISEL 0\n",
-        b"W 2 0001\nW 0 8000\n",
-        b"P 1 1 0\nP 0 1 0\n",
-        16,
-        b"R 3\nP 0 1 0\nR 3\nP 0 1 0\nC\nP 0 1 0\n",
-    );
-    run_parts(
-        b"SISEL 1\n",
-        b"W 2 0001\nW 0 8004\n",
-        b"P 1 1 0\nP 0 1 0\n",
-        8,
-        b"R 0\nC\nR 3\nP 0 1 0\n",
-    );
-    run_parts(
-        b"SISEL 2\n",
-        b"W 2 0001\nW 0 8008\n",
-        b"P 1 1 0\nP 0 1 0\n",
-        48,
-        b"R 0\n",
-    );
-    run_parts(
-        b"SISEL 3\n",
-        b"W 2 0001\nW 0 800C\n",
-        b"P 1 1 0\nP 0 1 0\n",
-        64,
-        b"R 0\n",
-    );
-    run_parts(
-        b"SISEL 4\n",
-        b"W 1 0020\nW 2 0001\nW 0 8010\nW 3 0011\nW 3 0022\nW 3 0033\nW 3 0044\n\
-          W 3 0055\nW 3 0066\nW 3 0077\nW 3 0088\nW 3 0099\n",
-        b"T 0\n",
-        16,
-        b"R 0\n",
-    );
-    run_parts(
-        b"SISEL 5\n",
-        b"W 1 0020\nW 2 0001\nW 0 8014\nW 3 0011\nW 3 0022\n",
-        b"T 0\n",
-        32,
-        b"R 0\n",
-    );
-    run_parts(
-        b"SISEL 6\n",
-        b"W 2 0001\nW 0 8018\nP 0 1 0\nW 3 0011\nP 0 1 0\nC\nW 3 0022\nP 0 1 0\n",
-        b"P 1 1 0\nP 0 1 0\n",
-        8,
-        b"R 0\n",
-    );
-    run(
-        b"SISEL 7\n",
-        b"W 1 0080\nW 2 0001\nW 0 801C\nW 3 0011\nW 3 0022\nW 3 0033\nW 3 0044\n\
-          W 3 0055\nW 3 0066\nW 3 0077\nP 0 1 0\nW 3 0088\nP 0 1 0\nR 0\n",
-    );
 }
 
 // A script of the letter x, with a text from a place on, and no more than so many bytes.
@@ -511,23 +242,9 @@ fn limits() {
 }
 
 fn main() {
-    ends();
-    kinds();
-    refusals();
-    unreadable();
+    let mut scripts = [0u8; 65535];
+    let n = io::read_full(STDIN_FILENO, &mut scripts);
+    play_all(&scripts[..n]);
     places();
-    hosts(b"T 1\nT 0\nT 1\nT 0\nT 0\nT 1\nT 0\nT 1\nT 0\nT 1\nT 0\nT 1\nT 1\nT 0\nT 1\nT 0\n");
-    clients(
-        b"P 1 1 0\nP 0 0 0\nP 1 1 0\nP 0 0 0\nP 1 0 0\nP 0 1 0\nP 1 0 0\nP 0 1 0\n\
-          P 1 0 0\nP 0 1 0\nP 1 0 0\nP 0 1 0\nP 1 1 0\nP 0 0 0\nP 1 1 0\nP 0 0 0\n",
-        b"P 0 1 0\nP 1 0 0\nP 0 1 0\nP 1 0 0\nP 0 0 0\nP 1 1 0\nP 0 0 0\nP 1 1 0\n\
-          P 0 0 0\nP 1 1 0\nP 0 0 0\nP 1 1 0\nP 0 1 0\nP 1 0 0\nP 0 1 0\nP 1 0 0\n",
-    );
-    losses();
-    interrupts();
     limits();
-    print(b"standard input\n");
-    let mut script = [0u8; 65535];
-    let n = io::read_full(STDIN_FILENO, &mut script);
-    play(&script[..n]);
 }

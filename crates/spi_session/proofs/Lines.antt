@@ -19,14 +19,14 @@ use lib.Dec.{leb}
 use lib.ListN.{length, take, drop, set, length-take, length-drop, length-append, length-set}
 use lib.Seq.{take-take}
 use Rattle.spi_rules.specs.declared.Module.{Module}
-use Rattle.spi_rules.specs.declared.Line.{Line}
-use Rattle.spi_rules.specs.declared.Session.{Session}
-use Rattle.spi_rules.specs.Script.{mostBytes, readFrom, readingOf, lineAfter, answerLine}
-use Rattle.spi_rules.specs.Session.{firstLine, bytesLeft, ended, lineOf, linePlayed, played, answers, pieceLines, pieceAfter, pieceText, put}
+use Rattle.spi_script_rules.specs.declared.Line.{Line}
+use Rattle.spi_script_rules.specs.declared.Session.{Session}
+use Rattle.spi_script_rules.specs.Script.{mostBytes, readFrom, readingOf, lineAfter, answerLine}
+use Rattle.spi_script_rules.specs.Session.{firstLine, bytesLeft, ended, lineOf, linePlayed, played, answers, pieceLines, pieceAfter, pieceText, put}
 use Rattle.spi_rules.proofs.Keeps.{if-false}
-use Rattle.spi_rules.proofs.ScriptLines.{first-line-taken}
-use Rattle.spi_rules.proofs.ScriptSizes.{answers-fit, piece-fits}
-use Rattle.spi_rules.proofs.SessionWhole.{ended-answers, played-add, answers-add}
+use Rattle.spi_script_rules.proofs.ScriptLines.{first-line-taken}
+use Rattle.spi_script_rules.proofs.ScriptSizes.{answers-fit, piece-fits}
+use Rattle.spi_script_rules.proofs.SessionWhole.{ended-answers, played-add, answers-add}
 use Rattle.spi_session.specs.Written.{Written}
 use Rattle.spi_session.proofs.Texts.{put-then, written-case}
 

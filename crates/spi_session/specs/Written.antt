@@ -3,9 +3,9 @@ use Prim.Native.Nat.{ℕ, _+_}
 use mathlib.Core.List.{List}
 use mathlib.Core.Path.{_≡_}
 use lib.ListN.{length}
-use Rattle.spi_rules.specs.declared.Bookmark.{Bookmark}
-use Rattle.spi_rules.specs.declared.Session.{Session}
-use Rattle.spi_rules.specs.Session.{put}
+use Rattle.spi_script_rules.specs.declared.Bookmark.{Bookmark}
+use Rattle.spi_script_rules.specs.declared.Session.{Session}
+use Rattle.spi_script_rules.specs.Session.{put}
 use Rattle.spi_memory.specs.Memory.{moduleIn}
 
 -- The text stands in the buffer from a place on, and the next place is behind it.

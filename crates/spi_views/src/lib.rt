@@ -36,26 +36,31 @@ pub fn said(a: Answer) -> Said
 {
     match a {
         Answer::Refused(r) => Said {
+            kind: 0,
             number: refusal_number(r),
             value: 0,
             edges: 0,
         },
         Answer::Done => Said {
+            kind: 1,
             number: 0,
             value: 0,
             edges: 0,
         },
         Answer::Value(v) => Said {
+            kind: 2,
             number: 0,
             value: v,
             edges: 0,
         },
         Answer::NoEdge => Said {
+            kind: 3,
             number: 0,
             value: 0,
             edges: 0,
         },
         Answer::Edge => Said {
+            kind: 4,
             number: 0,
             value: 0,
             edges: 1,

@@ -7,8 +7,8 @@ use mathlib.Core.List.{List}
 use mathlib.Core.Path.{_≡_, sym, _∙_, ap}
 use Rattle.spi_rules.specs.declared.Answer.{Answer}
 use Rattle.spi_rules.specs.declared.Outcome.{Outcome}
-use Rattle.spi_rules.specs.declared.LinkAnswer.{LinkAnswer}
-use Rattle.spi_rules.specs.declared.Linked.{Linked}
+use Rattle.spi_link_rules.specs.declared.LinkAnswer.{LinkAnswer}
+use Rattle.spi_link_rules.specs.declared.Linked.{Linked}
 use Rattle.spi_module.specs.Answered.{untouching, Answers}
 use Rattle.spi_link.specs.Wire.{isRefused, Links}
 use Rattle.thurafeqa.specs.Numbers.{answerNumber, Tells, linkNumber, LinkTells}

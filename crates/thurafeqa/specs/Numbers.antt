@@ -5,17 +5,17 @@ use mathlib.Core.List.{List}
 use mathlib.Core.Path.{_≡_}
 use lib.Dec.{eqb}
 use Rattle.spi_rules.specs.declared.Module.{Module}
-use Rattle.spi_rules.specs.declared.ClockSaid.{ClockSaid}
+use Rattle.spi_clock_rules.specs.declared.ClockSaid.{ClockSaid}
 use Rattle.spi_rules.specs.declared.Answer.{Answer}
 use Rattle.spi_rules.specs.declared.Outcome.{Outcome}
-use Rattle.spi_rules.specs.declared.LinkAnswer.{LinkAnswer}
-use Rattle.spi_rules.specs.declared.Linked.{Linked}
+use Rattle.spi_link_rules.specs.declared.LinkAnswer.{LinkAnswer}
+use Rattle.spi_link_rules.specs.declared.Linked.{Linked}
 use Rattle.spi_rules.specs.declared.Sdo.{Sdo}
 use Rattle.spi_rules.specs.declared.Sdo.the-variants.{Low, High, Undriven}
 use Rattle.thurafeqa.specs.declared.ThurafeqaClock.{ThurafeqaClock}
 use Rattle.spi_rules.specs.Choice.{if_then_else_}
 use Rattle.spi_rules.specs.Refusals.{saidOf}
-use Rattle.spi_rules.specs.Link.{linkSaidOf}
+use Rattle.spi_link_rules.specs.Link.{linkSaidOf}
 use Rattle.spi_rules.specs.Calls.{interruptOf, sckOf, sdoOf}
 use Rattle.spi_memory.specs.Memory.{moduleIn}
 use Rattle.spi_module.specs.Answered.{untouching}

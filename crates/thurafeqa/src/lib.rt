@@ -1,14 +1,14 @@
 // The model for a program in C or Rust to link: the calls of one module, linked runs and clock reports over memory that the
 // caller holds, 96 numbers of 16 bits a module. Only numbers cross the boundary, and any numbers are answered.
+use spi_link_rules::LinkAnswer;
 use spi_rules::Answer;
-use spi_rules::LinkAnswer;
 use spi_rules::Sdo;
 ghost use Prim.Native.Nat.{_%_, _≤_};
 ghost use mathlib.Core.Path.{_≡_};
 ghost use Rattle.spi_rules.specs.Choice.{if_then_else_};
 ghost use Rattle.spi_rules.specs.Calls.{poweredUp, readOf, writeOf, tickOf, pinsOf, clearOf};
-ghost use Rattle.spi_rules.specs.Link.{linkedOf};
-ghost use Rattle.spi_rules.specs.Clock.{reportOf, saidClock};
+ghost use Rattle.spi_link_rules.specs.Link.{linkedOf};
+ghost use Rattle.spi_clock_rules.specs.Clock.{reportOf, saidClock};
 ghost use Rattle.spi_memory.specs.Memory.{moduleIn};
 ghost use Rattle.thurafeqa.specs.Numbers.{Tells, LinkTells, levelIn, answerNumber, linkNumber, sdoBits, levelsNumber, kindNumber, clockNumbers};
 

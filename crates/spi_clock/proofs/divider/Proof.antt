@@ -2,7 +2,7 @@
 use borrow.Author.Needs.{needs}
 use native.Mathlib.Nat.{lt-of-le-of-lt, mul-le-mul}
 use lib.Dec.{lit<}
-use Rattle.spi_rules.specs.Clock.{dividerOf}
+use Rattle.spi_clock_rules.specs.Clock.{dividerOf}
 use Rattle.spi_clock.proofs.divider.Statement.{statement}
 use Rattle.spi_clock.proofs.divider.Tie as tie
 

@@ -1,7 +1,7 @@
 -- The table of the code is the table of the definition. Assumes nothing.
 use borrow.Author.Needs.{needs}
 use mathlib.Core.Path.{refl}
-use Rattle.spi_rules.specs.Clock.{primaryOf}
+use Rattle.spi_clock_rules.specs.Clock.{primaryOf}
 use Rattle.spi_clock.proofs.primary.Statement.{statement}
 use Rattle.spi_clock.proofs.primary.Tie as tie
 

@@ -1,6 +1,6 @@
 -- Each field is the one division of the definition. Assumes nothing.
 use borrow.Author.Needs.{needs}
-use Rattle.spi_rules.specs.Clock.{ratesOf}
+use Rattle.spi_clock_rules.specs.Clock.{ratesOf}
 use Rattle.spi_clock.proofs.rates.Statement.{statement}
 use Rattle.spi_clock.proofs.rates.Tie as tie
 

@@ -1,6 +1,6 @@
 -- By the settings.
 use borrow.Author.Needs.{needs}
-use Rattle.spi_rules.specs.Clock.{reportOf}
+use Rattle.spi_clock_rules.specs.Clock.{reportOf}
 use Rattle.spi_clock.proofs.report.Statement.{statement}
 use Rattle.spi_clock.proofs.report.Tie as tie
 

@@ -2,7 +2,7 @@
 use borrow.Author.Needs.{needs}
 use mathlib.Core.Path.{_≡_, refl}
 use lib.Ieee.{binary64, ofBits}
-use Rattle.spi_rules.specs.Clock.{nought, saidClock}
+use Rattle.spi_clock_rules.specs.Clock.{nought, saidClock}
 use Rattle.spi_clock.proofs.said.Statement.{statement}
 use Rattle.spi_clock.proofs.said.Tie as tie
 

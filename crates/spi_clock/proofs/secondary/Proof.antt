@@ -1,7 +1,7 @@
 -- The code is the definition. Assumes nothing.
 use borrow.Author.Needs.{needs}
 use mathlib.Core.Path.{refl}
-use Rattle.spi_rules.specs.Clock.{secondaryOf}
+use Rattle.spi_clock_rules.specs.Clock.{secondaryOf}
 use Rattle.spi_clock.proofs.secondary.Statement.{statement}
 use Rattle.spi_clock.proofs.secondary.Tie as tie
 

@@ -5,7 +5,7 @@ use borrow.Author.Needs.{needs}
 use mathlib.Core.Bool.{true}
 use mathlib.Core.List.{List, [], _∷_}
 use mathlib.Core.Path.{_≡_, sym}
-use Rattle.spi_rules.specs.Script.{fits, writeForm, digitValue, fourHexValue}
+use Rattle.spi_script_rules.specs.Script.{fits, writeForm, digitValue, fourHexValue}
 use Rattle.spi_lines.proofs.Digits.{digit-range}
 use Rattle.spi_lines.proofs.Forms.{fits-at, not-read, not-tick, not-pin, not-clear, as-write, unread, write-tests}
 use Rattle.spi_lines.proofs.eight_bytes.Statement.{statement}

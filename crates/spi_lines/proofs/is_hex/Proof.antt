@@ -1,6 +1,6 @@
 -- `spi_lines::is_hex` meets its contract: the test is the definition. Assumes nothing.
 use mathlib.Core.Path.{refl}
-use Rattle.spi_rules.specs.Script.{between, fitsPlace}
+use Rattle.spi_script_rules.specs.Script.{between, fitsPlace}
 use Rattle.spi_lines.proofs.is_hex.Statement.{statement}
 use Rattle.spi_lines.proofs.is_hex.Tie as tie
 

@@ -4,7 +4,7 @@ use Prim.Native.Nat.{_+_, _-_, _≤_}
 use native.Mathlib.Omega.{arith}
 use mathlib.Core.Path.{_≡_}
 use lib.ListN.{length, drop}
-use Rattle.spi_rules.specs.Session.{firstLine}
+use Rattle.spi_script_rules.specs.Session.{firstLine}
 use Rattle.spi_lines.proofs.FirstLines.{stops, goes-on, runs-out}
 use Rattle.spi_lines.proofs.line_length.Statement.{statement}
 use Rattle.spi_lines.proofs.line_length.Tie as tie

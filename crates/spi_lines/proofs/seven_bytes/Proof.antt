@@ -2,7 +2,7 @@
 use native.Mathlib.Omega.{arith}
 use borrow.Author.Needs.{needs}
 use mathlib.Core.Path.{refl, sym}
-use Rattle.spi_rules.specs.Script.{levelValue}
+use Rattle.spi_script_rules.specs.Script.{levelValue}
 use Rattle.spi_lines.proofs.Forms.{not-write, not-read, not-tick, not-clear, as-pin, unread, pin-tests}
 use Rattle.spi_lines.proofs.seven_bytes.Statement.{statement}
 use Rattle.spi_lines.proofs.seven_bytes.Tie as tie

@@ -5,7 +5,7 @@ use borrow.Author.Needs.{needs}
 use mathlib.Core.Bool.{true, false}
 use mathlib.Core.List.{List, [], _∷_}
 use mathlib.Core.Path.{_≡_, refl, sym}
-use Rattle.spi_rules.specs.Script.{fits, readForm, digitValue, levelValue}
+use Rattle.spi_script_rules.specs.Script.{fits, readForm, digitValue, levelValue}
 use Rattle.spi_lines.proofs.Digits.{digit-range}
 use Rattle.spi_lines.proofs.Forms.{fits-at, not-write, not-pin, not-clear, as-read, as-tick, unread, read-tests, tick-tests}
 use Rattle.spi_lines.proofs.three_bytes.Statement.{statement}

@@ -7,7 +7,7 @@ use native.Mathlib.Omega.{arith}
 use borrow.Author.Needs.{needs}
 use borrow.Fn.Kinds.{In}
 use borrow.Fn.PlainCycle.{Measures, is, falls, and}
-use Rattle.spi_rules.specs.Link.{ended, oneMore, clientTurn, hostTurn}
+use Rattle.spi_link_rules.specs.Link.{runStops, oneMore, clientTurn, hostTurn}
 use Rattle.spi_memory.specs.Memory.{moduleIn}
 use Rattle.spi_memory.proofs.Taken.{module-after}
 use Rattle.spi_link.proofs.Turns.{wired-turned, wired-shown, ends, stops, hands-over}
@@ -87,7 +87,7 @@ client-turn-returns t c =
     )
 
 none-left : (t : ℕ) → host-turn-lts.Need-returns (host-turn-callees t) (host-turn-at t) host-turn.Post
-unfolding ended
+unfolding runStops
 none-left t c =
     let a = c .before .args in
     (ends (moduleIn (a .host .now)) (moduleIn (a .client .now)) (c .if1 .taken) refl, omega arith)
@@ -96,7 +96,7 @@ is-free-requires : (t : ℕ) → host-turn-lts.Need-is-free-requires (host-turn-
 is-free-requires t c κs = search needs
 
 no-word : (t : ℕ) → host-turn-lts.Need-returns-2 (host-turn-callees t) (host-turn-at t) host-turn.Post
-unfolding ended
+unfolding runStops
 no-word t c =
     let start = c .before .before .before .before in
     (stops (c .before .before .before .if1 .left) (start .pre .1 .linkable) (sym (c .before .is-free .ensures) ∙ c .if2 .taken) refl, omega arith)

@@ -1,6 +1,6 @@
 -- Each arm is the clause of the definition for its case.
 use borrow.Author.Needs.{needs}
-use Rattle.spi_rules.specs.Link.{linkSaidOf}
+use Rattle.spi_link_rules.specs.Link.{linkSaidOf}
 use Rattle.spi_link.proofs.link_said.Statement.{statement}
 use Rattle.spi_link.proofs.link_said.Tie as tie
 

@@ -4,15 +4,16 @@ use mathlib.Core.Path.{refl}
 use Rattle.spi_rules.specs.Registers.{bitOf}
 use Rattle.spi_rules.specs.Calls.{turnsOn, refuse, writeStat}
 use Rattle.spi_rules.proofs.Choices.{so, not-so}
-use Rattle.spi_module.proofs.Answers.{kept, changed, then-set}
+use Rattle.spi_module.proofs.Answers.{kept, changed, bad-settings, then-set}
 use Rattle.spi_module.proofs.write_stat.Statement.{statement}
 use Rattle.spi_module.proofs.write_stat.Tie as tie
 
 returns : tie.Need-returns
-unfolding writeStat turnsOn bitOf refuse
+unfolding writeStat turnsOn bitOf
 returns c =
     let settings-in = c .before .before .before .settings-in .ensures in
-    kept (so _ _ _ (rw ((c .before .are-bad .ensures), settings-in) at (c .if1 .taken)) refl)
+    kept
+    (so _ _ _ (rw ((c .before .are-bad .ensures), settings-in) at (c .if1 .taken)) (bad-settings _))
 
 returns-2 : tie.Need-returns-2
 unfolding writeStat turnsOn bitOf

@@ -2,8 +2,8 @@
 use mathlib.Core.Path.{sym, ap}
 use native.Mathlib.Omega.{arith}
 use lib.ListN.{length, length-take}
-use Rattle.spi_rules.specs.Script.{mostBytes, readFrom}
-use Rattle.spi_rules.proofs.ScriptLines.{reads-all}
+use Rattle.spi_script_rules.specs.Script.{mostBytes, readFrom}
+use Rattle.spi_script_rules.proofs.ScriptLines.{reads-all}
 use Rattle.spi_session.proofs.bytes_read.Statement.{statement}
 use Rattle.spi_session.proofs.bytes_read.Tie as tie
 

@@ -2,7 +2,7 @@
 use borrow.Author.Needs.{needs}
 use mathlib.Core.Path.{sym}
 use native.Mathlib.Omega.{arith}
-use Rattle.spi_rules.proofs.SessionWhole.{ended-stays}
+use Rattle.spi_script_rules.proofs.SessionWhole.{ended-stays}
 use Rattle.spi_session.specs.Written.{sessionIn}
 use Rattle.spi_session.proofs.Lines.{ended-behind, ended-past, goes-on, line-within, plays-it, answers-it, answers-none}
 use Rattle.spi_session.proofs.play_line.Statement.{statement}

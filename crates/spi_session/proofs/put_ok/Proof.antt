@@ -1,8 +1,8 @@
 -- Two bytes, one behind the other.
 use borrow.Author.Needs.{needs}
 use native.Mathlib.Omega.{arith}
-use Rattle.spi_rules.specs.Script.{bytes, okText}
-use Rattle.spi_rules.specs.Session.{put}
+use Rattle.spi_script_rules.specs.Script.{bytes, okText}
+use Rattle.spi_script_rules.specs.Session.{put}
 use Rattle.spi_session.proofs.put_ok.Statement.{statement}
 use Rattle.spi_session.proofs.put_ok.Tie as tie
 

@@ -1,6 +1,6 @@
 -- A letter, a space and a level, one behind the other.
 use borrow.Author.Needs.{needs}
-use Rattle.spi_rules.specs.Script.{pinText}
+use Rattle.spi_script_rules.specs.Script.{pinText}
 use Rattle.spi_rules.specs.Calls.{interruptOf}
 use Rattle.spi_session.proofs.Texts.{written-then}
 use Rattle.spi_session.proofs.put_pins.Statement.{statement}

@@ -1,6 +1,6 @@
 -- Each arm is the clause of the definition for its case.
 use borrow.Author.Needs.{needs}
-use Rattle.spi_rules.specs.Script.{sdoLetter}
+use Rattle.spi_script_rules.specs.Script.{sdoLetter}
 use Rattle.spi_session.proofs.sdo_letter.Statement.{statement}
 use Rattle.spi_session.proofs.sdo_letter.Tie as tie
 

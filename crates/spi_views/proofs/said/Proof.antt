@@ -1,27 +1,21 @@
 -- Each arm is the clause of the definition for its case.
 use borrow.Author.Needs.{needs}
-use Rattle.spi_rules.specs.Refusals.{saidOf}
 use Rattle.spi_views.proofs.said.Statement.{statement}
 use Rattle.spi_views.proofs.said.Tie as tie
 
 returns : tie.Need-returns
-unfolding saidOf
 returns c = cc
 
 returns-2 : tie.Need-returns-2
-unfolding saidOf
 returns-2 c = cc
 
 returns-3 : tie.Need-returns-3
-unfolding saidOf
 returns-3 c = cc
 
 returns-4 : tie.Need-returns-4
-unfolding saidOf
 returns-4 c = cc
 
 returns-5 : tie.Need-returns-5
-unfolding saidOf
 returns-5 c = cc
 
 pub said-spec : {M : Type 1} → statement M

@@ -2,31 +2,30 @@
 use borrow.Author.Needs.{needs}
 use mathlib.Core.Path.{refl}
 use native.Mathlib.Omega.{arith}
-use Rattle.spi_rules.specs.Refusals.{saidOf}
 use Rattle.spi_rules.proofs.Choices.{by-case}
 use Rattle.thurafeqa.specs.Numbers.{answerNumber}
 use Rattle.thurafeqa.proofs.answer_number.Statement.{statement}
 use Rattle.thurafeqa.proofs.answer_number.Tie as tie
 
 returns : tie.Need-returns
-unfolding answerNumber saidOf
+unfolding answerNumber
 returns c =
     by-case answerNumber (c .before .before .a .given .1) (omega (arith, (c .refusal-number .ensures)))
 
 returns-2 : tie.Need-returns-2
-unfolding answerNumber saidOf
+unfolding answerNumber
 returns-2 c = by-case answerNumber (c .enum-told .given .1) refl
 
 returns-3 : tie.Need-returns-3
-unfolding answerNumber saidOf
+unfolding answerNumber
 returns-3 c = by-case answerNumber (c .before .a2 .given .1) (omega arith)
 
 returns-4 : tie.Need-returns-4
-unfolding answerNumber saidOf
+unfolding answerNumber
 returns-4 c = by-case answerNumber (c .enum-told2 .given .1) refl
 
 returns-5 : tie.Need-returns-5
-unfolding answerNumber saidOf
+unfolding answerNumber
 returns-5 c = by-case answerNumber (c .enum-told3 .given .1) refl
 
 pub answer-number-spec : {M : Type 1} → statement M

@@ -1,6 +1,6 @@
 -- The definition, with what the report says.
 use borrow.Author.Needs.{needs}
-use Rattle.spi_rules.specs.Clock.{reportOf}
+use Rattle.spi_clock_rules.specs.Clock.{reportOf}
 use Rattle.thurafeqa.specs.Numbers.{clockNumbers}
 use Rattle.thurafeqa.proofs.thurafeqa_clock.Statement.{statement}
 use Rattle.thurafeqa.proofs.thurafeqa_clock.Tie as tie

@@ -1,0 +1,186 @@
+-- The floats of the clock report are the paper's fractions. A whole number of 32 bits becomes a float without loss, one
+-- division of two such floats is their fraction rounded once (`round` of lib.Ieee), and where the divider divides the
+-- instruction rate the quotient is the float of a whole number, which is that number exactly.
+--     rate-rounds-once, bittime-rounds-once   the two floats of an internal clock
+--     rate-exact, rate-reads-back             the rate where D divides F
+--     primary-falls-by-four                   the table's rule
+--     rate-0-is-refused, disabled-has-none, own-clock-says, pin-clock-says
+--                                             what each module is told, in the paper's numbers
+-- Assumes nothing.
+use Prim.Native.Nat.{ℕ, zero, suc, _*_, _%_, _^_, _≤_, _<_}
+use mathlib.Core.Bool.{Bool, true, false, not, true≢false, cond}
+use mathlib.Core.Path.{_≡_, refl, sym, ap, _∙_, subst}
+use mathlib.Core.List.{[], _∷_}
+use native.Mathlib.Nat.{mul-one, mul-assoc, mul-comm, mul-left-comm, mul-pos, mul-le-mul, mul-le-mul-left, le-trans, le-of-eq, lt-of-le-of-lt, zero-lt-suc}
+use native.Mathlib.Omega.{arith}
+use borrow.Author.Tests.{ne-eqb}
+use lib.Dec.{eqb, ltb→lt, le→leb, lit≤, lit<}
+use lib.ListN.{getD}
+use lib.Ieee.{Float, nan, inf, fin, Format, binary64, up, down, round, ofInt, div, toUnsigned, inFloat}
+use lib.Ieee.Exact.{HasValue}
+use lib.Ieee.Fits.{up-pos, down-pos}
+use lib.Ieee.Back.{round-whole, unsigned-back}
+use lib.Ieee.Positive.{positive-of-value}
+use lib.Ieee.Scale.{round-same}
+use Rattle.spi_rules.specs.declared.Module.{Module}
+use Rattle.spi_rules.specs.declared.Settings.{Settings}
+use Rattle.spi_clock_rules.specs.declared.Clock.{Clock}
+use Rattle.spi_clock_rules.specs.declared.Clock.the-variants.{Internal, External, None}
+use Rattle.spi_clock_rules.specs.declared.Reported.the-variants.{Answered}
+use Rattle.spi_rules.specs.Choice.{if_then_else_}
+use Rattle.spi_rules.specs.Settings.{ownClock}
+use Rattle.spi_rules.specs.Refusals.{numberOf}
+use Rattle.spi_clock_rules.specs.Clock.{primaryOf, secondaryOf, dividerOf, floatOf, ratesOf, clockOf, reportOf, saidRefused, saidInternal, saidExternal, saidNone, saidClock}
+use Rattle.spi_rules.proofs.Choices.{so, not-so, not-so-eq}
+
+-- ---- one division of two whole floats
+
+above-zero : (n : ℕ) → 0 < n → n ≡ 0 → ⊥
+above-zero n h e = omega arith
+
+-- the cross product of the two fractions
+cross : (a b x y d e : ℕ) → x * 1 ≡ a * e → y * 1 ≡ b * d → x * d * b ≡ a * (y * e)
+cross a b x y d e h k =
+    let p : x ≡ a * e = sym (mul-one x) ∙ h in
+    let q : y ≡ b * d = sym (mul-one y) ∙ k in
+    let r : a * e * d * b ≡ a * (b * d * e) = simp (mul-assoc, mul-comm, mul-left-comm) in
+    ap (λ (z : ℕ). z * d * b) p ∙ r ∙ ap (λ (z : ℕ). a * (z * e)) (sym q)
+
+-- A quotient of two floats that are whole numbers, the second not 0, is their fraction rounded once.
+pub quotient-rounds-once : (f : Format) (x y : Float) (a b : ℕ) → HasValue x false a 1 → HasValue y false b 1 → 0 < b → div f x y ≡ round f false a b
+unfolding div
+quotient-rounds-once f nan y a b h k B = absurd h
+quotient-rounds-once f (inf s) y a b h k B = absurd h
+quotient-rounds-once f (fin s m e) nan a b h k B = absurd k
+quotient-rounds-once f (fin s m e) (inf t) a b h k B = absurd k
+quotient-rounds-once f (fin true m e) (fin t n d) a b h k B = absurd (true≢false (h .0))
+quotient-rounds-once f (fin false m e) (fin true n d) a b h k B = absurd (true≢false (k .0))
+quotient-rounds-once f (fin false m e) (fin false n d) a b h k B =
+    let N : 0 < n = ltb→lt 0 n (positive-of-value (fin false n d) b 1 k B) in
+    let z : eqb n 0 ≡ false = ne-eqb n 0 (above-zero n N) in
+    ap (λ (t : Bool). cond t (cond (eqb m 0) nan (inf false)) (round f false (m * up e * down d) (n * up d * down e))) z
+    ∙ round-same f false (m * up e * down d) (n * up d * down e) a b (mul-pos (mul-pos N (up-pos d)) (down-pos e)) B
+    (cross a b (m * up e) (n * up d) (down d) (down e) (h .1) (k .1))
+
+-- ---- what is divided: whole numbers that the format has
+
+-- Every whole number of 32 bits is a float, exactly.
+pub float-exact : (n : ℕ) → n < 2 ^ 32 → HasValue (floatOf n) false n 1
+unfolding ofInt
+float-exact n h = round-whole binary64 false n (omega arith)
+
+-- The table's four entries: from 1 to 64, and each a quarter of the one before it.
+entry : (n : ℕ) → n < 4 → let x : ℕ = getD (64 ∷ 16 ∷ 4 ∷ 1 ∷ []) n 0 in (0 < x) × (x ≤ 64) × (x * 4 ^ n ≡ 64)
+entry zero h = (lit< tt, lit≤ tt, refl)
+entry (suc zero) h = (lit< tt, lit≤ tt, refl)
+entry (suc (suc zero)) h = (lit< tt, lit≤ tt, refl)
+entry (suc (suc (suc zero))) h = (lit< tt, lit≤ tt, refl)
+entry (suc (suc (suc (suc n)))) h = absurd (omega arith)
+
+pub primary-bounds : (ppre : ℕ) → (0 < primaryOf ppre) × (primaryOf ppre ≤ 64)
+unfolding primaryOf
+primary-bounds ppre = let e = entry (ppre % 4) (omega arith) in (e .0, e .1)
+
+-- The table by the manual's rule: each step of PPRE divides by four, from 64.
+pub primary-falls-by-four : (ppre : ℕ) → primaryOf ppre * 4 ^ (ppre % 4) ≡ 64
+unfolding primaryOf
+primary-falls-by-four ppre = entry (ppre % 4) (omega arith) .2
+
+pub secondary-bounds : (spre : ℕ) → (0 < secondaryOf spre) × (secondaryOf spre ≤ 8)
+unfolding secondaryOf
+secondary-bounds spre = (omega arith, omega arith)
+
+-- D is from 1 to 512.
+pub divider-bounds : (s : Settings) → (0 < dividerOf s) × (dividerOf s ≤ 512)
+unfolding dividerOf
+divider-bounds s =
+    let p = primary-bounds (s .con1 .ppre) in
+    let q = secondary-bounds (s .con1 .spre) in
+    (mul-pos (p .0) (q .0), mul-le-mul (p .1) (q .1))
+
+divider-fits : (s : Settings) → dividerOf s < 2 ^ 32
+divider-fits s = omega (arith, divider-bounds s .1)
+
+-- ---- the two floats
+
+-- The rate is F / D, rounded once.
+pub rate-rounds-once : (s : Settings) (f : ℕ) → f < 2 ^ 32 → ratesOf s f .rate ≡ round binary64 false f (dividerOf s)
+unfolding ratesOf
+rate-rounds-once s f h =
+    quotient-rounds-once binary64 (floatOf f) (floatOf (dividerOf s)) f (dividerOf s)
+    (float-exact f h) (float-exact (dividerOf s) (divider-fits s)) (divider-bounds s .0)
+
+-- The bit time is D / F, rounded once.
+pub bittime-rounds-once : (s : Settings) (f : ℕ) → 0 < f → f < 2 ^ 32 → ratesOf s f .bittime ≡ round binary64 false (dividerOf s) f
+unfolding ratesOf
+bittime-rounds-once s f p h =
+    quotient-rounds-once binary64 (floatOf (dividerOf s)) (floatOf f) (dividerOf s) f
+    (float-exact (dividerOf s) (divider-fits s)) (float-exact f h) p
+
+-- The fraction of a whole number of divisors rounds to the float of that number.
+whole-fraction : (q d : ℕ) → 0 < d → round binary64 false (q * d) d ≡ floatOf q
+unfolding ofInt
+whole-fraction q d D = round-same binary64 false (q * d) d q 1 D (zero-lt-suc 0) (mul-one (q * d))
+
+-- A quotient is no larger than what was divided.
+quotient-small : (s : Settings) (f q : ℕ) → f < 2 ^ 32 → f ≡ q * dividerOf s → q < 2 ^ 32
+quotient-small s f q h e =
+    lt-of-le-of-lt (le-trans (le-of-eq (sym (mul-one q))) (le-trans (mul-le-mul-left q (divider-bounds s .0)) (le-of-eq (sym e)))) h
+
+-- Where D divides F, the rate is the whole quotient: its float, with that value.
+pub rate-exact : (s : Settings) (f q : ℕ) → f < 2 ^ 32 → f ≡ q * dividerOf s → (ratesOf s f .rate ≡ floatOf q) × HasValue (ratesOf s f .rate) false q 1
+rate-exact s f q h e =
+    let r : ratesOf s f .rate ≡ floatOf q =
+    rate-rounds-once s f h
+    ∙ ap (λ (n : ℕ). round binary64 false n (dividerOf s)) e
+    ∙ whole-fraction q (dividerOf s) (divider-bounds s .0) in
+    (r, subst (λ (x : Float). HasValue x false q 1) (sym r) (float-exact q (quotient-small s f q h e)))
+
+-- Read back as a number of 32 bits, such a rate is that quotient.
+pub rate-reads-back : (s : Settings) (f q : ℕ) → f < 2 ^ 32 → f ≡ q * dividerOf s → toUnsigned 32 (ratesOf s f .rate) ≡ q
+unfolding inFloat
+rate-reads-back s f q h e =
+    let small : q < 2 ^ 32 = quotient-small s f q h e in
+    ap (toUnsigned 32) (rate-exact s f q h e .0) ∙ unsigned-back binary64 32 q (le→leb q (2 ^ 53) (omega arith)) small .1
+
+-- The paper's own: 40,000,000 with PPRE 2 and SPRE 6 is 5,000,000.
+pub forty-million : (s : Settings) → s .con1 .ppre ≡ 2 → s .con1 .spre ≡ 6 → ratesOf s 40000000 .rate ≡ floatOf 5000000
+unfolding dividerOf primaryOf secondaryOf
+forty-million s p q =
+    let d : dividerOf s ≡ 8 = ap (λ (n : ℕ). primaryOf n * secondaryOf (s .con1 .spre)) p ∙ ap (λ (n : ℕ). primaryOf 2 * secondaryOf n) q in
+    rate-exact s 40000000 5000000 (lit< tt) (ap (λ (n : ℕ). 5000000 * n) (sym d)) .0
+
+-- ---- what each module is told
+
+-- An instruction rate above 0 is answered with the clock.
+answered : (m : Module) (f : ℕ) (x : Clock) → 0 < f → x ≡ clockOf (m .settings) f → saidClock (reportOf m f) ≡ saidClock (Answered x)
+unfolding reportOf
+answered m f x p e =
+    let r : Answered x ≡ reportOf m f = not-so-eq f 0 _ _ (above-zero f p) (ap Answered e) in
+    ap saidClock (sym r)
+
+-- Test 8 comes first: the rate 0 is refused with 8, whatever the module.
+pub rate-0-is-refused : (m : Module) → saidClock (reportOf m 0) ≡ saidRefused 8
+unfolding reportOf saidClock numberOf if_then_else_
+rate-0-is-refused m = refl
+
+-- A disabled module has no clock, and is not refused.
+pub disabled-has-none : (m : Module) (f : ℕ) → 0 < f → m .settings .spien ≡ false → saidClock (reportOf m f) ≡ saidNone
+unfolding clockOf saidClock
+disabled-has-none m f p off = answered m f None p (so _ _ _ (ap not off) refl)
+
+-- An enabled host with its own clock is told F / D and D / F, each rounded once.
+pub own-clock-says : (m : Module) (f : ℕ) → 0 < f → f < 2 ^ 32 → m .settings .spien ≡ true → ownClock (m .settings) ≡ true
+    → saidClock (reportOf m f) ≡ saidInternal (round binary64 false f (dividerOf (m .settings))) (round binary64 false (dividerOf (m .settings)) f)
+unfolding clockOf saidClock
+own-clock-says m f p h on own =
+    answered m f (Internal (ratesOf (m .settings) f)) p (not-so _ _ _ (ap not on) (so _ _ _ own refl))
+    ∙ ap (λ (x : Float). saidInternal x (ratesOf (m .settings) f .bittime)) (rate-rounds-once (m .settings) f h)
+    ∙ ap (λ (x : Float). saidInternal (round binary64 false f (dividerOf (m .settings))) x) (bittime-rounds-once (m .settings) f p h)
+
+-- Every other enabled module, a client or a DISSCK host, is told F itself.
+pub pin-clock-says : (m : Module) (f : ℕ) → 0 < f → m .settings .spien ≡ true → ownClock (m .settings) ≡ false
+    → saidClock (reportOf m f) ≡ saidExternal (floatOf f)
+unfolding clockOf saidClock
+pin-clock-says m f p on pin =
+    answered m f (External (floatOf f)) p (not-so _ _ _ (ap not on) (not-so _ _ _ pin refl))

@@ -1,0 +1,17 @@
+-- The demands of specs/Demands.antt, all of them.
+--     demands-hold   what the buyer signs for
+-- Assumes nothing.
+use Rattle.spi_demands.specs.Demands.{Demands}
+use Rattle.spi_rules.proofs.DemandsHold.{one-module}
+use Rattle.spi_link_rules.proofs.LinkDemandsHold.{linked-runs}
+use Rattle.spi_clock_rules.proofs.ClockDemandsHold.{clock-reports}
+use Rattle.spi_script_rules.proofs.ScriptDemandsHold.{scripts-hold}
+
+pub demands-hold : Demands
+demands-hold =
+    record {
+      oneModule = one-module;
+      linkedRuns = linked-runs;
+      clockReports = clock-reports;
+      scripts = scripts-hold;
+    }

@@ -1,0 +1,2 @@
+-- The proof of the page.
+pub mod DemandsHold

@@ -1,0 +1,2 @@
+-- The demands, gathered.
+pub mod Demands

@@ -1,0 +1,11 @@
+-- What follows from the rules of a linked run.
+-- What a run does at each end, how far it brings its host, and that its client stays selected:
+pub mod LinkRuns
+pub mod LinkIdle
+pub mod LinkSelect
+-- Refusals are those of the table:
+pub mod LinkRefusals
+-- The paper's figures:
+pub mod LinkExamplesHold
+-- The demands, all of them:
+pub mod LinkDemandsHold

@@ -1,0 +1,203 @@
+-- How far a linked run brings its host, from the edges that the host owes (proofs/OwedCalls.antt).
+--     owed-most        no module that calls reach owes more than 288 edges
+--     link-pays        the edges used are what the host's debt fell by
+--     link-uses-owed   with a limit of at least what the host owes, exactly that is used and the host is idle
+--     link-uses-limit  with a limit of at most that, exactly the limit is used
+-- Assumes nothing.
+use Prim.Native.Nat.{ℕ, zero, suc, _+_, _*_, _-_, _≤_, _<_}
+use mathlib.Core.Bool.{Bool, true, false, not, _||_}
+use mathlib.Core.List.{List, [], _∷_}
+use mathlib.Core.Path.{_≡_, refl, sym, ap, subst, _∙_}
+use native.Mathlib.Nat.{le-trans, sub-le, mul-le-mul}
+use native.Mathlib.Omega.{arith}
+use borrow.Author.Tests.{ltb-true, ltb-false, not-false}
+use lib.Dec.{ltb}
+use lib.ListN.{length}
+use Rattle.spi_rules.specs.declared.Settings.{Settings}
+use Rattle.spi_rules.specs.declared.Module.{Module}
+use Rattle.spi_rules.specs.declared.Outcome.{Outcome}
+use Rattle.spi_rules.specs.declared.Shift.{Shift}
+use Rattle.spi_rules.specs.declared.Shift.the-variants.{Free, Loaded, Begun}
+use Rattle.spi_rules.specs.declared.Answer.the-variants.{NoEdge}
+use Rattle.spi_rules.specs.declared.Call.{Call}
+use Rattle.spi_rules.specs.declared.Call.the-variants.{Tick}
+use Rattle.spi_link_rules.specs.declared.Run.{Run}
+use Rattle.spi_link_rules.specs.declared.LinkAnswer.the-variants as linked
+use Rattle.spi_link_rules.specs.declared.Linked.{Linked}
+use Rattle.spi_rules.specs.Settings.{widthOf, depthOf, enhancedDepth, ssenClient, ownClock}
+use Rattle.spi_rules.specs.Refusals.{isDone}
+use Rattle.spi_rules.specs.Registers.{isFree}
+use Rattle.spi_rules.specs.Calls.{afterCalls, refuse, answering, tickOf, sdoOf, performOf}
+use Rattle.spi_link_rules.specs.Link.{mostEdges, levelRead, madeEdge, hostTicked, clientSees, runStops, oneMore, clientTurn, handedOver, hostTurn, runOf, toldOf, linkedOf, hostCalls, runHostCalls}
+use Rattle.spi_rules.specs.Invariant.{ModuleHolds}
+use Rattle.spi_rules.specs.Words.{unfinished, leftBuffer, waitingIn}
+use Rattle.spi_rules.specs.Demands.{edgesMade, IsIdle}
+use Rattle.spi_rules.proofs.Keeps.{if-keeps, and-false, clash, or-left}
+use Rattle.spi_rules.proofs.Sizes.{width-most}
+use Rattle.spi_rules.proofs.BuffersOrder.{waiting-length}
+use Rattle.spi_rules.proofs.RefusalsUnchanged.{no-edge-unchanged}
+use Rattle.spi_rules.proofs.InvariantHolds.{call-keeps}
+use Rattle.spi_rules.proofs.OwedParts.{givenIn, owedIn, AllUndisturbing}
+use Rattle.spi_rules.proofs.OwedCalls.{calls-pay, calls-leave, none-owed-idle, no-edge-owes-none}
+use Rattle.spi_link_rules.proofs.LinkRuns.{Allowed, link-when, link-is, run-host, run-counts, turn-within}
+
+-- At most one word has left the transmit buffer and is not finished.
+one-unfinished : (s : Settings) (sh : Shift) → length (unfinished s sh) ≤ 1
+one-unfinished s Free = omega arith
+one-unfinished s (Loaded word) = omega arith
+one-unfinished s (Begun p) =
+    if-keeps (λ (l : List ℕ). length l ≤ 1) (p .filler || ssenClient s) [] (p .word ∷ []) (λ e. omega arith) (λ e. omega arith)
+
+-- A buffer holds no more than in enhanced operation.
+depth-within : (s : Settings) → depthOf s ≤ enhancedDepth
+unfolding depthOf
+depth-within s =
+    if-keeps (λ (d : ℕ). d ≤ enhancedDepth) (s .con2 .spiben) enhancedDepth 1 (λ e. omega arith) (λ e. omega arith)
+
+-- No module that calls reach owes more edges than a full buffer and one more word of 16 bits take.
+pub owed-most : (m : Module) → ModuleHolds m → owedIn m ≤ mostEdges
+owed-most m h =
+    let words : length (leftBuffer m) + length (waitingIn m) ≤ enhancedDepth + 1 =
+    omega (arith, one-unfinished (m .settings) (m .engine .shift), waiting-length (depthOf (m .settings)) (m .engine .transmit), h .transmit .fits, depth-within (m .settings)) in
+    let edges : 2 * widthOf (m .settings) ≤ 2 * 16 = omega (arith, width-most (m .settings)) in
+    le-trans (sub-le _ (givenIn (m .engine .shift))) (mul-le-mul edges words)
+
+-- A tick leaves the settings.
+tick-settings : (m : Module) (sdi : Bool) → tickOf m sdi .after .settings ≡ m .settings
+unfolding tickOf refuse answering
+tick-settings m sdi =
+    let P : Outcome → Type 0 = λ (o : Outcome). o .after .settings ≡ m .settings in
+    if-keeps P (not (m .settings .spien)) _ _ (λ e. refl)
+    (λ on.
+    if-keeps P (not (ownClock (m .settings))) _ _ (λ e. refl)
+    (λ own. if-keeps P (isFree (m .engine .shift)) _ _ (λ e. refl) (λ e. refl)))
+
+-- A tick of an enabled host with its own clock that makes no edge says so.
+tick-none : (m : Module) (sdi : Bool) → m .settings .spien ≡ true → ownClock (m .settings) ≡ true →
+    madeEdge (tickOf m sdi .answer) ≡ false → tickOf m sdi .answer ≡ NoEdge
+unfolding tickOf answering madeEdge
+tick-none m sdi on own =
+    let P : Outcome → Type 0 = λ (o : Outcome). madeEdge (o .answer) ≡ false → o .answer ≡ NoEdge in
+    if-keeps P (not (m .settings .spien)) _ _ (λ off. clash (not (m .settings .spien)) off (ap not on))
+    (λ e.
+    if-keeps P (not (ownClock (m .settings))) _ _ (λ pin. clash (not (ownClock (m .settings))) pin (ap not own))
+    (λ f. if-keeps P (isFree (m .engine .shift)) _ _ (λ free none. refl) (λ busy none. clash true refl none)))
+
+-- The host's calls leave it undisturbed: they are ticks.
+turn-undisturbed : (left : ℕ) (host client : Module) → host .settings .spien ≡ true →
+    AllUndisturbing host (hostCalls left host client)
+unfolding hostCalls hostTicked performOf
+turn-undisturbed zero host client on = tt
+turn-undisturbed (suc left) host client on =
+    let sdi : Bool = levelRead (sdoOf client) in
+    let ticked : Outcome = tickOf host sdi in
+    let still : ticked .after .settings .spien ≡ true = ap (λ (s : Settings). s .spien) (tick-settings host sdi) ∙ on in (
+      record { enabled = still; noWord = and-false (isDone (ticked .answer)) false refl },
+      if-keeps (λ (cs : List Call). AllUndisturbing (ticked .after) cs) (madeEdge (ticked .answer)) _ _
+          (λ e. turn-undisturbed left (ticked .after) (clientSees (ticked .after) client) still)
+          (λ e. tt),
+    )
+
+-- A turn that leaves edges of the limit leaves a host that owes none.
+turn-stops : (left : ℕ) (host client : Module) → ModuleHolds host → host .settings .spien ≡ true →
+    ownClock (host .settings) ≡ true → hostTurn left host client .used < left → owedIn (hostTurn left host client .host) ≡ 0
+unfolding hostTurn handedOver clientTurn oneMore runStops hostTicked performOf
+turn-stops zero host client h on own = λ k. absurd (omega (arith, k))
+turn-stops (suc left) host client h on own =
+    let sdi : Bool = levelRead (sdoOf client) in
+    let ticked : Outcome = tickOf host sdi in
+    let same : ticked .after .settings ≡ host .settings = tick-settings host sdi in
+    if-keeps (λ (r : Run). r .used < suc left → owedIn (r .host) ≡ 0) (madeEdge (ticked .answer)) _ _
+    (λ e k.
+    turn-stops left (ticked .after) (clientSees (ticked .after) client) (call-keeps host (Tick sdi) h)
+    (ap (λ (s : Settings). s .spien) same ∙ on)
+    (ap ownClock same ∙ own)
+    (omega (arith, k)))
+    (λ e k.
+    let none : tickOf host sdi .answer ≡ NoEdge = tick-none host sdi on own e in
+    ap owedIn (no-edge-unchanged host (Tick sdi) none) ∙ no-edge-owes-none host h on own sdi none)
+
+-- What is used: all that is owed if the limit allows it, and else the limit.
+all-owed : (used left debt limit : ℕ) → used + left ≡ debt → used ≤ limit → (used < limit → left ≡ 0) → debt ≤ limit → used ≡ debt
+all-owed used left debt limit e k short most = go (ltb used limit) refl
+  where
+    go : (b : Bool) → ltb used limit ≡ b → used ≡ debt
+    go true f = let none : left ≡ 0 = short (ltb-true used limit f) in omega arith
+    go false f = let full : limit ≤ used = ltb-false used limit f in omega arith
+
+all-limit : (used left debt limit : ℕ) → used + left ≡ debt → used ≤ limit → (used < limit → left ≡ 0) → limit ≤ debt → used ≡ limit
+all-limit used left debt limit e k short least = go (ltb used limit) refl
+  where
+    go : (b : Bool) → ltb used limit ≡ b → used ≡ limit
+    go true f = let none : left ≡ 0 = short (ltb-true used limit f) in omega arith
+    go false f = let full : limit ≤ used = ltb-false used limit f in omega arith
+
+-- Nothing is left where all is used.
+nothing-left : (used left debt : ℕ) → used ≡ debt → used + left ≡ debt → left ≡ 0
+nothing-left used left debt all e = omega arith
+
+-- A host in a run that is not refused is enabled and has its own clock.
+pub host-on : (host client : Module) (limit : ℕ) → Allowed host client limit → host .settings .spien ≡ true
+host-on host client limit a = not-false (host .settings .spien) (or-left _ (not (client .settings .spien)) (a .enabled))
+
+host-own : (host client : Module) (limit : ℕ) → Allowed host client limit → ownClock (host .settings) ≡ true
+host-own host client limit a = not-false (ownClock (host .settings)) (or-left _ (client .settings .con1 .msten) (a .roles))
+
+module _ (host client : Module) (limit n : ℕ) (h : ModuleHolds host) (e : linkedOf host client limit .answer ≡ linked.Used n) where
+  -- What the tests have found.
+  allowed : Allowed host client limit
+  allowed = link-when host client limit n e .0
+
+  -- The edges that the host's calls make are those used.
+  made : edgesMade host (runHostCalls host client limit) ≡ n
+  made = sym (run-counts host client limit) ∙ link-when host client limit n e .1
+
+  -- The host in the end.
+  host-after : linkedOf host client limit .host ≡ afterCalls host (runHostCalls host client limit)
+  unfolding toldOf
+  host-after =
+      ap (λ (l : Linked). l .host) (link-is host client limit allowed)
+      ∙ run-host host client limit
+
+  -- The host's calls leave it undisturbed.
+  undisturbed : AllUndisturbing host (runHostCalls host client limit)
+  unfolding runHostCalls
+  undisturbed = turn-undisturbed limit host (clientSees host client) (host-on host client limit allowed)
+
+  -- The edges used are what the host's debt fell by.
+  pub link-pays : n + owedIn (linkedOf host client limit .host) ≡ owedIn host
+  link-pays =
+      ap (λ (m : Module). n + owedIn m) host-after
+      ∙ ap (λ (k : ℕ). k + owedIn (afterCalls host (runHostCalls host client limit))) (sym made)
+      ∙ calls-pay (runHostCalls host client limit) host h (host-on host client limit allowed)
+      (host-own host client limit allowed) undisturbed
+
+  -- No more is used than the limit, and if less is used the host owes nothing more.
+  within : n ≤ limit
+  unfolding runOf
+  within = subst (λ (k : ℕ). k ≤ limit) (link-when host client limit n e .1) (turn-within limit host (clientSees host client))
+
+  stopped : n < limit → owedIn (linkedOf host client limit .host) ≡ 0
+  unfolding runOf toldOf
+  stopped short =
+      ap (λ (l : Linked). owedIn (l .host)) (link-is host client limit allowed)
+      ∙ turn-stops limit host (clientSees host client) h (host-on host client limit allowed) (host-own host client limit allowed)
+      (subst (λ (k : ℕ). k < limit) (sym (link-when host client limit n e .1)) short)
+
+  -- With a limit of at least what the host owes, exactly that is used, and the host is idle.
+  pub link-uses-owed : owedIn host ≤ limit → (n ≡ owedIn host) × IsIdle (linkedOf host client limit .host)
+  link-uses-owed most =
+      let all : n ≡ owedIn host = all-owed n _ (owedIn host) limit link-pays within stopped most in
+      let left =
+      calls-leave (runHostCalls host client limit) host h (host-on host client limit allowed)
+      (host-own host client limit allowed) undisturbed in (
+        all,
+        subst IsIdle (sym host-after)
+            (none-owed-idle _ (left .0) (left .1) (left .2)
+            (nothing-left n (owedIn (afterCalls host (runHostCalls host client limit))) (owedIn host) all
+            (ap (λ (m : Module). n + owedIn m) (sym host-after) ∙ link-pays))),
+      )
+
+  -- With a limit of at most that, exactly the limit is used.
+  pub link-uses-limit : limit ≤ owedIn host → n ≡ limit
+  link-uses-limit least = all-limit n _ (owedIn host) limit link-pays within stopped least

@@ -1,0 +1,4 @@
+-- Document 01's rules of two modules on one wire, and the demands on them.
+pub mod Link
+pub mod LinkExamples
+pub mod LinkDemands

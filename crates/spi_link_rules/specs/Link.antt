@@ -1,0 +1,147 @@
+-- Document 01, "Two modules on one wire": a linked run of a host with its own clock and a client.
+use Prim.Native.Nat.{ℕ, zero, suc, _+_, _*_}
+use mathlib.Core.Bool.{Bool, true, false, not, _||_, Bool·beq}
+use mathlib.Core.List.{List, [], _∷_}
+use lib.Dec.{eqb, ltb}
+use Rattle.spi_rules.specs.declared.Settings.{Settings}
+use Rattle.spi_rules.specs.declared.Module.{Module}
+use Rattle.spi_rules.specs.declared.Outcome.{Outcome}
+use Rattle.spi_rules.specs.declared.Refusal.{Refusal}
+use Rattle.spi_rules.specs.declared.Refusal.the-variants.{Disabled, WrongClock, DifferentModes, TooManyEdges}
+use Rattle.spi_rules.specs.declared.Answer.{Answer}
+use Rattle.spi_rules.specs.declared.Answer.the-variants.{Refused, Done, Value, NoEdge, Edge}
+use Rattle.spi_rules.specs.declared.Call.{Call}
+use Rattle.spi_rules.specs.declared.Call.the-variants.{Tick, Pin}
+use Rattle.spi_rules.specs.declared.Sdo.{Sdo}
+use Rattle.spi_rules.specs.declared.Sdo.the-variants.{Low, High, Undriven}
+use Rattle.spi_link_rules.specs.declared.Run.{Run}
+use Rattle.spi_link_rules.specs.declared.LinkAnswer.{LinkAnswer}
+use Rattle.spi_link_rules.specs.declared.LinkAnswer.the-variants as linked
+use Rattle.spi_link_rules.specs.declared.LinkSaid.{LinkSaid}
+use Rattle.spi_link_rules.specs.declared.Linked.{Linked}
+use Rattle.spi_rules.specs.Choice.{if_then_else_}
+use Rattle.spi_rules.specs.Settings.{widthOf, enhancedDepth, ownClock}
+use Rattle.spi_rules.specs.Refusals.{numberOf}
+use Rattle.spi_rules.specs.Calls.{tickOf, pinsOf, sckOf, sdoOf}
+
+-- The most edges that one host can still owe, and that a run may be asked for: two for each of 16 bits, for every word of
+-- a full buffer and the one in the shift register.
+abbrev pub mostEdges : ℕ
+mostEdges = 2 * 16 * (enhancedDepth + 1)
+
+-- The level that the other end of a wire reads: undriven reads 0.
+unfoldable pub levelRead : Sdo → Bool
+levelRead Low = false
+levelRead High = true
+levelRead Undriven = false
+
+-- An answer that tells of an edge made.
+unfoldable pub madeEdge : Answer → Bool
+madeEdge (Refused r) = false
+madeEdge Done = false
+madeEdge (Value v) = false
+madeEdge NoEdge = false
+madeEdge Edge = true
+
+-- The host's tick takes the client's present SDO.
+unfoldable pub hostTicked : Module → Module → Outcome
+hostTicked host client = tickOf host (levelRead (sdoOf client))
+
+-- The client sees the host's present SCK and SDO with SS low.
+unfoldable pub clientSees : Module → Module → Module
+clientSees host client = pinsOf client (sckOf host) (levelRead (sdoOf host)) false .after
+
+-- The run stops: no further edge is used.
+unfoldable pub runStops : Module → Module → Run
+runStops host client = record { used = 0; host = host; client = client }
+
+-- One more edge is used.
+unfoldable pub oneMore : Run → Run
+oneMore r = record { used = r .used + 1; host = r .host; client = r .client }
+
+-- The client's turn, after an edge of the host: it sees the host's new levels and hands back.
+unfoldable pub clientTurn : (Module → Module → Run) → Module → Module → Run
+clientTurn back host client = oneMore (back host (clientSees host client))
+
+-- Once the host has ticked: an edge hands over to the client's turn, and no edge ends the run.
+unfoldable pub handedOver : (Module → Module → Run) → Outcome → Module → Run
+handedOver back ticked client =
+    if madeEdge (ticked .answer) then clientTurn back (ticked .after) client else runStops (ticked .after) client
+
+-- The host's turn with some edges left: with none left the run ends, else the host ticks. The client's turn hands back
+-- with one edge fewer left.
+unfoldable pub hostTurn : ℕ → Module → Module → Run
+hostTurn zero host client = runStops host client
+hostTurn (suc left) host client = handedOver (hostTurn left) (hostTicked host client) client
+
+-- A run begins by showing the client the host's present levels. That is no edge of the host, and is made also if the
+-- limit is 0.
+unfoldable pub runOf : Module → Module → ℕ → Run
+runOf host client limit = hostTurn limit host (clientSees host client)
+
+-- Refusal 2: the host or the client is disabled.
+abbrev pub eitherDisabled : Settings → Settings → Bool
+eitherDisabled host client = not (host .spien) || not (client .spien)
+
+-- Refusal 7: the host has no clock of its own, or the client is no client.
+abbrev pub wrongRoles : Settings → Settings → Bool
+wrongRoles host client = not (ownClock host) || client .con1 .msten
+
+-- Refusal 10: the modules differ in CKP, CKE or width.
+abbrev pub differentModes : Settings → Settings → Bool
+differentModes host client =
+    not (Bool·beq (host .con1 .ckp) (client .con1 .ckp))
+    || (not (Bool·beq (host .con1 .cke) (client .con1 .cke)) || not (eqb (widthOf host) (widthOf client)))
+
+-- A refused run leaves both modules as they were.
+unfoldable pub refuseLink : Module → Module → Refusal → Linked
+refuseLink host client r = record { answer = linked.Refused r; host = host; client = client }
+
+-- A run tells the edges used, the host's only.
+unfoldable pub toldOf : Run → Linked
+toldOf r = record { answer = linked.Used (r .used); host = r .host; client = r .client }
+
+-- A linked run: 11, then 2 for the host and the client, 7, 10; then the run.
+unfoldable pub linkedOf : Module → Module → ℕ → Linked
+linkedOf host client limit =
+    if ltb mostEdges limit then refuseLink host client TooManyEdges
+    else if eitherDisabled (host .settings) (client .settings) then refuseLink host client Disabled
+    else if wrongRoles (host .settings) (client .settings) then refuseLink host client WrongClock
+    else if differentModes (host .settings) (client .settings) then refuseLink host client DifferentModes
+    else toldOf (runOf host client limit)
+
+-- What the answer of a linked run says in the paper's numbers.
+unfoldable pub linkSaidOf : LinkAnswer → LinkSaid
+linkSaidOf (linked.Refused r) = record { number = numberOf r; edges = 0 }
+linkSaidOf (linked.Used n) = record { number = 0; edges = n }
+
+-- The calls that a run makes at each end, in their order. Each tick carries the client's SDO at that moment, and each pin
+-- call the host's levels at that moment with SS low. A tick that makes no edge is the last call.
+
+-- The pin call that shows a client the host's present levels.
+unfoldable pub shownLevels : Module → Call
+shownLevels host = Pin (sckOf host) (levelRead (sdoOf host)) false
+
+-- The host's calls from its turn on.
+unfoldable pub hostCalls : ℕ → Module → Module → List Call
+hostCalls zero host client = []
+hostCalls (suc left) host client =
+    let ticked : Outcome = hostTicked host client in
+    Tick (levelRead (sdoOf client))
+    ∷ (if madeEdge (ticked .answer) then hostCalls left (ticked .after) (clientSees (ticked .after) client) else [])
+
+-- The client's calls from the host's turn on.
+unfoldable pub clientCalls : ℕ → Module → Module → List Call
+clientCalls zero host client = []
+clientCalls (suc left) host client =
+    let ticked : Outcome = hostTicked host client in
+    if madeEdge (ticked .answer)
+    then shownLevels (ticked .after) ∷ clientCalls left (ticked .after) (clientSees (ticked .after) client)
+    else []
+
+-- The host's calls in a whole run, and the client's.
+unfoldable pub runHostCalls : Module → Module → ℕ → List Call
+runHostCalls host client limit = hostCalls limit host (clientSees host client)
+
+unfoldable pub runClientCalls : Module → Module → ℕ → List Call
+runClientCalls host client limit = shownLevels host ∷ clientCalls limit host (clientSees host client)

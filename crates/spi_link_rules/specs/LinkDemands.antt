@@ -1,0 +1,70 @@
+-- The customer's demands on two modules on one wire. The record LinkedRuns holds every statement, and
+-- proofs/LinkDemandsHold.antt proves it. A run is said to be made if its refusal number is 0.
+use Prim.Native.Nat.{ℕ, _≤_}
+use mathlib.Core.Bool.{Bool, true, false, not, _||_, Bool·beq}
+use mathlib.Core.List.{List, [], _∷_, _++_}
+use mathlib.Core.Path.{_≡_}
+use lib.Dec.{eqb, ltb}
+use Rattle.spi_rules.specs.declared.Module.{Module}
+use Rattle.spi_rules.specs.declared.Call.{Call}
+use Rattle.spi_rules.specs.Settings.{widthOf}
+use Rattle.spi_rules.specs.RefusalTable.{Row, row, firstNumber, clocksItself}
+use Rattle.spi_rules.specs.Demands.{Beginning, life, owed, edgesMade, IsIdle}
+use Rattle.spi_link_rules.specs.declared.Linked.{Linked}
+use Rattle.spi_link_rules.specs.Link.{linkedOf, linkSaidOf, runHostCalls, runClientCalls}
+use Rattle.spi_link_rules.specs.LinkExamples.{exampleL, linkExamples}
+
+-- The refusal table's rows for a linked run, in the order of the tests: 11, then 2 for the host and the client, 7, 10.
+abbrev pub linkRows : Module → Module → ℕ → List Row
+linkRows host client limit =
+    -- asked for more than 288 edges
+    row 11 (ltb 288 limit)
+    -- either module disabled
+    ∷ row 2 (not (host .settings .spien) || not (client .settings .spien))
+    -- wrong roles: the host has no clock of its own, or the client is a host
+    ∷ row 7 (not (clocksItself (host .settings .con1)) || client .settings .con1 .msten)
+    -- the modules differ in CKP, CKE or width
+    ∷ row 10
+    (not (Bool·beq (host .settings .con1 .ckp) (client .settings .con1 .ckp))
+    || (not (Bool·beq (host .settings .con1 .cke) (client .settings .con1 .cke))
+    || not (eqb (widthOf (host .settings)) (widthOf (client .settings)))))
+    ∷ []
+
+-- What a run says in the paper's numbers.
+abbrev pub refusalOf : Module → Module → ℕ → ℕ
+refusalOf host client limit = linkSaidOf (linkedOf host client limit .answer) .number
+
+abbrev pub edgesUsed : Module → Module → ℕ → ℕ
+edgesUsed host client limit = linkSaidOf (linkedOf host client limit .answer) .edges
+
+-- A run is refused exactly as the table says, and then leaves both ends unchanged. A run that is made does to each end what
+-- its list of calls does: each tick of the host carries the client's SDO, each pin call of the client the host's levels
+-- with SS low. So the ends of a run are among the modules that lists of calls reach, and all that is said of one module
+-- (its invariant, word order, flags) is said of them. The edges used are those that the host made: never more than the
+-- limit, and all that it owed if the limit allows it, after which it is idle. No module owes more than 288, so that limit
+-- always ends idle. The client stays selected. An equation with a function leaves no two outcomes.
+pub record LinkedRuns : Type 0 where
+  pub refusedExactly : (host client : Module) (limit : ℕ) →
+      refusalOf host client limit ≡ firstNumber (linkRows host client limit)
+  pub refusedUnchanged : (host client : Module) (limit : ℕ) → 1 ≤ refusalOf host client limit →
+      (linkedOf host client limit .host ≡ host) × (linkedOf host client limit .client ≡ client)
+  pub oneOutcome : (host client : Module) (limit : ℕ) (x y : Linked) → x ≡ linkedOf host client limit →
+      y ≡ linkedOf host client limit → x ≡ y
+  pub paperExamples : (exampleL ≡ true) × (linkExamples ≡ true)
+  pub hostLives : (b d : Beginning) (cs ds : List Call) (limit : ℕ) →
+      refusalOf (life b cs .now) (life d ds .now) limit ≡ 0 →
+      linkedOf (life b cs .now) (life d ds .now) limit .host
+      ≡ life b (cs ++ runHostCalls (life b cs .now) (life d ds .now) limit) .now
+  pub clientLives : (b d : Beginning) (cs ds : List Call) (limit : ℕ) →
+      refusalOf (life b cs .now) (life d ds .now) limit ≡ 0 →
+      linkedOf (life b cs .now) (life d ds .now) limit .client
+      ≡ life d (ds ++ runClientCalls (life b cs .now) (life d ds .now) limit) .now
+  pub countsEdges : (host client : Module) (limit : ℕ) → refusalOf host client limit ≡ 0 →
+      edgesUsed host client limit ≡ edgesMade host (runHostCalls host client limit)
+  pub withinLimit : (host client : Module) (limit : ℕ) → edgesUsed host client limit ≤ limit
+  pub usesOwed : (b : Beginning) (cs : List Call) (client : Module) (limit : ℕ) →
+      refusalOf (life b cs .now) client limit ≡ 0 → owed (life b cs) ≤ limit →
+      (edgesUsed (life b cs .now) client limit ≡ owed (life b cs)) × IsIdle (linkedOf (life b cs .now) client limit .host)
+  pub mostOwed : (b : Beginning) (cs : List Call) → life b cs .now .settings .spien ≡ true → owed (life b cs) ≤ 288
+  pub staysSelected : (host client : Module) (limit : ℕ) → refusalOf host client limit ≡ 0 →
+      linkedOf host client limit .client .engine .pins .ss ≡ false

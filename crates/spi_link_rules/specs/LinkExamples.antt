@@ -1,0 +1,102 @@
+-- Document 01's checked example l, and further examples of linked runs: what the run's answer must say, and steps that must
+-- hold at each end after it.
+use Prim.Native.Nat.{ℕ}
+use mathlib.Core.Bool.{Bool, true, false, _&&_}
+use mathlib.Core.List.{List, [], _∷_, _++_}
+use lib.Dec.{eqb}
+use lib.ListN.{replicate}
+use Rattle.spi_rules.specs.declared.Module.{Module}
+use Rattle.spi_rules.specs.declared.Call.the-variants.{Read, Write, Tick}
+use Rattle.spi_rules.specs.declared.Sdo.the-variants.{Low}
+use Rattle.spi_rules.specs.Calls.{poweredUp}
+use Rattle.spi_rules.specs.Examples.{Step, says, shows, ok, value, noEdge, edge, refused, allHold, afterSteps, set-up}
+use Rattle.spi_link_rules.specs.declared.LinkSaid.{LinkSaid}
+use Rattle.spi_link_rules.specs.declared.Linked.{Linked}
+use Rattle.spi_link_rules.specs.Link.{linkedOf, linkSaidOf}
+
+-- What the answer of a run says: the edges used, or a refusal.
+abbrev pub used : ℕ → LinkSaid
+used n = record { number = 0; edges = n }
+
+abbrev pub linkRefused : ℕ → LinkSaid
+linkRefused n = record { number = n; edges = 0 }
+
+abbrev pub linkHolds : Linked → LinkSaid → List Step → List Step → Bool
+linkHolds l said host client =
+    (eqb (linkSaidOf (l .answer) .number) (said .number) && eqb (linkSaidOf (l .answer) .edges) (said .edges))
+    && (allHold (l .host) host && allHold (l .client) client)
+
+-- A module configured, enabled and given some equal words to send.
+abbrev pub ready : ℕ → ℕ → ℕ → ℕ → Module
+ready con1 con2 words word =
+    afterSteps poweredUp (set-up con1 con2 ++ replicate words (says (Write 3 word) ok))
+
+-- l. A host with A5 and a client with 3C, linked, 16 edges: the host reads 3C, the client A5.
+abbrev pub hostL : Module
+hostL = ready 0x0020 0x0000 1 0x00A5
+
+abbrev pub clientL : Module
+clientL = ready 0x0000 0x0000 1 0x003C
+
+abbrev pub exampleL : Bool
+exampleL =
+    linkHolds (linkedOf hostL clientL 16) (used 16)
+    (says (Read 3) (value 0x003C) ∷ says (Tick true) noEdge ∷ [])
+    (says (Read 3) (value 0x00A5) ∷ [])
+
+-- Nothing was read, and the host still owes its word.
+abbrev pub unreadHost : List Step
+unreadHost = says (Read 3) (refused 6) ∷ says (Tick true) edge ∷ []
+
+abbrev pub unreadClient : List Step
+unreadClient = says (Read 3) (refused 6) ∷ []
+
+-- The limit 288 is allowed and uses no more than the host owes; 289 gives 11.
+abbrev pub linkLimits : Bool
+linkLimits =
+    linkHolds (linkedOf hostL clientL 288) (used 16)
+    (says (Read 3) (value 0x003C) ∷ says (Tick true) noEdge ∷ [])
+    (says (Read 3) (value 0x00A5) ∷ [])
+    && linkHolds (linkedOf hostL clientL 289) (linkRefused 11) unreadHost unreadClient
+
+-- Nine words of 16 bits owe 288 edges, and the limit 288 sends them all.
+abbrev pub linkNine : Bool
+linkNine =
+    linkHolds (linkedOf (ready 0x0420 0x0001 9 0xA5C3) (ready 0x0400 0x0001 0 0) 288) (used 288)
+    (says (Tick true) noEdge ∷ [])
+    (replicate 8 (says (Read 3) (value 0xA5C3)) ++ (says (Read 3) (refused 6) ∷ []))
+
+-- With the limit 0 nothing is used, and with 15 no word is finished.
+abbrev pub linkShort : Bool
+linkShort =
+    linkHolds (linkedOf hostL clientL 0) (used 0) unreadHost unreadClient
+    && linkHolds (linkedOf hostL clientL 15) (used 15) unreadHost unreadClient
+
+-- A client whose SDO is undriven is read as zeros. An SSEN client is selected, and stays so after the run. With CKE 1 its
+-- top bit is on the wire before the first edge.
+abbrev pub linkWires : Bool
+linkWires =
+    linkHolds (linkedOf hostL (ready 0x0800 0x0000 1 0x003C) 16) (used 16)
+    (says (Read 3) (value 0x0000) ∷ [])
+    (says (Read 3) (value 0x00A5) ∷ [])
+    && linkHolds (linkedOf hostL (ready 0x0080 0x0000 1 0x003C) 16) (used 16)
+    (says (Read 3) (value 0x003C) ∷ [])
+    (shows Low ∷ says (Read 3) (value 0x00A5) ∷ [])
+    && linkHolds (linkedOf (ready 0x0120 0x0000 1 0x00A5) (ready 0x0180 0x0000 1 0x00BC) 16) (used 16)
+    (says (Read 3) (value 0x00BC) ∷ [])
+    (says (Read 3) (value 0x00A5) ∷ [])
+
+-- 2 for either end before 7, 7 for a host in the client's place and for a DISSCK host, then 10 for each of the three.
+abbrev pub linkRefusals : Bool
+linkRefusals =
+    linkHolds (linkedOf poweredUp clientL 16) (linkRefused 2) [] unreadClient
+    && linkHolds (linkedOf clientL poweredUp 16) (linkRefused 2) unreadClient []
+    && linkHolds (linkedOf clientL hostL 16) (linkRefused 7) unreadClient unreadHost
+    && linkHolds (linkedOf (ready 0x1020 0x0000 1 0x00A5) clientL 16) (linkRefused 7) [] unreadClient
+    && linkHolds (linkedOf hostL (ready 0x1020 0x0000 1 0x00A5) 16) (linkRefused 7) unreadHost []
+    && linkHolds (linkedOf hostL (ready 0x0040 0x0000 1 0x003C) 16) (linkRefused 10) unreadHost unreadClient
+    && linkHolds (linkedOf hostL (ready 0x0180 0x0000 1 0x003C) 16) (linkRefused 10) unreadHost unreadClient
+    && linkHolds (linkedOf hostL (ready 0x0400 0x0000 1 0x003C) 16) (linkRefused 10) unreadHost unreadClient
+
+abbrev pub linkExamples : Bool
+linkExamples = linkLimits && (linkNine && (linkShort && (linkWires && linkRefusals)))

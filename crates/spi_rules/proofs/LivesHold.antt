@@ -1,0 +1,89 @@
+-- What is true of a module and its ledger after any calls, from any beginning (specs/Demands.antt).
+--     life-holds     the invariant, and that an enabled module is tied to its ledger
+--     call-changes   what a call changes
+--     word-order     word order of an enabled module
+-- Assumes nothing.
+use Prim.Native.Nat.{ℕ}
+use mathlib.Core.Bool.{Bool, true, false, not, _&&_, _||_}
+use mathlib.Core.List.{List, [], _∷_}
+use mathlib.Core.Path.{_≡_, refl, sym, ap, _∙_}
+use lib.Dec.{leb}
+use lib.ListN.{length}
+use Rattle.spi_rules.specs.declared.Module.{Module}
+use Rattle.spi_rules.specs.declared.Call.{Call}
+use Rattle.spi_rules.specs.Choice.{if_then_else_}
+use Rattle.spi_rules.specs.Settings.{depthOf}
+use Rattle.spi_rules.specs.Words.{unreadIn}
+use Rattle.spi_rules.specs.Calls.{poweredUp, performOf, interruptOf}
+use Rattle.spi_rules.specs.Invariant.{ModuleHolds}
+use Rattle.spi_rules.specs.Ledger.{unmarked}
+use Rattle.spi_rules.specs.Watch.{Watched, watchedCall}
+use Rattle.spi_rules.specs.Demands.{allUnmarked, resumed, Beginning, powerUp, midLife, begins, life, CallChanges, WordOrder}
+use Rattle.spi_rules.proofs.Keeps.{clash}
+use Rattle.spi_rules.proofs.BuffersOrder.{unread-length}
+use Rattle.spi_rules.proofs.RefusalsKinds.{Fitting, call-fits}
+use Rattle.spi_rules.proofs.InvariantHolds.{powered-up-holds, call-keeps}
+use Rattle.spi_rules.proofs.OrderTied.{TiedNow, Follows}
+use Rattle.spi_rules.proofs.OrderKept.{call-follows, calls-follow}
+use Rattle.spi_rules.proofs.FlagsSdo.{sdo-shown}
+
+-- Words without a mark are all among the unmarked ones.
+unmarked-all : (words : List ℕ) → unmarked (allUnmarked words) ≡ words
+unfolding if_then_else_
+unmarked-all [] = refl
+unmarked-all (word ∷ words) = ap (λ (q : List ℕ). word ∷ q) (unmarked-all words)
+
+-- A module is tied to the ledger that opens with what it holds.
+resumed-tied : (m : Module) → TiedNow (m .settings) (m .engine) (resumed m)
+resumed-tied m =
+    record { sck = refl; ss = refl; carries = refl; sending = refl; receiving = unmarked-all (unreadIn m) }
+
+-- Power-up leaves the module disabled.
+power-up-off : poweredUp .settings .spien ≡ false
+unfolding poweredUp
+power-up-off = refl
+
+-- What a watched module and its ledger have: the invariant, and that they are tied while the module is enabled.
+pub record Lives (x : Watched) : Type 0 where
+  pub holds : ModuleHolds (x .now)
+  pub tied : x .now .settings .spien ≡ true → TiedNow (x .now .settings) (x .now .engine) (x .ledger)
+
+-- They have it at each beginning, and after any calls.
+begins-lives : (b : Beginning) → Lives (begins b)
+begins-lives powerUp =
+    record { holds = powered-up-holds; tied = λ on. clash (poweredUp .settings .spien) on power-up-off }
+begins-lives (midLife m holds enabled) = record { holds = holds; tied = λ on. resumed-tied m }
+
+pub life-holds : (b : Beginning) (cs : List Call) → Lives (life b cs)
+life-holds b cs =
+    let all = calls-follow cs (begins b) (begins-lives b .holds) (begins-lives b .tied) in
+    record { holds = all .0; tied = all .1 }
+
+module _ (x : Watched) (v : Lives x) where
+  followed : (c : Call) → Follows (x .now) (x .ledger) c (performOf (x .now) c)
+  followed = call-follows (x .now) (x .ledger) (v .holds) (v .tied)
+
+  -- What a call changes.
+  pub call-changes : (c : Call) → CallChanges x c
+  unfolding interruptOf
+  call-changes c =
+      let fits : Fitting (x .now .settings) c (performOf (x .now) c) = call-fits (x .now) c in
+      record {
+        stat = fits .stat;
+        con1 = fits .con1;
+        con2 = fits .con2;
+        flag = followed c .flag;
+        spirov = followed c .spirov;
+        sdo = sdo-shown x c (call-keeps (x .now) c (v .holds)) (followed c .tied);
+      }
+
+  -- Word order.
+  pub word-order : x .now .settings .spien ≡ true → WordOrder x
+  word-order on =
+      record {
+        sending = v .tied on .sending;
+        receiving = v .tied on .receiving;
+        dropped = λ c a more.
+            followed c .arrival on a more
+            ∙ ap (leb (depthOf (x .now .settings))) (sym (unread-length (depthOf (x .now .settings)) (x .now .engine .receive)));
+      }

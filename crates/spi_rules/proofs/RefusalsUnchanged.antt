@@ -1,0 +1,116 @@
+-- A call that is refused, or that answers "no edge", leaves the module as it was, whatever the module.
+--     refused-unchanged   a refused call changes nothing
+--     no-edge-unchanged   a tick that makes no edge changes nothing
+-- Assumes nothing.
+use Prim.Native.Nat.{ℕ}
+use mathlib.Core.Bool.{Bool, not, _&&_}
+use mathlib.Core.Path.{_≡_, refl}
+use lib.Dec.{eqb, ltb}
+use Rattle.spi_rules.specs.declared.Settings.{Settings}
+use Rattle.spi_rules.specs.declared.Module.{Module}
+use Rattle.spi_rules.specs.declared.Outcome.{Outcome}
+use Rattle.spi_rules.specs.declared.Refusal.{Refusal}
+use Rattle.spi_rules.specs.declared.Refusal.the-variants.{NoSuchRegister, Disabled, Enabled, TransmitFull, ReceiveEmpty, WrongClock}
+use Rattle.spi_rules.specs.declared.Answer.{Answer}
+use Rattle.spi_rules.specs.declared.Answer.the-variants.{Refused, Done, Value, NoEdge, Edge}
+use Rattle.spi_rules.specs.declared.Call.{Call}
+use Rattle.spi_rules.specs.declared.Call.the-variants.{Read, Write, Tick, Pin, Clear}
+use Rattle.spi_rules.specs.Choice.{if_then_else_}
+use Rattle.spi_rules.specs.Settings.{ownClock}
+use Rattle.spi_rules.specs.Refusals.{causes, badSettings, firstGiven}
+use Rattle.spi_rules.specs.Registers.{isFree, spitbf}
+use Rattle.spi_rules.specs.Buffers.{empty}
+use Rattle.spi_rules.specs.Calls.{refuse, answering, turnsOn, readBuf, readOf, writeStat, configured, writeBuf, writeOf, tickOf, pinsOf, clearOf, performOf}
+use Rattle.spi_rules.proofs.Keeps.{if-keeps}
+use Rattle.spi_rules.proofs.Parts.{Unmoved}
+
+-- The module is as it was, whatever is answered.
+same-unmoved : (m : Module) (a : Answer) → Unmoved m (record { answer = a; after = m })
+same-unmoved m a = (λ r e. refl, λ e. refl)
+
+-- A refusal keeps the module.
+refuse-unmoved : (m : Module) (r : Refusal) → Unmoved m (refuse m r)
+unfolding refuse
+refuse-unmoved m r = same-unmoved m (Refused r)
+
+-- Nothing is refused where there is nothing to tell.
+done-unmoved : (m after : Module) → Unmoved m (record { answer = Done; after = after })
+done-unmoved m after = (λ r e. cc, λ e. cc)
+
+-- Nothing is refused where a value is told.
+told-unmoved : (m after : Module) (v : ℕ) → Unmoved m (record { answer = Value v; after = after })
+told-unmoved m after v = (λ r e. cc, λ e. cc)
+
+-- Nothing is refused where an edge is made.
+edge-unmoved : (m after : Module) → Unmoved m (record { answer = Edge; after = after })
+edge-unmoved m after = (λ r e. cc, λ e. cc)
+
+-- A choice between two outcomes keeps the module if both do.
+either-unmoved : (m : Module) (b : Bool) (x y : Outcome) → Unmoved m x → Unmoved m y → Unmoved m (if b then x else y)
+either-unmoved m b x y h k = if-keeps (Unmoved m) b x y (λ e. h) (λ e. k)
+
+-- A register read keeps the module unless it answers.
+read-unmoved : (m : Module) (register : ℕ) → Unmoved m (readOf m register)
+unfolding readOf readBuf answering
+read-unmoved m register =
+    either-unmoved m (ltb 3 register) _ _ (refuse-unmoved m NoSuchRegister)
+    (either-unmoved m (eqb register 0) _ _ (same-unmoved m _)
+    (either-unmoved m (eqb register 1) _ _ (same-unmoved m _)
+    (either-unmoved m (eqb register 2) _ _ (same-unmoved m _)
+    (either-unmoved m (not (m .settings .spien)) _ _ (refuse-unmoved m Disabled)
+    (either-unmoved m (empty (m .engine .receive .count)) _ _ (refuse-unmoved m ReceiveEmpty) (told-unmoved m _ _))))))
+
+-- New settings are refused or taken.
+configured-unmoved : (m : Module) (s : Settings) → Unmoved m (configured m s)
+unfolding configured
+configured-unmoved m s = either-unmoved m (m .settings .spien) _ _ (refuse-unmoved m Enabled) (done-unmoved m _)
+
+-- A register write keeps the module unless it is taken.
+write-unmoved : (m : Module) (register v : ℕ) → Unmoved m (writeOf m register v)
+unfolding writeOf writeStat writeBuf answering
+write-unmoved m register v =
+    either-unmoved m (ltb 3 register) _ _ (refuse-unmoved m NoSuchRegister)
+    (either-unmoved m (eqb register 0) _ _
+    (either-unmoved m (turnsOn (m .settings) v && badSettings (m .settings)) _ _ (refuse-unmoved m (firstGiven (causes (m .settings)))) (done-unmoved m _))
+    (either-unmoved m (eqb register 1) _ _ (configured-unmoved m _)
+    (either-unmoved m (eqb register 2) _ _ (configured-unmoved m _)
+    (either-unmoved m (not (m .settings .spien)) _ _ (refuse-unmoved m Disabled)
+    (either-unmoved m (spitbf m) _ _ (refuse-unmoved m TransmitFull) (done-unmoved m _))))))
+
+-- A tick keeps the module unless it makes an edge.
+tick-unmoved : (m : Module) (sdi : Bool) → Unmoved m (tickOf m sdi)
+unfolding tickOf answering
+tick-unmoved m sdi =
+    either-unmoved m (not (m .settings .spien)) _ _ (refuse-unmoved m Disabled)
+    (either-unmoved m (not (ownClock (m .settings))) _ _ (refuse-unmoved m WrongClock)
+    (either-unmoved m (isFree (m .engine .shift)) _ _ (same-unmoved m NoEdge) (edge-unmoved m _)))
+
+-- A pin call keeps the module unless it is done.
+pins-unmoved : (m : Module) (sck sdi ss : Bool) → Unmoved m (pinsOf m sck sdi ss)
+unfolding pinsOf answering
+pins-unmoved m sck sdi ss =
+    either-unmoved m (not (m .settings .spien)) _ _ (refuse-unmoved m Disabled)
+    (either-unmoved m (ownClock (m .settings)) _ _ (refuse-unmoved m WrongClock) (done-unmoved m _))
+
+-- The clear call is never refused.
+clear-unmoved : (m : Module) → Unmoved m (clearOf m)
+unfolding clearOf answering
+clear-unmoved m = done-unmoved m _
+
+-- Every call keeps the module unless it is taken.
+call-unmoved : (m : Module) (c : Call) → Unmoved m (performOf m c)
+unfolding performOf
+call-unmoved m (Read register) = read-unmoved m register
+call-unmoved m (Write register v) = write-unmoved m register v
+call-unmoved m (Tick sdi) = tick-unmoved m sdi
+call-unmoved m (Pin sck sdi ss) = pins-unmoved m sck sdi ss
+call-unmoved m Clear = clear-unmoved m
+
+-- A refused call leaves the module as it was.
+pub refused-unchanged : (m : Module) (c : Call) (r : Refusal) → performOf m c .answer ≡ Refused r →
+    performOf m c .after ≡ m
+refused-unchanged m c = call-unmoved m c .0
+
+-- A call that answers "no edge" leaves the module as it was.
+pub no-edge-unchanged : (m : Module) (c : Call) → performOf m c .answer ≡ NoEdge → performOf m c .after ≡ m
+no-edge-unchanged m c = call-unmoved m c .1

@@ -1,0 +1,9 @@
+-- What follows from the rules of the script program.
+pub mod ScriptLines
+pub mod ScriptSizes
+pub mod ScriptText
+pub mod SessionWhole
+-- The paper's figures:
+pub mod ScriptExamplesHold
+-- The demands, all of them:
+pub mod ScriptDemandsHold

@@ -1,0 +1,5 @@
+-- Document 01's rules of the script program, and the demands on it.
+pub mod Script
+pub mod Session
+pub mod ScriptExamples
+pub mod ScriptDemands
