@@ -127,7 +127,8 @@ static uint16_t library[MODULES][THURAFEQA_NUMBERS];
 static uint64_t ask_library(const struct call *c)
 {
     uint16_t *m = library[c->i];
-    struct thurafeqa_clock said;
+    struct thurafeqa_clock said = {0, 0, 0};
+    uint32_t answer;
 
     switch (c->kind) {
     case READ:
@@ -146,8 +147,8 @@ static uint64_t ask_library(const struct call *c)
     case LINKED:
         return thurafeqa_linked(m, library[c->j], c->a);
     default:
-        said = thurafeqa_clock(m, c->a);
-        return told(said.number, said.kind, said.rate, said.bittime,
+        answer = thurafeqa_clock(m, c->a, &said);
+        return told(answer >> 16, answer & 0xFFFF, said.rate, said.bittime,
                     said.below);
     }
 }

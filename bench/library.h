@@ -17,9 +17,9 @@ uint32_t thurafeqa_levels(const uint16_t *m);
 uint32_t thurafeqa_linked(uint16_t *host, uint16_t *client, uint32_t limit);
 
 struct thurafeqa_clock {
-    uint32_t number, kind;
     double rate, bittime, below;
 };
-struct thurafeqa_clock thurafeqa_clock(const uint16_t *m, uint32_t rate);
+uint32_t thurafeqa_clock(const uint16_t *m, uint32_t rate,
+                         struct thurafeqa_clock *report);
 
 #endif

@@ -1,17 +1,77 @@
-// Thurafeqa for Rust: a proved model of one dsPIC33/PIC24 SPI module, over libthurafeqa.a (x86-64 Linux).
-// Take this file in by `mod thurafeqa;` or `include!`; it needs nothing but `core`, and Rust 1.82 or later. The program
-// that uses it links the library: `rustc -L target/staticlib -l static=thurafeqa ..`, or the same from build.rs.
-// include/thurafeqa.h says of each call what it does and when it is refused.
+//! A proved model of one dsPIC33/PIC24 SPI module, over the library libthurafeqa.a.
+//!
+//! Take this file in by `mod thurafeqa;` or `include!`. It needs nothing but `core`, and Rust 1.82 or later. The program
+//! that uses it links the library that `./library` builds for its target: `rustc -L target/lib/x86_64-linux-gnu -l
+//! static=thurafeqa ..`, or the same from build.rs.
+//!
+//! A module is a value: a clone is a second module in the same state, and [`Module::words`] are what to save. Every call
+//! takes any module and any numbers, ends, and never panics. A refused call has changed nothing; [`Refusal`] says why, and
+//! each method names the refusals that it gives, in the order in which they are tested.
 
-/// One module. A clone is a second module in the same state.
+use core::fmt;
+
+/// Register numbers and the bits of the registers.
+#[allow(dead_code)] // a program need not name every bit
+pub mod register {
+    /// Status: enabling, the buffers' state, which event sets the interrupt flag.
+    pub const STAT: u32 = 0;
+    /// Control: width, clock mode, role, prescalers.
+    pub const CON1: u32 = 1;
+    /// Control: the buffers' depth.
+    pub const CON2: u32 = 2;
+    /// The data register.
+    pub const BUF: u32 = 3;
+
+    pub const STAT_SPIEN: u16 = 0x8000;
+    pub const STAT_SPISIDL: u16 = 0x2000;
+    pub const STAT_SPIBEC: u16 = 0x0700;
+    pub const STAT_SRMPT: u16 = 0x0080;
+    pub const STAT_SPIROV: u16 = 0x0040;
+    pub const STAT_SRXMPT: u16 = 0x0020;
+    pub const STAT_SISEL: u16 = 0x001C;
+    pub const STAT_SPITBF: u16 = 0x0002;
+    pub const STAT_SPIRBF: u16 = 0x0001;
+
+    pub const CON1_DISSCK: u16 = 0x1000;
+    pub const CON1_DISSDO: u16 = 0x0800;
+    pub const CON1_MODE16: u16 = 0x0400;
+    pub const CON1_SMP: u16 = 0x0200;
+    pub const CON1_CKE: u16 = 0x0100;
+    pub const CON1_SSEN: u16 = 0x0080;
+    pub const CON1_CKP: u16 = 0x0040;
+    pub const CON1_MSTEN: u16 = 0x0020;
+    pub const CON1_SPRE: u16 = 0x001C;
+    pub const CON1_PPRE: u16 = 0x0003;
+
+    pub const CON2_FRMEN: u16 = 0x8000;
+    pub const CON2_SPIFSD: u16 = 0x4000;
+    pub const CON2_FRMPOL: u16 = 0x2000;
+    pub const CON2_FRMDLY: u16 = 0x0002;
+    pub const CON2_SPIBEN: u16 = 0x0001;
+
+    // Where the fields of more than one bit begin.
+    pub const STAT_SPIBEC_SHIFT: u32 = 8;
+    pub const STAT_SISEL_SHIFT: u32 = 2;
+    pub const CON1_SPRE_SHIFT: u32 = 2;
+    pub const CON1_PPRE_SHIFT: u32 = 0;
+}
+
+/// The version of this file: major, minor and patch numbers. [`version`] tells the library's.
+#[allow(dead_code)]
+pub const VERSION: (u8, u8, u8) = (1, 0, 0);
+
+/// The format of a module's words. It rises wherever their meaning changes, so save it beside them.
+#[allow(dead_code)]
+pub const FORMAT: u32 = 1;
+
+/// One module. Equal modules have equal words; two that differ may still behave alike.
 #[repr(C)]
-#[derive(Clone, Debug)]
+#[derive(Clone, Debug, PartialEq, Eq)]
 pub struct Module([u16; 96]);
 
 #[repr(C)]
+#[derive(Default)]
 struct ClockReport {
-    number: u32,
-    kind: u32,
     rate: f64,
     bittime: f64,
     below: f64,
@@ -28,23 +88,35 @@ unsafe extern "C" {
     safe fn thurafeqa_clear(m: &mut Module);
     safe fn thurafeqa_levels(m: &Module) -> u32;
     safe fn thurafeqa_linked(host: &mut Module, client: &mut Module, limit: u32) -> u32;
-    safe fn thurafeqa_clock(m: &Module, rate: u32) -> ClockReport;
+    safe fn thurafeqa_clock(m: &Module, rate: u32, report: &mut ClockReport) -> u32;
+    safe fn thurafeqa_version() -> u32;
+    safe fn thurafeqa_format() -> u32;
 }
 
-/// Why a call was refused, under document 01's numbers. A refused call has changed nothing.
+/// Why a call was refused, under document 01's numbers.
 #[derive(Clone, Copy, Debug, PartialEq, Eq)]
 pub enum Refusal {
+    /// The register number is above 3.
     NoSuchRegister = 1,
+    /// SPIEN is 0.
     Disabled = 2,
+    /// CON1 or CON2 is written while SPIEN is 1.
     Enabled = 3,
+    /// These settings cannot be enabled.
     BadSettings = 4,
+    /// BUF is written, and the transmit buffer is full.
     TransmitFull = 5,
+    /// BUF is read, and nothing is unread.
     ReceiveEmpty = 6,
+    /// A tick where the pin gives the clock, a pin call where the module makes its own, or wrong roles in a linked run.
     WrongClock = 7,
+    /// The instruction rate is 0.
     NoRate = 8,
-    /// Of scripts; no call here gives it.
+    /// Of scripts. No call here gives it, unless the library is of another version and gives a number unknown to this file.
     UnreadableLine = 9,
+    /// Linked modules differ in CKP, CKE or width.
     DifferentModes = 10,
+    /// A linked run is asked for more than 288 edges.
     TooManyEdges = 11,
 }
 
@@ -57,7 +129,31 @@ impl Refusal {
             UnreadableLine, DifferentModes, TooManyEdges];
         all.iter().copied().find(|r| *r as u32 == number)
     }
+
+    fn reason(self) -> &'static str {
+        match self {
+            Refusal::NoSuchRegister => "no such register",
+            Refusal::Disabled => "the module is disabled",
+            Refusal::Enabled => "the module is enabled",
+            Refusal::BadSettings => "these settings cannot be enabled",
+            Refusal::TransmitFull => "the transmit buffer is full",
+            Refusal::ReceiveEmpty => "nothing is unread",
+            Refusal::WrongClock => "the module is clocked in another way",
+            Refusal::NoRate => "the instruction rate is 0",
+            Refusal::UnreadableLine => "the line cannot be read",
+            Refusal::DifferentModes => "the linked modules differ in clock mode or width",
+            Refusal::TooManyEdges => "more than 288 edges are asked for",
+        }
+    }
 }
+
+impl fmt::Display for Refusal {
+    fn fmt(&self, f: &mut fmt::Formatter<'_>) -> fmt::Result {
+        write!(f, "refusal {}: {}", *self as u32, self.reason())
+    }
+}
+
+impl core::error::Error for Refusal {}
 
 /// The SDO pin.
 #[derive(Clone, Copy, Debug, PartialEq, Eq)]
@@ -67,29 +163,27 @@ pub enum Sdo {
     Undriven,
 }
 
-/// What a clock report says.
+/// What a clock report says. With the instruction rate in hertz, rates are in hertz and the bit time is in seconds.
 #[derive(Clone, Copy, Debug, PartialEq)]
 pub enum Clock {
     /// The module is disabled.
     None,
-    /// A host with its own clock.
+    /// A host with its own clock. A bit is two ticks.
     Internal { rate: f64, bit_time: f64 },
-    /// A module clocked from its pin.
+    /// A module clocked from its pin, whose clock must stay below this rate.
     External { below: f64 },
 }
 
 // What the library's numbers mean.
-fn refused(number: u32) -> Result<(), Refusal> {
-    match Refusal::from_number(number) {
-        _ if number == 0 => Ok(()),
-        Some(refusal) => Err(refusal),
-        None => unreachable!("the library knows no refusal {}", number),
+fn value(answer: u32) -> Result<u16, Refusal> {
+    match answer >> 16 {
+        0 => Ok(answer as u16),
+        number => Err(Refusal::from_number(number).unwrap_or(Refusal::UnreadableLine)),
     }
 }
 
-fn value(answer: u32) -> Result<u16, Refusal> {
-    refused(answer >> 16)?;
-    Ok(answer as u16)
+fn done(answer: u32) -> Result<(), Refusal> {
+    value(answer).map(|_| ())
 }
 
 fn sdo(levels: u32) -> Sdo {
@@ -100,72 +194,109 @@ fn sdo(levels: u32) -> Sdo {
     }
 }
 
-fn clock(report: ClockReport) -> Result<Clock, Refusal> {
-    refused(report.number)?;
-    Ok(match report.kind {
+fn clock(answer: u32, report: ClockReport) -> Result<Clock, Refusal> {
+    Ok(match value(answer)? {
         1 => Clock::Internal { rate: report.rate, bit_time: report.bittime },
         2 => Clock::External { below: report.below },
         _ => Clock::None,
     })
 }
 
+/// The version of the library: major, minor and patch numbers. Its major number must be that of [`VERSION`], and its minor
+/// number not lower.
+#[allow(dead_code)]
+pub fn version() -> (u8, u8, u8) {
+    let v = thurafeqa_version();
+    ((v >> 16) as u8, (v >> 8) as u8, v as u8)
+}
+
+/// The number of the format that the library reads and writes. Words that were saved with another must not be restored.
+#[allow(dead_code)]
+pub fn format() -> u32 {
+    thurafeqa_format()
+}
+
 #[allow(dead_code)] // a program need not make every call
 impl Module {
-    /// A module at power-up.
+    /// A module at power-up: disabled, every register 0. Never refused.
     pub fn new() -> Module {
         let mut m = Module([0; 96]);
         thurafeqa_power_up(&mut m);
         m
     }
 
-    /// Reads a register: 0 STAT, 1 CON1, 2 CON2, 3 BUF.
+    /// The module's words, to save beside [`FORMAT`].
+    pub fn words(&self) -> [u16; 96] {
+        self.0
+    }
+
+    /// A module from saved words. Any words are safe; words of another format stand for another module.
+    pub fn from_words(words: [u16; 96]) -> Module {
+        Module(words)
+    }
+
+    /// Reads a register. Reading BUF takes the oldest unread word.
+    ///
+    /// Refused: `NoSuchRegister`; for BUF `Disabled`, `ReceiveEmpty`.
     pub fn read(&mut self, register: u32) -> Result<u16, Refusal> {
         value(thurafeqa_read(self, register))
     }
 
-    /// Writes a register.
+    /// Writes a register. Writing BUF accepts a word for sending.
+    ///
+    /// Refused: `NoSuchRegister`; for BUF `Disabled`, `TransmitFull`; for CON1 and CON2 `Enabled`; for STAT `BadSettings`.
     pub fn write(&mut self, register: u32, value: u16) -> Result<(), Refusal> {
-        refused(thurafeqa_write(self, register, value.into()) >> 16)
+        done(thurafeqa_write(self, register, value.into()))
     }
 
-    /// One tick of a host with its own clock: did it make an edge?
+    /// One tick of a host with its own clock, with the level at SDI: did it make an edge? It makes none with nothing to send.
+    ///
+    /// Refused: `Disabled`, `WrongClock`.
     pub fn tick(&mut self, sdi: bool) -> Result<bool, Refusal> {
         Ok(value(thurafeqa_tick(self, sdi.into()))? != 0)
     }
 
-    /// Shows levels to the pins of a module without a clock of its own.
+    /// Shows levels to the pins of a module without a clock of its own. An SCK level unlike the last is an edge.
+    ///
+    /// Refused: `Disabled`, `WrongClock`.
     pub fn pins(&mut self, sck: bool, sdi: bool, ss: bool) -> Result<(), Refusal> {
-        refused(thurafeqa_pins(self, sck.into(), sdi.into(), ss.into()) >> 16)
+        done(thurafeqa_pins(self, sck.into(), sdi.into(), ss.into()))
     }
 
-    /// Clears the interrupt flag.
+    /// Clears the interrupt flag. Never refused.
     pub fn clear(&mut self) {
         thurafeqa_clear(self)
     }
 
-    /// The interrupt flag.
+    /// The interrupt flag. Never refused.
     pub fn interrupt(&self) -> bool {
         thurafeqa_levels(self) & 1 != 0
     }
 
-    /// The clock level, last made here or seen at the pin.
+    /// The clock level, last made here or seen at the pin. Never refused.
     pub fn sck(&self) -> bool {
         thurafeqa_levels(self) & 2 != 0
     }
 
-    /// The SDO pin.
+    /// The SDO pin. Never refused.
     pub fn sdo(&self) -> Sdo {
         sdo(thurafeqa_levels(self))
     }
 
     /// Runs this host and a client on one wire, for at most `limit` edges: how many did the host make?
+    ///
+    /// Refused: `TooManyEdges`, `Disabled`, `WrongClock`, `DifferentModes`.
     pub fn linked(&mut self, client: &mut Module, limit: u32) -> Result<u16, Refusal> {
         value(thurafeqa_linked(self, client, limit))
     }
 
     /// The clock report for an instruction rate.
+    ///
+    /// Refused: `NoRate`.
     pub fn clock(&self, rate: u32) -> Result<Clock, Refusal> {
-        clock(thurafeqa_clock(self, rate))
+        let mut report = ClockReport::default();
+        let answer = thurafeqa_clock(self, rate, &mut report);
+        clock(answer, report)
     }
 }
 
@@ -182,7 +313,7 @@ mod thurafeqa_tests {
     #[test]
     fn memory_is_laid_out_as_in_c() {
         assert_eq!([size_of::<Module>(), align_of::<Module>()], [192, 2]);
-        assert_eq!([size_of::<ClockReport>(), align_of::<ClockReport>()], [32, 8]);
+        assert_eq!([size_of::<ClockReport>(), align_of::<ClockReport>()], [24, 8]);
     }
 
     #[test]
@@ -191,9 +322,14 @@ mod thurafeqa_tests {
         assert_eq!((Refusal::from_number(0), Refusal::from_number(12)), (None, None));
         assert_eq!((value(0), value(0xFFFF), value(0x6_0000)), (Ok(0), Ok(0xFFFF), Err(Refusal::ReceiveEmpty)));
         assert_eq!([3, 7, 8, 11, 12].map(sdo), [Sdo::Undriven, Sdo::Undriven, Sdo::Low, Sdo::Low, Sdo::High]);
-        let said = |number, kind| clock(ClockReport { number, kind, rate: 5e6, bittime: 2e-7, below: 4e7 });
-        assert_eq!((said(8, 0), said(0, 0)), (Err(Refusal::NoRate), Ok(Clock::None)));
-        assert_eq!(said(0, 1), Ok(Clock::Internal { rate: 5e6, bit_time: 2e-7 }));
-        assert_eq!(said(0, 2), Ok(Clock::External { below: 4e7 }));
+        let said = |answer| clock(answer, ClockReport { rate: 5e6, bittime: 2e-7, below: 4e7 });
+        assert_eq!((said(8 << 16), said(0)), (Err(Refusal::NoRate), Ok(Clock::None)));
+        assert_eq!(said(1), Ok(Clock::Internal { rate: 5e6, bit_time: 2e-7 }));
+        assert_eq!(said(2), Ok(Clock::External { below: 4e7 }));
+    }
+
+    #[test]
+    fn refusals_speak() {
+        assert_eq!(Refusal::ReceiveEmpty.to_string(), "refusal 6: nothing is unread");
     }
 }

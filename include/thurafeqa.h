@@ -1,26 +1,39 @@
 /* Thurafeqa: a proved model of one dsPIC33/PIC24 SPI module, for programs in C
- * or C++ on x86-64 Linux. Link with libthurafeqa.a, which needs nothing else:
+ * or C++. Link with libthurafeqa.a, which needs nothing else; ./library builds
+ * it for this machine and others:
  *
- *     cc -Iinclude program.c target/staticlib/libthurafeqa.a
+ *     cc -Iinclude program.c target/lib/x86_64-linux-gnu/libthurafeqa.a
  *
  * A host that sends one word and reads what came back with it:
  *
  *     thurafeqa m;
+ *     uint32_t answer;
  *     thurafeqa_power_up(&m);
- *     thurafeqa_write(&m, THURAFEQA_CON1, THURAFEQA_CON1_MSTEN);
- *     thurafeqa_write(&m, THURAFEQA_STAT, THURAFEQA_STAT_SPIEN);
- *     thurafeqa_write(&m, THURAFEQA_BUF, 0xA5);
- *     while (thurafeqa_tick(&m, sdi_level()) == 1)
- *         ;
- *     uint32_t answer = thurafeqa_read(&m, THURAFEQA_BUF);
+ *     answer = thurafeqa_write(&m, THURAFEQA_CON1, THURAFEQA_CON1_MSTEN);
  *     if (thurafeqa_refusal(answer) == 0)
- *         use(thurafeqa_value(answer));
+ *         answer = thurafeqa_write(&m, THURAFEQA_STAT, THURAFEQA_STAT_SPIEN);
+ *     if (thurafeqa_refusal(answer) == 0)
+ *         answer = thurafeqa_write(&m, THURAFEQA_BUF, 0xA5);
+ *     if (thurafeqa_refusal(answer) == 0) {
+ *         while (thurafeqa_tick(&m, sdi_level()) == 1)
+ *             ;
+ *         answer = thurafeqa_read(&m, THURAFEQA_BUF);
+ *     }
+ *     if (thurafeqa_refusal(answer) == 0)
+ *         use_word(thurafeqa_value(answer));
+ *     else
+ *         report_refusal(thurafeqa_refusal(answer));
+ *
+ * docs/PORTING.md says how a machine, its clock and a device on the wire meet
+ * these calls.
  *
  * Memory. A module is memory that the caller holds and only the library
- * understands. thurafeqa_power_up must set it first; before that it holds
- * whatever module its numbers happen to mean. Copying the struct copies the
- * module. A module needs no other care: nothing is allocated and no state is
- * kept elsewhere, so a module that is no longer wanted is forgotten.
+ * understands. thurafeqa_power_up must set it first. Memory that it has not set
+ * is safe to pass, but which module it stands for is open. Copying the struct
+ * copies the module. A module needs no other care: nothing is allocated and no
+ * state is kept elsewhere, so a module that is no longer wanted is forgotten.
+ * A module may be saved and restored number by number, together with
+ * THURAFEQA_FORMAT: memory of another format must not be restored.
  *
  * Every call takes any module and any argument, and ends. It asks only this:
  * - pointers are not null, and each points to a whole thurafeqa;
@@ -42,10 +55,28 @@
 extern "C" {
 #endif
 
+/* The version of this header. thurafeqa_version() tells the library's: the two
+ * must have the same major number, and the library's minor number must not be
+ * lower. */
+#define THURAFEQA_VERSION_MAJOR 1u
+#define THURAFEQA_VERSION_MINOR 0u
+#define THURAFEQA_VERSION_PATCH 0u
+#define THURAFEQA_VERSION                                                      \
+    (THURAFEQA_VERSION_MAJOR << 16 | THURAFEQA_VERSION_MINOR << 8 |            \
+     THURAFEQA_VERSION_PATCH)
+
+/* The format of a module's memory. It rises wherever the meaning of the numbers
+ * changes, so save it beside them. */
+#define THURAFEQA_FORMAT 1u
+
 /* One module. */
 typedef struct {
     uint16_t memory[96];
 } thurafeqa;
+
+/* It has 192 bytes and nothing between them; a compiler that lays it out
+ * otherwise stops here. */
+typedef char thurafeqa_has_192_bytes[sizeof(thurafeqa) == 192 ? 1 : -1];
 
 /* Refusal numbers, as document 01 lists them. */
 #define THURAFEQA_NO_SUCH_REGISTER 1u /* the register number is above 3 */
@@ -54,7 +85,7 @@ typedef struct {
 #define THURAFEQA_BAD_SETTINGS 4u     /* these settings cannot be enabled */
 #define THURAFEQA_TRANSMIT_FULL 5u    /* BUF written, no room */
 #define THURAFEQA_RECEIVE_EMPTY 6u    /* BUF read, nothing unread */
-#define THURAFEQA_WRONG_CLOCK 7u      /* clocked otherwise, or wrong role */
+#define THURAFEQA_WRONG_CLOCK 7u      /* not this module's kind of clock */
 #define THURAFEQA_NO_RATE 8u          /* the instruction rate is 0 */
 #define THURAFEQA_UNREADABLE_LINE 9u  /* of scripts; no call here gives it */
 #define THURAFEQA_DIFFERENT_MODES 10u /* linked: CKP, CKE or width differ */
@@ -83,7 +114,7 @@ static inline uint16_t thurafeqa_value(uint32_t answer)
  * operation and while disabled, and SPIBEC shows 8 words as 7. */
 #define THURAFEQA_STAT_SPIEN 0x8000u   /* enabled */
 #define THURAFEQA_STAT_SPISIDL 0x2000u /* kept, without effect */
-#define THURAFEQA_STAT_SPIBEC 0x0700u  /* words waiting; a client's unread */
+#define THURAFEQA_STAT_SPIBEC 0x0700u  /* host: waiting; client: unread */
 #define THURAFEQA_STAT_SRMPT 0x0080u   /* the shift register is empty */
 #define THURAFEQA_STAT_SPIROV 0x0040u  /* a received word was lost */
 #define THURAFEQA_STAT_SRXMPT 0x0020u  /* the receive buffer is empty */
@@ -161,29 +192,37 @@ uint32_t thurafeqa_levels(const thurafeqa *m);
 /* Runs two modules on one wire until the host has no more to send, or for
  * `limit` edges; the answer's value is the number of edges that the host made.
  * Client and host must be two different objects. A limit of 288 ends with an
- * idle host, whatever calls were made since power-up.
+ * idle host, whatever calls were made since power-up. The client's select stays
+ * low after the run.
  * Refusals: 11, then 2 (either disabled), 7 (the host has no clock of its own,
  * or the client is a host), 10. */
 uint32_t thurafeqa_linked(thurafeqa *host, thurafeqa *client, uint32_t limit);
 
-/* A clock report. What is not carried is 0; a refused report carries nothing,
- * so look at the number first. */
+/* What a clock report carries, 0 where it carries nothing. With the rate F in
+ * hertz the rates are in hertz and the bit time is in seconds; a bit is two
+ * ticks. */
 typedef struct {
-    uint32_t number; /* the refusal number, 0 if not refused */
-    uint32_t kind;   /* one of the three below */
-    double rate;     /* internal: the clock's rate */
-    double bittime;  /* internal: the time of one bit */
-    double below;    /* external: what the clock must stay below */
+    double rate;    /* internal: the clock's rate */
+    double bittime; /* internal: the time of one bit */
+    double below;   /* external: what the clock's rate must stay below */
 } thurafeqa_clock_report;
 
-#define THURAFEQA_CLOCK_NONE 0u     /* not refused: the module is disabled */
+#define THURAFEQA_CLOCK_NONE 0u     /* the module is disabled */
 #define THURAFEQA_CLOCK_INTERNAL 1u /* a host with its own clock */
 #define THURAFEQA_CLOCK_EXTERNAL 2u /* a module clocked from its pin */
 
 /* The clock report for an instruction rate F: with the divider D of CON1, the
- * clock's rate is F / D and the bit time D / F, each rounded once.
- * Refusal: 8, also of a disabled module. */
-thurafeqa_clock_report thurafeqa_clock(const thurafeqa *m, uint32_t rate);
+ * clock's rate is F / D and the bit time D / F, each rounded once. The answer's
+ * value is one of the three kinds above.
+ * Refusal: 8 for the rate 0, also of a disabled module; then *report is left as
+ * it was. */
+uint32_t thurafeqa_clock(const thurafeqa *m, uint32_t rate,
+                         thurafeqa_clock_report *report);
+
+/* The version of the library, in the form of THURAFEQA_VERSION, and the number
+ * of the format that it reads and writes. */
+uint32_t thurafeqa_version(void);
+uint32_t thurafeqa_format(void);
 
 #ifdef __cplusplus
 }

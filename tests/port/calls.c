@@ -9,6 +9,8 @@ const char *const kind_name[KINDS] = {"power-up", "read",  "write",  "tick",
                                       "pins",     "clear", "linked", "clock"};
 const char *const view_name[VIEWS] = {"STAT", "CON1", "CON2", "levels"};
 
+const thurafeqa_clock_report no_report = {-1, -2, -3};
+
 int concerned(const struct call *c)
 {
     return c->kind == LINKED ? 2 : 1;
@@ -32,15 +34,11 @@ void print_call(const struct call *c)
     }
 }
 
-uint32_t refusal_of(const struct call *c, const struct outcome *o)
-{
-    return c->kind == CLOCK ? o->report.number : thurafeqa_refusal(o->answer);
-}
-
 void ask_library(thurafeqa *m, thurafeqa *other, const struct call *c,
                  struct outcome *o)
 {
     o->answer = 0;
+    o->report = no_report;
     switch (c->kind) {
     case POWER_UP: thurafeqa_power_up(m); break;
     case READ: o->answer = thurafeqa_read(m, c->x); break;
@@ -49,7 +47,7 @@ void ask_library(thurafeqa *m, thurafeqa *other, const struct call *c,
     case PINS: o->answer = thurafeqa_pins(m, c->x, c->y, c->z); break;
     case CLEAR: thurafeqa_clear(m); break;
     case LINKED: o->answer = thurafeqa_linked(m, other, c->x); break;
-    case CLOCK: o->report = thurafeqa_clock(m, c->x); break;
+    case CLOCK: o->answer = thurafeqa_clock(m, c->x, &o->report); break;
     case KINDS: break;
     }
 }
@@ -67,10 +65,9 @@ int same_answer(const struct call *c, const struct outcome *a,
 {
     const thurafeqa_clock_report *r = &a->report, *s = &b->report;
 
-    if (c->kind != CLOCK)
+    if (a->answer != b->answer || c->kind != CLOCK)
         return a->answer == b->answer;
-    return r->number == s->number && r->kind == s->kind &&
-           memcmp(&r->rate, &s->rate, sizeof r->rate) == 0 &&
+    return memcmp(&r->rate, &s->rate, sizeof r->rate) == 0 &&
            memcmp(&r->bittime, &s->bittime, sizeof r->bittime) == 0 &&
            memcmp(&r->below, &s->below, sizeof r->below) == 0;
 }

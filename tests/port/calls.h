@@ -33,8 +33,8 @@ struct outcome {
     uint32_t seen[2][VIEWS];       /* of the module; of the other one */
 };
 
-/* The refusal number in an outcome, 0 if the call was done. */
-uint32_t refusal_of(const struct call *c, const struct outcome *o);
+/* What a report holds before each call; a refused one leaves it so. */
+extern const thurafeqa_clock_report no_report;
 
 /* Makes a call; `seen` is left as it is. */
 void ask_library(thurafeqa *m, thurafeqa *other, const struct call *c,

@@ -29,24 +29,22 @@ static uint32_t as_answer(int number, unsigned value)
     return number > 0 ? (uint32_t)number << 16 : (uint32_t)value;
 }
 
-static thurafeqa_clock_report model_report(const struct ref_spi *m, uint32_t f)
+/* The model's clock report: its refusal number, 0 if it is not refused. */
+static int model_report(const struct ref_spi *m, uint32_t f, unsigned *kind,
+                        thurafeqa_clock_report *r)
 {
-    thurafeqa_clock_report r = {0, THURAFEQA_CLOCK_NONE, 0, 0, 0};
     double rate = 0, bit_time = 0;
-    int kind = 0;
+    int which = 0, number = ref_clock(m, f, &which, &rate, &bit_time);
 
-    r.number = (uint32_t)ref_clock(m, f, &kind, &rate, &bit_time);
-    if (r.number != 0)
-        return r;
-    if (kind == 1) {
-        r.kind = THURAFEQA_CLOCK_INTERNAL;
-        r.rate = rate;
-        r.bittime = bit_time;
-    } else if (kind == 2) {
-        r.kind = THURAFEQA_CLOCK_EXTERNAL;
-        r.below = rate;
-    }
-    return r;
+    if (number != 0)
+        return number;
+    r->rate = which == 1 ? rate : 0;
+    r->bittime = which == 1 ? bit_time : 0;
+    r->below = which == 2 ? rate : 0;
+    *kind = which == 1   ? THURAFEQA_CLOCK_INTERNAL
+            : which == 2 ? THURAFEQA_CLOCK_EXTERNAL
+                         : THURAFEQA_CLOCK_NONE;
+    return 0;
 }
 
 static uint32_t model_levels(const struct ref_spi *m)
@@ -82,6 +80,7 @@ static void ask_model(struct ref_spi *m, struct ref_spi *other,
     unsigned value = 0;
     int r = 0;
 
+    o->report = no_report;
     switch (c->kind) {
     case POWER_UP: ref_power_up(m); break;
     case READ: r = ref_read(m, c->x, &value); break;
@@ -93,7 +92,7 @@ static void ask_model(struct ref_spi *m, struct ref_spi *other,
     case PINS: r = ref_pins(m, c->x != 0, c->y != 0, c->z != 0); break;
     case CLEAR: ref_clear(m); break;
     case LINKED: r = ref_linked(m, other, c->x, &value); break;
-    case CLOCK: o->report = model_report(m, c->x); break;
+    case CLOCK: r = model_report(m, c->x, &value, &o->report); break;
     case KINDS: break;
     }
     o->answer = as_answer(r, value);
@@ -191,8 +190,7 @@ static int shorten(struct call *list, int n, uint64_t noise)
 
 static void print_report(const char *side, const thurafeqa_clock_report *r)
 {
-    printf("    report: %s %" PRIu32 ", kind %" PRIu32 ", %a, %a, %a\n", side,
-           r->number, r->kind, r->rate, r->bittime, r->below);
+    printf("    report: %s %a, %a, %a\n", side, r->rate, r->bittime, r->below);
 }
 
 static void print_differences(const struct call *c, const struct outcome *l,
@@ -200,7 +198,7 @@ static void print_differences(const struct call *c, const struct outcome *l,
 {
     int i, v;
 
-    if (c->kind == CLOCK && !same_answer(c, l, m)) {
+    if (c->kind == CLOCK && l->answer == m->answer && !same_answer(c, l, m)) {
         print_report("library", &l->report);
         print_report("model", &m->report);
     } else if (!same_answer(c, l, m)) {
@@ -316,7 +314,7 @@ static void count(const struct call *c, const struct outcome *o,
                   const struct ref_spi *before, const struct ref_spi *pool)
 {
     const struct ref_spi *m = &pool[c->module];
-    uint32_t number = refusal_of(c, o);
+    uint32_t number = thurafeqa_refusal(o->answer);
     unsigned edges = thurafeqa_value(o->answer);
 
     reached.kinds[c->kind]++;
@@ -341,7 +339,7 @@ static void count(const struct call *c, const struct outcome *o,
         count_words(m, ((unsigned)before[0].edges + edges) /
                            (unsigned)word_edges(m));
         break;
-    case CLOCK: reached.clock[o->report.kind]++; break;
+    case CLOCK: reached.clock[thurafeqa_value(o->answer)]++; break;
     default: break;
     }
 }

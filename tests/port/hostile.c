@@ -298,15 +298,22 @@ static void hold_views(const uint32_t *seen)
          "SDO is driven by a disabled module");
 }
 
-static void hold_report(const struct call *c, const thurafeqa_clock_report *r,
+static void hold_report(const struct call *c, const struct outcome *o,
                         const uint32_t *seen)
 {
+    const thurafeqa_clock_report *r = &o->report;
     uint32_t kind = THURAFEQA_CLOCK_NONE;
 
-    if (r->number == 0 && enabled(seen))
+    if (thurafeqa_refusal(o->answer) != 0) {
+        hold(memcmp(r, &no_report, sizeof no_report) == 0,
+             "a refused clock report wrote something");
+        return;
+    }
+    if (enabled(seen))
         kind = own_clock(seen) ? THURAFEQA_CLOCK_INTERNAL
                                : THURAFEQA_CLOCK_EXTERNAL;
-    hold(r->kind == kind, "a clock report of the wrong kind");
+    hold(thurafeqa_value(o->answer) == kind,
+         "a clock report of the wrong kind");
     if (kind == THURAFEQA_CLOCK_INTERNAL)
         hold(r->rate > 0 && r->rate <= c->x && r->bittime > 0 &&
                  r->bittime <= 512,
@@ -321,21 +328,21 @@ static void hold_report(const struct call *c, const thurafeqa_clock_report *r,
 static void hold_answer(const struct call *c, const struct outcome *o,
                         uint32_t seen[2][VIEWS])
 {
-    uint32_t number = refusal_of(c, o);
+    uint32_t number = thurafeqa_refusal(o->answer);
     uint16_t value = thurafeqa_value(o->answer);
 
     hold(number == table_refusal(c, seen) ||
              (number == THURAFEQA_BAD_SETTINGS && may_refuse(c, seen)),
          "not the refusal that the table asks for");
     if (c->kind == CLOCK)
-        hold_report(c, &o->report, seen[0]);
+        hold_report(c, o, seen[0]);
     if (number != 0)
         hold(value == 0, "a refused call tells a value");
     else if (c->kind == TICK)
         hold(value <= 1, "a tick made more than one edge");
     else if (c->kind == LINKED)
         hold(value <= c->x, "a linked run made more edges than its limit");
-    else if (c->kind != READ)
+    else if (c->kind != READ && c->kind != CLOCK)
         hold(value == 0, "a call that tells nothing tells a value");
 }
 
@@ -375,7 +382,7 @@ static void hold_copies(void)
 /* Does a call that was answered like this leave its modules as they were? */
 static int no_effect(const struct call *c, const struct outcome *o)
 {
-    if (refusal_of(c, o) != 0 || c->kind == CLOCK)
+    if (thurafeqa_refusal(o->answer) != 0 || c->kind == CLOCK)
         return 1;
     if (c->kind == READ)
         return c->x != THURAFEQA_BUF;
@@ -415,10 +422,10 @@ static void make(void)
                  "memory changed, and should not have");
     }
     memcpy(seen, after, sizeof seen);
-    if (refusal_of(&now, &o[0]) == 0)
+    if (thurafeqa_refusal(o[0].answer) == 0)
         done[now.kind]++;
     else
-        refused[refusal_of(&now, &o[0])]++;
+        refused[thurafeqa_refusal(o[0].answer)]++;
 }
 
 static uint32_t some_argument(void)

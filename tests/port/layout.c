@@ -14,13 +14,13 @@ HOLDS(sizeof(thurafeqa) == 96 * 2);
 HOLDS(_Alignof(thurafeqa) == 2);
 HOLDS(offsetof(thurafeqa, memory) == 0);
 
-HOLDS(sizeof(thurafeqa_clock_report) == 32);
+HOLDS(sizeof(thurafeqa_clock_report) == 24);
 HOLDS(_Alignof(thurafeqa_clock_report) == 8);
-HOLDS(offsetof(thurafeqa_clock_report, number) == 0);
-HOLDS(offsetof(thurafeqa_clock_report, kind) == 4);
-HOLDS(offsetof(thurafeqa_clock_report, rate) == 8);
-HOLDS(offsetof(thurafeqa_clock_report, bittime) == 16);
-HOLDS(offsetof(thurafeqa_clock_report, below) == 24);
+HOLDS(offsetof(thurafeqa_clock_report, rate) == 0);
+HOLDS(offsetof(thurafeqa_clock_report, bittime) == 8);
+HOLDS(offsetof(thurafeqa_clock_report, below) == 16);
+
+HOLDS(THURAFEQA_VERSION == 0x010000);
 
 HOLDS(THURAFEQA_STAT == 0);
 HOLDS(THURAFEQA_STAT_SPIEN == BIT(15));

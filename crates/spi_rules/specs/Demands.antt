@@ -189,7 +189,7 @@ abbrev pub onlyTicks : List Bool → List Call
 onlyTicks [] = []
 onlyTicks (sdi ∷ rest) = Tick sdi ∷ onlyTicks rest
 
--- A host with its own clock that is left undisturbed makes exactly as many edges as what it owes falls by, whatever the SDI
+-- Each edge that a host with its own clock makes while it is left undisturbed lowers what it owes by one, whatever the SDI
 -- levels and whatever other calls come between. So it falls idle after exactly the edges that it owes: it is busy as long
 -- as it owes any and idle as soon as it owes none. That many ticks make them.
 pub record FallsIdle (x : Watched) : Type 0 where

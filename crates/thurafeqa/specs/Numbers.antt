@@ -1,9 +1,10 @@
 -- What a caller is told: answers as the one number that a call returns, and the memory after it.
 use Prim.Native.Nat.{ℕ, _+_, _*_}
 use mathlib.Core.Bool.{Bool, true, not}
-use mathlib.Core.List.{List}
+use mathlib.Core.List.{List, [], _∷_}
 use mathlib.Core.Path.{_≡_}
 use lib.Dec.{eqb}
+use lib.Ieee.{Float}
 use Rattle.spi_rules.specs.declared.Module.{Module}
 use Rattle.spi_clock_rules.specs.declared.ClockSaid.{ClockSaid}
 use Rattle.spi_rules.specs.declared.Answer.{Answer}
@@ -12,7 +13,6 @@ use Rattle.spi_link_rules.specs.declared.LinkAnswer.{LinkAnswer}
 use Rattle.spi_link_rules.specs.declared.Linked.{Linked}
 use Rattle.spi_rules.specs.declared.Sdo.{Sdo}
 use Rattle.spi_rules.specs.declared.Sdo.the-variants.{Low, High, Undriven}
-use Rattle.thurafeqa.specs.declared.ThurafeqaClock.{ThurafeqaClock}
 use Rattle.spi_rules.specs.Choice.{if_then_else_}
 use Rattle.spi_rules.specs.Refusals.{saidOf}
 use Rattle.spi_link_rules.specs.Link.{linkSaidOf}
@@ -63,12 +63,23 @@ levelsNumber m = (if interruptOf m then 1 else 0) + (if sckOf m then 2 else 0) +
 unfoldable pub kindNumber : Bool → Bool → ℕ
 kindNumber internal external = if internal then 1 else if external then 2 else 0
 
-unfoldable pub clockNumbers : ClockSaid → ThurafeqaClock
-clockNumbers s =
-    record {
-      number = s .number;
-      kind = kindNumber (s .internal) (s .external);
-      rate = s .rate;
-      bittime = s .bittime;
-      below = s .below;
-    }
+-- Its answer: the upper 16 bits are the refusal number, 0 if it was not refused, the lower 16 bits the kind.
+unfoldable pub clockNumber : ClockSaid → ℕ
+clockNumber s = s .number * 65536 + kindNumber (s .internal) (s .external)
+
+-- Its floats, in memory that the caller lends.
+unfoldable pub clockFloats : ClockSaid → List Float
+clockFloats s = s .rate ∷ s .bittime ∷ s .below ∷ []
+
+-- A clock report returns its number, and its floats stand in the lent memory. A refused one leaves that as it was.
+pub record ClockTells (s : ClockSaid) (r : ℕ) (before after : List Float) : Type 0 where
+  pub number : r ≡ clockNumber s
+  pub report : after ≡ (if eqb (s .number) 0 then clockFloats s else before)
+
+-- The library's version, 1.0.0: the major number times 65,536, the minor one times 256, and the patch.
+abbrev pub versionNumber : ℕ
+versionNumber = 1 * 65536 + 0 * 256 + 0
+
+-- The number of the memory's format: it rises wherever the meaning of memory (crates/spi_memory/specs/Memory.antt) changes.
+abbrev pub formatNumber : ℕ
+formatNumber = 1

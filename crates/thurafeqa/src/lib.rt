@@ -10,7 +10,7 @@ ghost use Rattle.spi_rules.specs.Calls.{poweredUp, readOf, writeOf, tickOf, pin
 ghost use Rattle.spi_link_rules.specs.Link.{linkedOf};
 ghost use Rattle.spi_clock_rules.specs.Clock.{reportOf, saidClock};
 ghost use Rattle.spi_memory.specs.Memory.{moduleIn};
-ghost use Rattle.thurafeqa.specs.Numbers.{Tells, LinkTells, levelIn, answerNumber, linkNumber, sdoBits, levelsNumber, kindNumber, clockNumbers};
+ghost use Rattle.thurafeqa.specs.Numbers.{Tells, LinkTells, levelIn, answerNumber, linkNumber, sdoBits, levelsNumber, kindNumber, ClockTells, versionNumber, formatNumber};
 
 // An answer as a number.
 fn answer_number(a: Answer) -> u32
@@ -126,19 +126,8 @@ pub extern "C" fn thurafeqa_linked(host: &mut [u16; 96], client: &mut [u16; 96],
     link_number(answer)
 }
 
-// A clock report in numbers: the refusal number, 0 if not refused; 1 for internal, 2 for external, 0 for none; and the
-// floats that it carries, 0 where it carries none.
-#[repr(C)]
-pub struct ThurafeqaClock {
-    pub number: u32,
-    pub kind: u32,
-    pub rate: f64,
-    pub bittime: f64,
-    pub below: f64,
-}
-
 fn kind_number(internal: bool, external: bool) -> u32
-    ensures { λ r. ⌜ r ≡ kindNumber internal external ⌝ }
+    ensures { λ r. ⌜ (r ≡ kindNumber internal external) × (r ≤ 2) ⌝ }
 {
     if internal {
         return 1;
@@ -149,18 +138,34 @@ fn kind_number(internal: bool, external: bool) -> u32
     0
 }
 
-// The clock report for an instruction rate.
+// The clock report for an instruction rate. Its floats go into memory that the caller lends: the rate and the bit time of an
+// internal clock, and what an external one must stay below. A refused report leaves them as they were.
 #[no_mangle]
-pub extern "C" fn thurafeqa_clock(w: &[u16; 96], rate: u32) -> ThurafeqaClock
-    ensures { λ r. ⌜ r ≡ clockNumbers (saidClock (reportOf (moduleIn (now (w .entry))) rate)) ⌝ }
+pub extern "C" fn thurafeqa_clock(w: &[u16; 96], rate: u32, report: &mut [f64; 3]) -> u32
+    ensures { λ r. ⌜ ClockTells (saidClock (reportOf (moduleIn (now (w .entry))) rate)) r (now (report .entry)) (now (report .exit)) ⌝ }
 {
     let s = spi_memory::settings_in(w);
     let said = spi_clock::said(spi_clock::report_by(s, rate));
-    ThurafeqaClock {
-        number: said.number as u32,
-        kind: kind_number(said.internal, said.external),
-        rate: said.rate,
-        bittime: said.bittime,
-        below: said.below,
+    let kind = kind_number(said.internal, said.external);
+    if said.number != 0 {
+        return said.number as u32 * 65536 + kind;
     }
+    *report = [said.rate, said.bittime, said.below];
+    kind
+}
+
+// The library's version: the major number times 65,536, the minor one times 256, and the patch.
+#[no_mangle]
+pub extern "C" fn thurafeqa_version() -> u32
+    ensures { λ r. ⌜ r ≡ versionNumber ⌝ }
+{
+    65536
+}
+
+// The number of the memory's format: it rises wherever the meaning of the 96 numbers changes.
+#[no_mangle]
+pub extern "C" fn thurafeqa_format() -> u32
+    ensures { λ r. ⌜ r ≡ formatNumber ⌝ }
+{
+    1
 }

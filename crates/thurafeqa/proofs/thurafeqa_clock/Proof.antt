@@ -1,20 +1,33 @@
--- The definition, with what the report says.
+-- What the report says, refused or not.
 use borrow.Author.Needs.{needs}
 use Rattle.spi_clock_rules.specs.Clock.{reportOf}
-use Rattle.thurafeqa.specs.Numbers.{clockNumbers}
+use Rattle.thurafeqa.proofs.Told.{clock-refused, clock-told}
 use Rattle.thurafeqa.proofs.thurafeqa_clock.Statement.{statement}
 use Rattle.thurafeqa.proofs.thurafeqa_clock.Tie as tie
 
 returns : tie.Need-returns
-unfolding clockNumbers reportOf
+unfolding reportOf
 returns c =
-    let report-by = c .before .before .before .report-by .ensures in
-    let settings-in = c .before .before .before .before .settings-in .ensures in
-    rw ((c .kind-number .ensures), (c .before .before .said .ensures), report-by, settings-in)
+    let kind-number = c .before .before .before .kind-number .ensures in
+    let report-by = c .before .before .before .before .before .report-by .ensures in
+    let settings-in = c .before .before .before .before .before .before .settings-in .ensures in
+    let said = rw (report-by, settings-in) at (c .before .before .before .before .said .ensures) in
+    clock-refused said (search needs) (kind-number .0) (cc)
+
+returns-2 : tie.Need-returns-2
+unfolding reportOf
+returns-2 c =
+    let kind-number = c .before .before .before .kind-number .ensures in
+    let report-by = c .before .before .before .before .before .report-by .ensures in
+    let settings-in = c .before .before .before .before .before .before .settings-in .ensures in
+    let said = rw (report-by, settings-in) at (c .before .before .before .before .said .ensures) in
+    clock-told said (search needs) (kind-number .0)
 
 pub thurafeqa-clock-spec : {M : Type 1} → statement M
 thurafeqa-clock-spec =
     tie.close
     (tie.spec
-    (λ c κs. search needs) (λ c κs. search needs) (λ c κs. search needs) (λ c. search needs) (λ c κs. search needs)
-    returns)
+    (λ c κs. search needs) (λ c κs. search needs) (λ c κs. search needs) (λ c κs. search needs) (λ c. search needs)
+    (λ c. search needs) (λ c. search needs)
+    returns
+    returns-2)
