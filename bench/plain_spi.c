@@ -261,13 +261,18 @@ static uint32_t write_buf(struct plain_spi *m, unsigned value)
     return 0;
 }
 
+/* Why these settings cannot be enabled, 0 if they can. */
 static int bad_settings(const struct plain_spi *m)
 {
-    if (m->con2 & FRMEN || m->con1 & SMP)
-        return 1;
-    if (m->con1 & MSTEN)
-        return !(m->con1 & DISSCK) && (m->con1 & PRESCALERS) == PRESCALERS;
-    return m->con1 & CKE && !(m->con1 & SSEN);
+    unsigned c = m->con1;
+
+    if (m->con2 & FRMEN)
+        return 12;
+    if (c & MSTEN && !(c & DISSCK) && (c & PRESCALERS) == PRESCALERS)
+        return 13;
+    if (c & SMP)
+        return 14;
+    return !(c & MSTEN) && c & CKE && !(c & SSEN) ? 15 : 0;
 }
 
 static void enable(struct plain_spi *m)
@@ -299,8 +304,9 @@ static uint32_t write_stat(struct plain_spi *m, unsigned value)
 {
     if (value & SPIEN) {
         if (m->clock == OFF) {
-            if (bad_settings(m))
-                return refuse(4);
+            int number = bad_settings(m);
+            if (number != 0)
+                return refuse(number);
             enable(m);
         }
     } else if (m->clock != OFF) {

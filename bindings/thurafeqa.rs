@@ -58,7 +58,7 @@ pub mod register {
 
 /// The version of this file: major, minor and patch numbers. [`version`] tells the library's.
 #[allow(dead_code)]
-pub const VERSION: (u8, u8, u8) = (1, 0, 0);
+pub const VERSION: (u8, u8, u8) = (2, 0, 0);
 
 /// The format of a module's words. It rises wherever their meaning changes, so save it beside them.
 #[allow(dead_code)]
@@ -102,8 +102,6 @@ pub enum Refusal {
     Disabled = 2,
     /// CON1 or CON2 is written while SPIEN is 1.
     Enabled = 3,
-    /// These settings cannot be enabled.
-    BadSettings = 4,
     /// BUF is written, and the transmit buffer is full.
     TransmitFull = 5,
     /// BUF is read, and nothing is unread.
@@ -118,6 +116,14 @@ pub enum Refusal {
     DifferentModes = 10,
     /// A linked run is asked for more than 288 edges.
     TooManyEdges = 11,
+    /// FRMEN is set where STAT would enable the module.
+    Framed = 12,
+    /// Both prescalers of a host with its own clock are 1:1 there.
+    Undivided = 13,
+    /// SMP is set there.
+    LateSampling = 14,
+    /// A client has CKE and no SSEN there.
+    UnselectedCke = 15,
 }
 
 impl Refusal {
@@ -125,8 +131,8 @@ impl Refusal {
     pub fn from_number(number: u32) -> Option<Refusal> {
         use Refusal::*;
         #[rustfmt::skip]
-        let all = [NoSuchRegister, Disabled, Enabled, BadSettings, TransmitFull, ReceiveEmpty, WrongClock, NoRate,
-            UnreadableLine, DifferentModes, TooManyEdges];
+        let all = [NoSuchRegister, Disabled, Enabled, TransmitFull, ReceiveEmpty, WrongClock, NoRate, UnreadableLine,
+            DifferentModes, TooManyEdges, Framed, Undivided, LateSampling, UnselectedCke];
         all.iter().copied().find(|r| *r as u32 == number)
     }
 
@@ -135,7 +141,6 @@ impl Refusal {
             Refusal::NoSuchRegister => "no such register",
             Refusal::Disabled => "the module is disabled",
             Refusal::Enabled => "the module is enabled",
-            Refusal::BadSettings => "these settings cannot be enabled",
             Refusal::TransmitFull => "the transmit buffer is full",
             Refusal::ReceiveEmpty => "nothing is unread",
             Refusal::WrongClock => "the module is clocked in another way",
@@ -143,6 +148,10 @@ impl Refusal {
             Refusal::UnreadableLine => "the line cannot be read",
             Refusal::DifferentModes => "the linked modules differ in clock mode or width",
             Refusal::TooManyEdges => "more than 288 edges are asked for",
+            Refusal::Framed => "framed operation is not modelled",
+            Refusal::Undivided => "both prescalers are 1:1",
+            Refusal::LateSampling => "late sampling is not modelled",
+            Refusal::UnselectedCke => "a client with CKE needs SSEN",
         }
     }
 }
@@ -244,7 +253,8 @@ impl Module {
 
     /// Writes a register. Writing BUF accepts a word for sending.
     ///
-    /// Refused: `NoSuchRegister`; for BUF `Disabled`, `TransmitFull`; for CON1 and CON2 `Enabled`; for STAT `BadSettings`.
+    /// Refused: `NoSuchRegister`; for BUF `Disabled`, `TransmitFull`; for CON1 and CON2 `Enabled`; for STAT
+    /// `Framed`, `Undivided`, `LateSampling`, `UnselectedCke`.
     pub fn write(&mut self, register: u32, value: u16) -> Result<(), Refusal> {
         done(thurafeqa_write(self, register, value.into()))
     }
@@ -318,8 +328,8 @@ mod thurafeqa_tests {
 
     #[test]
     fn numbers_mean_what_the_header_says() {
-        assert_eq!((1..12).filter_map(Refusal::from_number).map(|r| r as u32).sum::<u32>(), 66);
-        assert_eq!((Refusal::from_number(0), Refusal::from_number(12)), (None, None));
+        assert_eq!((1..16).filter_map(Refusal::from_number).map(|r| r as u32).sum::<u32>(), 120 - 4);
+        assert_eq!([0, 4, 16].map(Refusal::from_number), [None; 3]);
         assert_eq!((value(0), value(0xFFFF), value(0x6_0000)), (Ok(0), Ok(0xFFFF), Err(Refusal::ReceiveEmpty)));
         assert_eq!([3, 7, 8, 11, 12].map(sdo), [Sdo::Undriven, Sdo::Undriven, Sdo::Low, Sdo::Low, Sdo::High]);
         let said = |answer| clock(answer, ClockReport { rate: 5e6, bittime: 2e-7, below: 4e7 });

@@ -58,7 +58,7 @@ extern "C" {
 /* The version of this header. thurafeqa_version() tells the library's: the two
  * must have the same major number, and the library's minor number must not be
  * lower. */
-#define THURAFEQA_VERSION_MAJOR 1u
+#define THURAFEQA_VERSION_MAJOR 2u
 #define THURAFEQA_VERSION_MINOR 0u
 #define THURAFEQA_VERSION_PATCH 0u
 #define THURAFEQA_VERSION                                                      \
@@ -78,11 +78,11 @@ typedef struct {
  * otherwise stops here. */
 typedef char thurafeqa_has_192_bytes[sizeof(thurafeqa) == 192 ? 1 : -1];
 
-/* Refusal numbers, as document 01 lists them. */
+/* Refusal numbers, as documents 01 and 02 list them. No call gives 4: it was one
+ * number for the four mistakes that 12 to 15 now tell apart. */
 #define THURAFEQA_NO_SUCH_REGISTER 1u /* the register number is above 3 */
 #define THURAFEQA_DISABLED 2u         /* SPIEN is 0 */
 #define THURAFEQA_ENABLED 3u          /* CON1 or CON2 written, SPIEN is 1 */
-#define THURAFEQA_BAD_SETTINGS 4u     /* these settings cannot be enabled */
 #define THURAFEQA_TRANSMIT_FULL 5u    /* BUF written, no room */
 #define THURAFEQA_RECEIVE_EMPTY 6u    /* BUF read, nothing unread */
 #define THURAFEQA_WRONG_CLOCK 7u      /* not this module's kind of clock */
@@ -90,6 +90,10 @@ typedef char thurafeqa_has_192_bytes[sizeof(thurafeqa) == 192 ? 1 : -1];
 #define THURAFEQA_UNREADABLE_LINE 9u  /* of scripts; no call here gives it */
 #define THURAFEQA_DIFFERENT_MODES 10u /* linked: CKP, CKE or width differ */
 #define THURAFEQA_TOO_MANY_EDGES 11u  /* linked: the limit is above 288 */
+#define THURAFEQA_FRAMED 12u          /* enabling: FRMEN is set */
+#define THURAFEQA_UNDIVIDED 13u       /* enabling: both prescalers are 1:1 */
+#define THURAFEQA_LATE_SAMPLING 14u   /* enabling: SMP is set */
+#define THURAFEQA_UNSELECTED_CKE 15u  /* enabling: client, CKE, no SSEN */
 
 /* The refusal number of an answer, 0 if the call was done. */
 static inline uint16_t thurafeqa_refusal(uint32_t answer)
@@ -162,7 +166,8 @@ uint32_t thurafeqa_read(thurafeqa *m, uint32_t register_number);
  * Writing BUF accepts a word for sending, of which 8-bit operation keeps the
  * low 8 bits. Writing STAT with SPIEN 1 enables the module, with SPIEN 0
  * disables it, which empties both buffers and the shift register.
- * Refusals: 1; for BUF 2, then 5; for CON1 and CON2 3; for STAT 4. */
+ * Refusals: 1; for BUF 2, then 5; for CON1 and CON2 3; for STAT 12, 13, 14, 15,
+ * the first of them where there are several mistakes. */
 uint32_t thurafeqa_write(thurafeqa *m, uint32_t register_number,
                          uint32_t value);
 

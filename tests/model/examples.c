@@ -1,6 +1,8 @@
 /* The figures of document 01 over the second model: the script worked in
  * full, the lettered examples, and those that the paper only asks to run.
- * Examples f, k and l are tried in more modes than the paper names. */
+ * Examples f, k and l are tried in more modes than the paper names. Examples b
+ * and d give the numbers of document 02's request One, and further cases tell
+ * which number stands where there are several mistakes. */
 #include "ref_spi.h"
 #include "script.h"
 
@@ -135,11 +137,11 @@ int main(void)
     begin();
     {
         struct ref_spi m = fresh(0x003F, 0, 0x8000, &r);
-        EXPECT(r == 4);
+        EXPECT(r == 13);
         EXPECT(get(&m, 0) == 0);
         EXPECT(get(&m, 1) == 0x003F);
     }
-    end("b  CON1 003F is refused by 4");
+    end("b  CON1 003F is refused by 13");
 
     begin();
     {
@@ -152,10 +154,10 @@ int main(void)
     begin();
     {
         struct ref_spi m = fresh(0x0100, 0, 0x8000, &r);
-        EXPECT(r == 4);
+        EXPECT(r == 15);
         EXPECT(get(&m, 0) == 0);
     }
-    end("d  CON1 0100 is refused by 4");
+    end("d  CON1 0100 is refused by 15");
 
     begin();
     {
@@ -164,6 +166,118 @@ int main(void)
         EXPECT(get(&m, 0) == 0x8000);
     }
     end("e  CON1 0180 can be enabled");
+
+    begin();
+    {
+        static const struct {
+            unsigned con1, con2;
+            int want;
+        } setting[] = {
+            /* one mistake, in each role that can make it */
+            {0x0020, 0x8000, 12},
+            {0x1020, 0x8000, 12},
+            {0x0000, 0x8000, 12},
+            {0x0180, 0xE003, 12},
+            {0x003F, 0x0000, 13},
+            {0x05FF, 0x0001, 13}, /* CKE, SSEN, CKP and MODE16 do not matter */
+            {0x0220, 0x0000, 14},
+            {0x1220, 0x0000, 14},
+            {0x0200, 0x0000, 14},
+            {0x0380, 0x0000, 14},
+            {0x0100, 0x0000, 15},
+            {0x1100, 0x0000, 15}, /* DISSCK does not matter to a client */
+            /* two: 13 is a host's and 15 a client's, so they never meet */
+            {0x003F, 0x8000, 12}, /* 12 and 13 */
+            {0x0220, 0x8000, 12}, /* 12 and 14 */
+            {0x0100, 0x8000, 12}, /* 12 and 15 */
+            {0x023F, 0x0000, 13}, /* 13 and 14 */
+            {0x0300, 0x0000, 14}, /* 14 and 15 */
+            /* three */
+            {0x023F, 0x8000, 12}, /* 12, 13 and 14 */
+            {0x0300, 0x8000, 12}, /* 12, 14 and 15 */
+            /* 1:1 is no mistake where the clock comes from the pin */
+            {0x001F, 0x0000, 0},
+            {0x009F, 0x0000, 0},
+            {0x019F, 0x0000, 0},
+            {0x103F, 0x0000, 0},
+            {0x011F, 0x0000, 15},
+            {0x021F, 0x0000, 14},
+            {0x123F, 0x0000, 14},
+            /* nor is CKE without SSEN at a host, or one prescaler alone */
+            {0x0120, 0x0000, 0},
+            {0x1120, 0x0000, 0},
+            {0x003E, 0x0000, 0},
+            {0x0023, 0x0000, 0},
+            {0x003C, 0x0000, 0},
+            /* the other bits of CON2 are none */
+            {0x0020, 0x6003, 0},
+        };
+        for (i = 0; i < sizeof setting / sizeof setting[0]; i++) {
+            struct ref_spi m, before;
+            int k;
+            ref_power_up(&m);
+            EXPECT(ref_write(&m, 1, setting[i].con1) == 0);
+            EXPECT(ref_write(&m, 2, setting[i].con2) == 0);
+            before = m;
+            for (k = 0; k < 2; k++) { /* asked again, the same is said */
+                r = ref_write(&m, 0, 0xA05C);
+                if (setting[i].want == 0)
+                    break;
+                EXPECT(memcmp(&m, &before, sizeof m) == 0);
+            }
+            if (r != setting[i].want)
+                printf("  CON1 %04X CON2 %04X gives %d\n", setting[i].con1,
+                       setting[i].con2, r);
+            EXPECT(r == setting[i].want);
+            /* a STAT write that leaves SPIEN at 0 is always taken */
+            if (r != 0)
+                EXPECT(ref_write(&m, 0, 0x205C) == 0 && get(&m, 0) == 0x201C);
+            else
+                EXPECT(ref_write(&m, 0, 0xA01C) == 0); /* enabled already */
+        }
+    }
+    end("12 to 15, alone and together: the first is told");
+
+    begin();
+    {
+        /* one mistake after the other is put right */
+        struct ref_spi m = fresh(0x023F, 0x8000, 0x8000, &r);
+        EXPECT(r == 12);
+        EXPECT(ref_write(&m, 2, 0x0000) == 0);
+        EXPECT(ref_write(&m, 0, 0x8000) == 13);
+        EXPECT(ref_write(&m, 1, 0x0300) == 0);
+        EXPECT(ref_write(&m, 0, 0x8000) == 14);
+        EXPECT(ref_write(&m, 1, 0x0100) == 0);
+        EXPECT(ref_write(&m, 0, 0x8000) == 15);
+        EXPECT(ref_write(&m, 1, 0x0180) == 0);
+        EXPECT(ref_write(&m, 0, 0x8000) == 0);
+        EXPECT(get(&m, 0) == 0x8000);
+    }
+    end("12, 13, 14 and 15 put right in turn");
+
+    begin();
+    {
+        /* every CON1 and FRMEN. FRMEN takes half of the 16,384. Of the other
+         * half, 13 fixes seven bits; 14 fixes one and leaves the half of
+         * those to 13; 15 fixes three and needs SMP 0. */
+        unsigned long told[16] = {0};
+        for (i = 0; i < 0x4000; i++) {
+            (void)fresh(i & 0x1FFF, i & 0x2000 ? 0x8000 : 0, 0x8000, &r);
+            if (r < 0 || r > 15) {
+                EXPECT(r >= 0 && r <= 15);
+                break;
+            }
+            told[r]++;
+        }
+        EXPECT(told[12] == 8192);
+        EXPECT(told[13] == 64);
+        EXPECT(told[14] == 4096 - 32);
+        EXPECT(told[15] == 512);
+        EXPECT(told[0] == 8192 - 64 - 4064 - 512);
+        for (i = 1; i < 12; i++)
+            EXPECT(told[i] == 0); /* 4 among them */
+    }
+    end("every CON1 with and without FRMEN; never 4");
 
     begin();
     {

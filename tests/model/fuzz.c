@@ -62,7 +62,9 @@ struct pair {
 };
 
 static unsigned long st_sent, st_kept, st_lost, st_filler, st_abort, st_linked,
-    st_enable, st_drain, st_refused[12], st_noedge, st_flagset[9];
+    st_enable, st_drain, st_refused[16], st_noedge, st_flagset[9];
+
+static unsigned long st_together; /* enabling with more than one mistake */
 
 static int l_en(const struct ledger *l) { return l->stat_rw >> 15 & 1; }
 static int l_w(const struct ledger *l) { return l->con1 & 0x400 ? 16 : 8; }
@@ -252,18 +254,17 @@ static void refused(const struct pair *p, const struct ref_spi *before, int r)
     CHECK(memcmp(&p->m, before, sizeof p->m) == 0);
 }
 
+/* Document 02, request One: the first mistake in the settings. */
 static int expected_enable_refusal(const struct ledger *l)
 {
     unsigned c = l->con1;
-    if (l->con2 & 0x8000)
-        return 4;
-    if (c & 0x200)
-        return 4;
-    if ((c & 0x103F) == 0x003F)
-        return 4;
-    if ((c & 0x01A0) == 0x0100)
-        return 4;
-    return 0;
+    int framed = (l->con2 & 0x8000) != 0;
+    int undivided = (c & 0x103F) == 0x003F;
+    int late = (c & 0x0200) != 0;
+    int unselected = (c & 0x01A0) == 0x0100;
+
+    st_together += framed + undivided + late + unselected > 1;
+    return framed ? 12 : undivided ? 13 : late ? 14 : unselected ? 15 : 0;
 }
 
 static void do_write(struct pair *p, unsigned reg, unsigned value)
@@ -589,6 +590,8 @@ static unsigned random_con1(void)
         c &= ~0x1000u;
     if (!one_in(4))
         c &= ~0x800u;
+    if (one_in(16))
+        c |= 0x1F; /* both prescalers 1:1 */
     return c;
 }
 
@@ -741,9 +744,11 @@ int main(int argc, char **argv)
            st_enable, st_sent, st_kept, st_lost, st_filler, st_abort,
            st_linked, st_drain, st_noedge);
     printf("refusals");
-    for (i = 1; i <= 11; i++)
-        printf(" %d:%lu", i, st_refused[i]);
-    printf("\nflag set by SISEL");
+    for (i = 1; i <= 15; i++)
+        if (i != 4 && i != 9) /* no call gives these */
+            printf(" %d:%lu", i, st_refused[i]);
+    printf(", with several mistakes at once %lu\nflag set by SISEL",
+           st_together);
     for (i = 0; i < 8; i++)
         printf(" %d:%lu", i, st_flagset[i]);
     printf(" standard:%lu\n", st_flagset[8]);

@@ -1,5 +1,6 @@
 /* The second model itself. A comment names the section of document 01 that
- * the code below it follows, and gives the rule in other words. */
+ * the code below it follows, or the request of document 02, and gives the rule
+ * in other words. */
 #include "ref_spi.h"
 
 #include <string.h>
@@ -304,20 +305,23 @@ static int bit(unsigned value, int number)
     return (int)((value >> number) & 1u);
 }
 
-/* What each refusal number says: the four settings that cannot be turned
- * on, all answered by 4. */
-static int enabling_refused(const struct ref_spi *m)
+/* What each refusal number says, with request One of document 02: the four
+ * settings that cannot be turned on, each with a number of its own; the first
+ * that is found is told. 0 if none is. */
+static int enabling_refusal(const struct ref_spi *m)
 {
+    /* frames are asked for */
     if (m->frmen)
-        return 1;
-    if (m->smp)
-        return 1;
+        return 12;
     /* a host making its own clock, undivided */
-    if (m->msten && !m->dissck && m->ppre == 3 && m->spre == 7)
-        return 1;
+    if (own_clock(m) && m->ppre == 3 && m->spre == 7)
+        return 13;
+    /* late sampling, host or client */
+    if (m->smp)
+        return 14;
     /* CKE at a client needs the select pin */
     if (!m->msten && m->cke && !m->ssen)
-        return 1;
+        return 15;
     return 0;
 }
 
@@ -326,8 +330,11 @@ static int write_stat(struct ref_spi *m, unsigned value)
     int was = m->spien;
     int now = bit(value, 15);
 
-    if (!was && now && enabling_refused(m))
-        return 4;
+    if (!was && now) {
+        int r = enabling_refusal(m);
+        if (r != 0)
+            return r;
+    }
 
     /* Registers: three fields are stored as written. SPIROV can only be
      * taken down, by writing it as 0. */

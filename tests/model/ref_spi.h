@@ -1,5 +1,5 @@
-/* A second model of the SPI module, written from document 01 of the purchase
- * and from nothing else. It keeps plain lists and takes one small step for
+/* A second model of the SPI module, written from document 01 of the purchase,
+ * with request One of document 02, and from nothing else. It keeps plain lists and takes one small step for
  * each rule, so that it can be read beside the paper. */
 #ifndef REF_SPI_H
 #define REF_SPI_H
@@ -44,8 +44,8 @@ struct ref_spi {
     int flag; /* the interrupt flag */
 };
 
-/* The calls. Each answers 0 or the paper's refusal number; a tick may also
- * answer REF_NO_EDGE. */
+/* The calls. Each answers 0 or the papers' refusal number, 1 to 15 but never 4;
+ * a tick may also answer REF_NO_EDGE. */
 void ref_power_up(struct ref_spi *m);
 int ref_read(struct ref_spi *m, unsigned reg, unsigned *value);
 int ref_write(struct ref_spi *m, unsigned reg, unsigned value);

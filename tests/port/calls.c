@@ -16,6 +16,12 @@ int concerned(const struct call *c)
     return c->kind == LINKED ? 2 : 1;
 }
 
+int is_given(uint32_t number)
+{
+    return number >= 1 && number < REFUSALS && number != 4 &&
+           number != THURAFEQA_UNREADABLE_LINE;
+}
+
 void print_call(const struct call *c)
 {
     printf("module %d: %s", c->module, kind_name[c->kind]);

@@ -19,6 +19,11 @@ struct call {
 /* How many modules a call is made on. */
 int concerned(const struct call *c);
 
+/* Refusal numbers are below this. Does any call give that one? Not 4, which 12
+ * to 15 have replaced, and not 9, which is of scripts. */
+#define REFUSALS 16
+int is_given(uint32_t number);
+
 void print_call(const struct call *c);
 
 /* ---- what comes of a call -------------------------------------------- */

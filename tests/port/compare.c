@@ -1,6 +1,7 @@
 /* The exported library beside the second model (tests/model): random calls go
  * to both, and after every call the answers, the registers STAT, CON1 and CON2,
- * the levels and the interrupt flags must agree.
+ * the levels and the interrupt flags must agree. No answer may carry a refusal
+ * number that calls do not give, such as 4.
  *
  * usage: compare CALLS SEED
  *
@@ -251,9 +252,17 @@ enum role { OWN_CLOCK, DISSCK_HOST, CLIENT, SSEN_CLIENT, ROLES };
 static const char *const role_name[ROLES] = {
     "host, its own clock", "host under DISSCK", "client", "client under SSEN"};
 
+/* The mistakes for which enabling is refused, in the order of their numbers. */
+enum mistake { FRAMED, UNDIVIDED, LATE_SAMPLING, UNSELECTED_CKE, MISTAKES };
+#define NUMBER_OF(mistake) ((int)THURAFEQA_FRAMED + (int)(mistake))
+
 static struct {
     unsigned long kinds[KINDS];
-    unsigned long refused[12];
+    unsigned long refused[REFUSALS];
+    /* enabling refused for one mistake; for two, the lower first */
+    unsigned long single[MISTAKES], pair[MISTAKES][MISTAKES], three;
+    /* both prescalers 1:1: enabled, by role; refused for CKE without SSEN */
+    unsigned long undivided[ROLES], undivided_cke;
     unsigned long raised[9]; /* the flag, by SISEL; the last one: standard */
     unsigned long overflow, filler, aborted_word, aborted_filler;
     unsigned long edge, no_edge, linked_edges, clock[3];
@@ -266,6 +275,51 @@ static enum role role_of(const struct ref_spi *m)
     if (m->msten)
         return m->dissck ? DISSCK_HOST : OWN_CLOCK;
     return m->ssen ? SSEN_CLIENT : CLIENT;
+}
+
+static int is_undivided(const struct ref_spi *m)
+{
+    return m->ppre == 3 && m->spre == 7;
+}
+
+/* Which mistakes a module's settings hold. */
+static void find_mistakes(const struct ref_spi *m, int found[MISTAKES])
+{
+    found[FRAMED] = m->frmen;
+    found[UNDIVIDED] = role_of(m) == OWN_CLOCK && is_undivided(m);
+    found[LATE_SAMPLING] = m->smp;
+    found[UNSELECTED_CKE] = role_of(m) == CLIENT && m->cke;
+}
+
+/* 13 is a host's and 15 a client's, so the two cannot meet. */
+static int can_meet(int a, int b)
+{
+    return !(a == UNDIVIDED && b == UNSELECTED_CKE);
+}
+
+/* A STAT write that was to enable a disabled module, and its answer's number. */
+static void count_enabling(const struct ref_spi *m, uint32_t number)
+{
+    int found[MISTAKES];
+    int a, b, n = 0;
+
+    find_mistakes(m, found);
+    for (a = 0; a < MISTAKES; a++)
+        n += found[a];
+    for (a = 0; a < MISTAKES; a++) {
+        if (n == 1 && found[a])
+            reached.single[a]++;
+        for (b = a + 1; b < MISTAKES; b++) {
+            if (n == 2 && found[a] && found[b])
+                reached.pair[a][b]++;
+        }
+    }
+    if (n == 3)
+        reached.three++;
+    if (is_undivided(m) && number == 0)
+        reached.undivided[role_of(m)]++;
+    if (is_undivided(m) && number == THURAFEQA_UNSELECTED_CKE)
+        reached.undivided_cke++;
 }
 
 static int word_edges(const struct ref_spi *m)
@@ -321,6 +375,9 @@ static void count(const struct call *c, const struct outcome *o,
     count_module(&before[0], m);
     if (concerned(c) == 2)
         count_module(&before[1], &pool[c->other]);
+    if (c->kind == WRITE && c->x == THURAFEQA_STAT && !before[0].spien &&
+        (c->y & THURAFEQA_STAT_SPIEN))
+        count_enabling(&before[0], number);
     if (number != 0) {
         reached.refused[number]++;
         return;
@@ -381,6 +438,34 @@ static void print_words(enum role role, int mode16, int spiben)
     printf("\n");
 }
 
+/* What enabling was refused for, and what it was not. */
+static void print_enabling(void)
+{
+    int a, b;
+
+    printf("\nenabling, one mistake:");
+    for (a = 0; a < MISTAKES; a++)
+        print_numbered("", NUMBER_OF(a), reached.single[a]);
+    printf("\nenabling, more:");
+    for (a = 0; a < MISTAKES; a++) {
+        for (b = a + 1; b < MISTAKES; b++) {
+            if (!can_meet(a, b))
+                continue;
+            printf(" %d with", NUMBER_OF(a));
+            print_numbered("", NUMBER_OF(b), reached.pair[a][b]);
+        }
+    }
+    print_count("three", reached.three);
+    printf("\nboth prescalers 1:1:");
+    for (a = 0; a < ROLES; a++) {
+        if (a == OWN_CLOCK)
+            continue; /* refused */
+        print_count(role_name[a], reached.undivided[a]);
+    }
+    print_numbered("client refused by ", (int)THURAFEQA_UNSELECTED_CKE,
+                   reached.undivided_cke);
+}
+
 static void print_reached(void)
 {
     int i;
@@ -389,10 +474,11 @@ static void print_reached(void)
     for (i = 0; i < KINDS; i++)
         print_count(kind_name[i], reached.kinds[i]);
     printf("\nrefused:");
-    for (i = 1; i <= 11; i++) {
-        if (i != (int)THURAFEQA_UNREADABLE_LINE)
+    for (i = 0; i < REFUSALS; i++) {
+        if (is_given((uint32_t)i))
             print_numbered("", i, reached.refused[i]);
     }
+    print_enabling();
     printf("\nflag raised:");
     print_count("standard", reached.raised[8]);
     for (i = 0; i < 8; i++)
@@ -453,6 +539,14 @@ static void make(enum kind kind, int module, int other, uint32_t x, uint32_t y,
         printf("\n");
         print_differences(&c, &l, &m);
         tell(sequence, length, noise);
+        exit(1);
+    }
+    if (thurafeqa_refusal(l.answer) != 0 &&
+        !is_given(thurafeqa_refusal(l.answer))) {
+        printf("call %lu of seed %lu: no call gives the refusal number %d\n  ",
+               made, seed, (int)thurafeqa_refusal(l.answer));
+        print_call(&c);
+        printf("\n");
         exit(1);
     }
     count(&c, &m, before, now.model);
@@ -528,19 +622,45 @@ static uint32_t some_stat(void)
     return (any_number() & 0xFFFFu) | THURAFEQA_STAT_SPIEN;
 }
 
-static void set_up(int i, uint32_t con1)
+static void set_up(int i, uint32_t con1, uint32_t con2)
 {
     if (now.model[i].spien)
         write_register(i, THURAFEQA_STAT,
                        any_number() & 0xFFFFu & ~THURAFEQA_STAT_SPIEN);
     write_register(i, THURAFEQA_CON1, con1);
-    write_register(i, THURAFEQA_CON2, some_con2());
+    write_register(i, THURAFEQA_CON2, con2);
     write_register(i, THURAFEQA_STAT, some_stat());
+}
+
+/* Settings near those that cannot be enabled: none of the mistakes, one, or
+ * several at once. */
+static void set_up_mistaken(int i)
+{
+    uint32_t con1 = some_con1((enum role)below(ROLES), some_modes());
+    uint32_t con2 = some_con2();
+
+    con1 &= ~THURAFEQA_CON1_SMP;
+    if (one_in(2))
+        con1 |= THURAFEQA_CON1_SPRE | THURAFEQA_CON1_PPRE;
+    if (one_in(2))
+        con1 |= THURAFEQA_CON1_CKE;
+    if (one_in(3))
+        con1 |= THURAFEQA_CON1_SMP;
+    if (one_in(3))
+        con2 |= THURAFEQA_CON2_FRMEN;
+    set_up(i, con1, con2);
 }
 
 static void set_up_alone(int i)
 {
-    set_up(i, some_con1((enum role)below(ROLES), some_modes()));
+    if (one_in(8)) {
+        int tries = 1 + (int)below(8);
+        while (tries-- > 0)
+            set_up_mistaken(i);
+        if (now.model[i].spien)
+            return;
+    }
+    set_up(i, some_con1((enum role)below(ROLES), some_modes()), some_con2());
 }
 
 /* Partners that can be linked, but for a mode now and then. */
@@ -554,8 +674,8 @@ static void set_up_partners(int i)
 
     if (one_in(12))
         other ^= some_modes();
-    set_up(host, some_con1(OWN_CLOCK, modes));
-    set_up(host ^ 1, some_con1(role, other));
+    set_up(host, some_con1(OWN_CLOCK, modes), some_con2());
+    set_up(host ^ 1, some_con1(role, other), some_con2());
 }
 
 /* ---- random acts on an enabled module -------------------------------- */

@@ -148,6 +148,17 @@ static void make_real(thurafeqa *m, uint32_t con1)
     }
 }
 
+/* A disabled module as calls make it, its settings often some that cannot be
+ * enabled. */
+static void make_disabled(thurafeqa *m, uint32_t con1)
+{
+    if (one_in(2))
+        con1 |= THURAFEQA_CON1_SPRE | THURAFEQA_CON1_PPRE;
+    thurafeqa_power_up(m);
+    thurafeqa_write(m, THURAFEQA_CON1, con1);
+    thurafeqa_write(m, THURAFEQA_CON2, any_number());
+}
+
 static uint16_t some_number(void)
 {
     return (uint16_t)(one_in(2) ? any_number() : below(12));
@@ -161,7 +172,10 @@ static void fill(thurafeqa *m, uint32_t con1)
     size_t i;
 
     if (how >= 6) { /* a real one, with some numbers replaced */
-        make_real(m, con1);
+        if (one_in(8))
+            make_disabled(m, con1);
+        else
+            make_real(m, con1);
         for (i = one_in(2) ? below(3) : below(12); i > 0; i--)
             m->memory[below(NUMBERS)] = some_number();
         return;
@@ -215,12 +229,24 @@ static int undivided(const uint32_t *seen)
            (~seen[CON1] & (THURAFEQA_CON1_SPRE | THURAFEQA_CON1_PPRE)) == 0;
 }
 
-static int bad_settings(const uint32_t *seen)
+/* A write that is to enable a disabled module. */
+static int enabling(const struct call *c, const uint32_t *seen)
 {
-    return (seen[CON2] & THURAFEQA_CON2_FRMEN) ||
-           (seen[CON1] & THURAFEQA_CON1_SMP) ||
-           (seen[CON1] & (THURAFEQA_CON1_MSTEN | THURAFEQA_CON1_CKE |
-                          THURAFEQA_CON1_SSEN)) == THURAFEQA_CON1_CKE;
+    return c->kind == WRITE && c->x == THURAFEQA_STAT && !enabled(seen) &&
+           (c->y & THURAFEQA_STAT_SPIEN);
+}
+
+/* The first mistake in the settings, the prescalers left out. */
+static uint32_t enabling_refusal(const uint32_t *seen)
+{
+    if (seen[CON2] & THURAFEQA_CON2_FRMEN)
+        return THURAFEQA_FRAMED;
+    if (seen[CON1] & THURAFEQA_CON1_SMP)
+        return THURAFEQA_LATE_SAMPLING;
+    if ((seen[CON1] & (THURAFEQA_CON1_MSTEN | THURAFEQA_CON1_CKE |
+                       THURAFEQA_CON1_SSEN)) == THURAFEQA_CON1_CKE)
+        return THURAFEQA_UNSELECTED_CKE;
+    return 0;
 }
 
 static uint32_t register_refusal(const struct call *c, const uint32_t *seen)
@@ -237,9 +263,7 @@ static uint32_t register_refusal(const struct call *c, const uint32_t *seen)
         return seen[STAT] & THURAFEQA_STAT_SPITBF ? THURAFEQA_TRANSMIT_FULL : 0;
     if (c->x != THURAFEQA_STAT)
         return enabled(seen) ? THURAFEQA_ENABLED : 0;
-    return !enabled(seen) && (c->y & THURAFEQA_STAT_SPIEN) && bad_settings(seen)
-               ? THURAFEQA_BAD_SETTINGS
-               : 0;
+    return enabling(c, seen) ? enabling_refusal(seen) : 0;
 }
 
 static uint32_t linked_refusal(const struct call *c, const uint32_t *host,
@@ -276,11 +300,12 @@ static uint32_t table_refusal(const struct call *c,
 }
 
 /* Memory made otherwise may hold prescaler numbers of which the register shows
- * only some bits, so that one case of refusal 4 cannot be told from outside. */
-static int may_refuse(const struct call *c, uint32_t seen[2][VIEWS])
+ * only some bits. So a host that shows both as 1:1 may be refused with 13, or
+ * be answered as if they were not; with FRMEN 12 comes before either. */
+static int may_be_undivided(const struct call *c, uint32_t seen[2][VIEWS])
 {
-    return c->kind == WRITE && c->x == THURAFEQA_STAT && !enabled(seen[0]) &&
-           (c->y & THURAFEQA_STAT_SPIEN) && undivided(seen[0]);
+    return enabling(c, seen[0]) && undivided(seen[0]) &&
+           enabling_refusal(seen[0]) != THURAFEQA_FRAMED;
 }
 
 /* ---- legal shapes ---------------------------------------------------- */
@@ -331,8 +356,10 @@ static void hold_answer(const struct call *c, const struct outcome *o,
     uint32_t number = thurafeqa_refusal(o->answer);
     uint16_t value = thurafeqa_value(o->answer);
 
+    hold(number == 0 || is_given(number),
+         "a refusal number that no call gives");
     hold(number == table_refusal(c, seen) ||
-             (number == THURAFEQA_BAD_SETTINGS && may_refuse(c, seen)),
+             (number == THURAFEQA_UNDIVIDED && may_be_undivided(c, seen)),
          "not the refusal that the table asks for");
     if (c->kind == CLOCK)
         hold_report(c, o, seen[0]);
@@ -355,7 +382,7 @@ static thurafeqa third[2];
 /* What the first copies showed after the call before. */
 static uint32_t seen[2][VIEWS];
 
-static unsigned long refused[12], done[KINDS];
+static unsigned long refused[REFUSALS], done[KINDS];
 
 static void see_both(uint32_t shown[2][VIEWS])
 {
@@ -447,6 +474,11 @@ static void choose(void)
         now.y = any_number();
     if (now.kind == LINKED)
         now.x = some_limit();
+    if (!enabled(seen[0]) && one_in(8)) {
+        now.kind = WRITE;
+        now.x = THURAFEQA_STAT;
+        now.y = any_number() | THURAFEQA_STAT_SPIEN;
+    }
 }
 
 /* The two calls on constant memory, on memory that cannot be written. */
@@ -510,8 +542,8 @@ int main(int argc, char **argv)
         missing += done[i] == 0;
     }
     printf("\nrefused:");
-    for (i = 1; i <= 11; i++) {
-        if (i == (int)THURAFEQA_UNREADABLE_LINE)
+    for (i = 0; i < REFUSALS; i++) {
+        if (!is_given((uint32_t)i))
             continue;
         printf(" %d: %lu", i, refused[i]);
         missing += refused[i] == 0;

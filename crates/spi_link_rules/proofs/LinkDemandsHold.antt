@@ -10,7 +10,7 @@ use lib.Dec.{lit≤}
 use Rattle.spi_rules.specs.declared.Module.{Module}
 use Rattle.spi_rules.specs.declared.Call.{Call}
 use Rattle.spi_rules.specs.declared.Refusal.{Refusal}
-use Rattle.spi_rules.specs.declared.Refusal.the-variants.{NoSuchRegister, Disabled, Enabled, BadSettings, TransmitFull, ReceiveEmpty, WrongClock, NoRate, UnreadableLine, DifferentModes, TooManyEdges}
+use Rattle.spi_rules.specs.declared.Refusal.the-variants.{NoSuchRegister, Disabled, Enabled, TransmitFull, ReceiveEmpty, WrongClock, NoRate, UnreadableLine, DifferentModes, TooManyEdges, Framed, Undivided, LateSampling, UnselectedCke}
 use Rattle.spi_link_rules.specs.declared.LinkAnswer.{LinkAnswer}
 use Rattle.spi_link_rules.specs.declared.LinkAnswer.the-variants as linked
 use Rattle.spi_rules.specs.Refusals.{numberOf}
@@ -33,7 +33,6 @@ unfolding numberOf
 numbered NoSuchRegister = lit≤ tt
 numbered Disabled = lit≤ tt
 numbered Enabled = lit≤ tt
-numbered BadSettings = lit≤ tt
 numbered TransmitFull = lit≤ tt
 numbered ReceiveEmpty = lit≤ tt
 numbered WrongClock = lit≤ tt
@@ -41,6 +40,10 @@ numbered NoRate = lit≤ tt
 numbered UnreadableLine = lit≤ tt
 numbered DifferentModes = lit≤ tt
 numbered TooManyEdges = lit≤ tt
+numbered Framed = lit≤ tt
+numbered Undivided = lit≤ tt
+numbered LateSampling = lit≤ tt
+numbered UnselectedCke = lit≤ tt
 
 -- An answer with the number 0 tells the edges used, and one with another number is a refusal.
 is-used : (a : LinkAnswer) → linkSaidOf a .number ≡ 0 → a ≡ linked.Used (linkSaidOf a .edges)

@@ -2,23 +2,18 @@
 --     kept, changed   a call that leaves memory alone, and one whose answer allows that it does not
 --     likewise        a call that answers as another does
 --     answered        the outcome of a step of the engine
---     bad-settings    the outcome of a write that would enable bad settings
 --     set, then-set   the outcome of other settings, and of a step and then other settings
 -- Assumes nothing.
 use Prim.Native.Nat.{ℕ}
 use mathlib.Core.Bool.{false}
 use mathlib.Core.List.{List}
-use mathlib.Core.Path.{_≡_, refl, ap, _∙_}
+use mathlib.Core.Path.{_≡_, refl, _∙_}
 use Rattle.spi_rules.specs.declared.Settings.{Settings}
 use Rattle.spi_rules.specs.declared.Engine.{Engine}
 use Rattle.spi_rules.specs.declared.Outcome.{Outcome}
 use Rattle.spi_rules.specs.declared.Answer.{Answer}
-use Rattle.spi_rules.specs.declared.Answer.the-variants.{Refused}
-use Rattle.spi_rules.specs.declared.Refusal.the-variants.{BadSettings}
-use Rattle.spi_rules.specs.Refusals.{causes, firstGiven}
-use Rattle.spi_rules.specs.Calls.{refuse, answering}
+use Rattle.spi_rules.specs.Calls.{answering}
 use Rattle.spi_rules.proofs.Keeps.{clash}
-use Rattle.spi_rules.proofs.RefusalsExact.{cause-is}
 use Rattle.spi_memory.specs.Memory.{settingsIn, engineIn, moduleIn, Steps, Sets}
 use Rattle.spi_module.specs.Answered.{outcomeIn, untouching, Answers}
 
@@ -44,7 +39,3 @@ pub then-set : (x : Answer) {f : Settings → Settings} {g : Settings → Engine
     {n : Engine} → Steps g a b → Sets f b c → f (settingsIn a) ≡ s → g (settingsIn a) (engineIn a) ≡ n →
     outcomeIn x c ≡ record { answer = x; after = record { settings = s; engine = n } }
 then-set x h k e d = cc
-
-pub bad-settings : (a : List ℕ) → outcomeIn (Refused BadSettings) a ≡ refuse (moduleIn a) (firstGiven (causes (settingsIn a)))
-unfolding refuse
-bad-settings a = ap (refuse (moduleIn a)) (cause-is (settingsIn a))

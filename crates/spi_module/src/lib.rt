@@ -306,7 +306,7 @@ fn write_stat(w: &mut [u16; 96], v: u16) -> Answer
     let s = spi_memory::settings_in(w);
     let on = v / 32768 % 2 == 1;
     if (!s.spien & on) & spi_settings::are_bad(s) {
-        return Answer::Refused(Refusal::BadSettings);
+        return Answer::Refused(spi_settings::first_cause(s));
     }
     stat_written(w, v);
     spi_memory::store_stat(w, v);

@@ -4,7 +4,7 @@
 use mathlib.Core.Path.{sym, _∙_}
 use Rattle.spi_rules.specs.Demands.{life, OneModule}
 use Rattle.spi_rules.proofs.RefusalsUnchanged.{refused-unchanged}
-use Rattle.spi_rules.proofs.RefusalsExact.{refused-exactly}
+use Rattle.spi_rules.proofs.RefusalsExact.{refused-exactly, never-four}
 use Rattle.spi_rules.proofs.RefusalsKinds.{call-fits}
 use Rattle.spi_rules.proofs.ExamplesHold.{examples-hold, further-examples-hold}
 use Rattle.spi_rules.proofs.FlagsReads.{reads-show}
@@ -19,6 +19,7 @@ one-module =
           record {
             refusedExactly = refused-exactly;
             refusedUnchanged = refused-unchanged;
+            neverFour = never-four;
             inKind = λ m c. call-fits m c .kind;
             oneOutcome = λ m c x y e f. e ∙ sym f;
           };

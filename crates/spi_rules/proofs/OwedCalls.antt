@@ -23,7 +23,7 @@ use Rattle.spi_rules.specs.declared.Module.{Module}
 use Rattle.spi_rules.specs.declared.Outcome.{Outcome}
 use Rattle.spi_rules.specs.declared.Shift.the-variants.{Free}
 use Rattle.spi_rules.specs.declared.Refusal.{Refusal}
-use Rattle.spi_rules.specs.declared.Refusal.the-variants.{NoSuchRegister, Disabled, Enabled, BadSettings, TransmitFull, ReceiveEmpty, WrongClock}
+use Rattle.spi_rules.specs.declared.Refusal.the-variants.{NoSuchRegister, Disabled, Enabled, TransmitFull, ReceiveEmpty, WrongClock}
 use Rattle.spi_rules.specs.declared.Answer.{Answer}
 use Rattle.spi_rules.specs.declared.Answer.the-variants.{Refused, Done, NoEdge, Edge}
 use Rattle.spi_rules.specs.declared.Call.{Call}

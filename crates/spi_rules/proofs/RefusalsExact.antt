@@ -1,7 +1,7 @@
 -- A call is refused exactly when a row of the table of document 01 applies, with the first that does in the order of the
 -- tests, whatever the module.
 --     refused-exactly   the demand of specs/Demands.antt
---     cause-is          each cause for which settings cannot be enabled is refusal 4
+--     never-four        no refusal has the number 4
 --     refused-by        a test that refuses by its row: what comes after it is asked only if it fails
 --     by-spien          a call is refused exactly if it is so in every enabled and in every disabled module
 -- Assumes nothing.
@@ -15,7 +15,7 @@ use Rattle.spi_rules.specs.declared.Settings.{Settings}
 use Rattle.spi_rules.specs.declared.Module.{Module}
 use Rattle.spi_rules.specs.declared.Outcome.{Outcome}
 use Rattle.spi_rules.specs.declared.Refusal.{Refusal}
-use Rattle.spi_rules.specs.declared.Refusal.the-variants.{BadSettings, TransmitFull, ReceiveEmpty, WrongClock}
+use Rattle.spi_rules.specs.declared.Refusal.the-variants.{NoSuchRegister, Disabled, Enabled, TransmitFull, ReceiveEmpty, WrongClock, NoRate, UnreadableLine, DifferentModes, TooManyEdges, Framed, Undivided, LateSampling, UnselectedCke}
 use Rattle.spi_rules.specs.declared.Call.{Call}
 use Rattle.spi_rules.specs.declared.Call.the-variants.{Read, Write, Tick, Pin, Clear}
 use Rattle.spi_rules.specs.Choice.{if_then_else_}
@@ -48,25 +48,45 @@ by-spien : (c : Call) →
     (m : Module) → told (performOf m c) ≡ firstNumber (rows m c)
 by-spien c h m = h (m .settings .spien) m
 
--- Four causes with one number, and the first of them.
-any-cause : (up a b c d : Bool) (k : ℕ) →
-    (if up && (a || (b || (c || d))) then 4 else k)
-    ≡ (if up && a then 4 else if up && b then 4 else if up && c then 4 else if up && d then 4 else k)
+-- The first of four causes that is given, and its number.
+first-cause : (up a b c d : Bool) (p q r s k : ℕ) →
+    (if up && (a || (b || (c || d))) then (if a then p else if b then q else if c then r else s) else k)
+    ≡ (if up && a then p else if up && b then q else if up && c then r else if up && d then s else k)
 unfolding if_then_else_
-any-cause true true b c d k = refl
-any-cause true false true c d k = refl
-any-cause true false false true d k = refl
-any-cause true false false false true k = refl
-any-cause true false false false false k = refl
-any-cause false a b c d k = refl
+first-cause true true b c d p q r s k = refl
+first-cause true false true c d p q r s k = refl
+first-cause true false false true d p q r s k = refl
+first-cause true false false false true p q r s k = refl
+first-cause true false false false false p q r s k = refl
+first-cause false a b c d p q r s k = refl
 
--- Each cause is refusal 4.
-pub cause-is : (s : Settings) → BadSettings ≡ firstGiven (causes s)
-cause-is s =
-    if-keeps (λ (r : Refusal). BadSettings ≡ r) (framing s) _ _ (λ e. refl)
-    (λ e.
-    if-keeps (λ (r : Refusal). BadSettings ≡ r) (undivided s) _ _ (λ e. refl)
-    (λ e. if-keeps (λ (r : Refusal). BadSettings ≡ r) (lateSampling s) _ _ (λ e. refl) (λ e. refl)))
+-- The number of the first cause.
+cause-number : (a b c : Bool) →
+    numberOf (if a then Framed else if b then Undivided else if c then LateSampling else UnselectedCke)
+    ≡ (if a then 12 else if b then 13 else if c then 14 else 15)
+unfolding if_then_else_ numberOf
+cause-number true b c = refl
+cause-number false true c = refl
+cause-number false false true = refl
+cause-number false false false = refl
+
+-- No refusal has the number 4.
+pub never-four : (r : Refusal) → numberOf r ≡ 4 → ⊥
+unfolding numberOf
+never-four NoSuchRegister e = omega (arith, e)
+never-four Disabled e = omega (arith, e)
+never-four Enabled e = omega (arith, e)
+never-four TransmitFull e = omega (arith, e)
+never-four ReceiveEmpty e = omega (arith, e)
+never-four WrongClock e = omega (arith, e)
+never-four NoRate e = omega (arith, e)
+never-four UnreadableLine e = omega (arith, e)
+never-four DifferentModes e = omega (arith, e)
+never-four TooManyEdges e = omega (arith, e)
+never-four Framed e = omega (arith, e)
+never-four Undivided e = omega (arith, e)
+never-four LateSampling e = omega (arith, e)
+never-four UnselectedCke e = omega (arith, e)
 
 -- A register number is one of the four, or above 3.
 register-cases : (P : ℕ → Type 0) → P 0 → P 1 → P 2 → P 3 → ((k : ℕ) → ltb 3 k ≡ true → P k) → (register : ℕ) → P register
@@ -107,8 +127,9 @@ write-refused m v =
       | false ↦ λ m.
           let s = m .settings in
           refused-by _ (firstGiven (causes s)) (bitOf v 15 && badSettings s) (bitOf v 15 && badSettings s) _ 0 refl (λ good. refl)
-          ∙ ap (λ (k : ℕ). if bitOf v 15 && badSettings s then k else 0) (ap numberOf (sym (cause-is s)))
-          ∙ any-cause (bitOf v 15) (framing s) (undivided s) (lateSampling s) (unselectedCke s) 0
+          ∙ ap (λ (k : ℕ). if bitOf v 15 && badSettings s then k else 0)
+          (cause-number (framing s) (undivided s) (lateSampling s))
+          ∙ first-cause (bitOf v 15) (framing s) (undivided s) (lateSampling s) (unselectedCke s) 12 13 14 15 0
     ])
     m)
     (by-spien (Write 1 v) (elim [ true ↦ λ m. refl | false ↦ λ m. refl ]) m)

@@ -19,7 +19,7 @@ use Rattle.spi_rules.specs.declared.Answer.the-variants.{Refused, Value,
 use Rattle.spi_rules.specs.declared.Call.{Call}
 use Rattle.spi_rules.specs.declared.Call.the-variants.{Read, Write, Tick, Pin, Clear}
 use Rattle.spi_rules.specs.Choice.{if_then_else_}
-use Rattle.spi_rules.specs.Refusals.{saidOf, isDone}
+use Rattle.spi_rules.specs.Refusals.{numberOf, saidOf, isDone}
 use Rattle.spi_rules.specs.Examples.{examples, furtherExamples}
 use Rattle.spi_rules.specs.Settings.{widthOf, depthOf, ckeOf, ownClock}
 use Rattle.spi_rules.specs.Registers.{bitOf}
@@ -48,10 +48,12 @@ among k [] = false
 among k (x ∷ xs) = eqb k x || among k xs
 
 -- A call is refused exactly when a row of the table applies, with the number of the first that does, and then leaves the
--- module unchanged. An equation with a function leaves no two outcomes.
+-- module unchanged. No refusal has the number 4 (document 02, One), so that no call gives it. An equation with a function
+-- leaves no two outcomes.
 pub record Answered : Type 0 where
   pub refusedExactly : (m : Module) (c : Call) → saidOf (performOf m c .answer) .number ≡ firstNumber (rows m c)
   pub refusedUnchanged : (m : Module) (c : Call) (r : Refusal) → performOf m c .answer ≡ Refused r → performOf m c .after ≡ m
+  pub neverFour : (r : Refusal) → numberOf r ≡ 4 → ⊥
   pub inKind : (m : Module) (c : Call) → among (saidOf (performOf m c .answer) .kind) (0 ∷ kindsFor c) ≡ true
   pub oneOutcome : (m : Module) (c : Call) (x y : Outcome) → x ≡ performOf m c → y ≡ performOf m c → x ≡ y
 

@@ -99,17 +99,17 @@ bitsOfA5 = High ∷ Low ∷ High ∷ Low ∷ Low ∷ High ∷ Low ∷ High ∷ [
 abbrev pub exampleA : List Step
 exampleA = says (Read 0) (value 0x0000) ∷ []
 
--- b. CON1 003F: enabling gives 4.
+-- b. CON1 003F: enabling gives 13 (document 02, One).
 abbrev pub exampleB : List Step
-exampleB = says (Write 1 0x003F) ok ∷ says (Write 0 0x8000) (refused 4) ∷ []
+exampleB = says (Write 1 0x003F) ok ∷ says (Write 0 0x8000) (refused 13) ∷ []
 
 -- c. CON1 003B: enabled.
 abbrev pub exampleC : List Step
 exampleC = says (Write 1 0x003B) ok ∷ says (Write 0 0x8000) ok ∷ says (Read 0) (value 0x8000) ∷ []
 
--- d. CON1 0100: enabling gives 4.
+-- d. CON1 0100: enabling gives 15 (document 02, One).
 abbrev pub exampleD : List Step
-exampleD = says (Write 1 0x0100) ok ∷ says (Write 0 0x8000) (refused 4) ∷ []
+exampleD = says (Write 1 0x0100) ok ∷ says (Write 0 0x8000) (refused 15) ∷ []
 
 -- e. CON1 0180: enabled.
 abbrev pub exampleE : List Step
@@ -308,6 +308,32 @@ furtherClocks =
     ∷ says (Write 0 0x0000) ok
     ∷ set-up 0x0000 0x0000 ++ (says (Tick true) (refused 7) ∷ says (Pin false true true) ok ∷ [])))
 
+-- Document 02, One: which setting was wrong. Each mistake alone, each pair that can meet, a client and a DISSCK host with both
+-- prescalers 1:1, which are enabled, and a client with CKE, no SSEN and both 1:1. A refused enabling takes nothing.
+abbrev pub enablingGives : ℕ → ℕ → ℕ → List Step
+enablingGives con1 con2 number =
+    says (Write 1 con1) ok
+    ∷ says (Write 2 con2) ok
+    ∷ says (Write 0 0xA01C) (refused number)
+    ∷ says (Read 0) (value 0x0000)
+    ∷ []
+
+abbrev pub furtherCauses : List Step
+furtherCauses =
+    enablingGives 0x0020 0x8000 12
+    ++ (enablingGives 0x003F 0x0000 13
+    ++ (enablingGives 0x0220 0x0000 14
+    ++ (enablingGives 0x0280 0x0000 14
+    ++ (enablingGives 0x0100 0x0000 15
+    ++ (enablingGives 0x003F 0x8000 12
+    ++ (enablingGives 0x0220 0x8000 12
+    ++ (enablingGives 0x0100 0x8000 12
+    ++ (enablingGives 0x023F 0x0000 13
+    ++ (enablingGives 0x0300 0x0000 14
+    ++ (enablingGives 0x011F 0x0000 15
+    ++ (set-up 0x001F 0x0000
+    ++ (says (Write 0 0x0000) ok ∷ set-up 0x103F 0x0000))))))))))))
+
 abbrev pub furtherExamples : Bool
 furtherExamples =
-    everyHolds (furtherPowerUp ∷ furtherSpirov ∷ furtherCke1 ∷ furtherSelect ∷ furtherFlag ∷ furtherFiller ∷ furtherRegisters ∷ furtherClocks ∷ [])
+    everyHolds (furtherPowerUp ∷ furtherSpirov ∷ furtherCke1 ∷ furtherSelect ∷ furtherFlag ∷ furtherFiller ∷ furtherRegisters ∷ furtherClocks ∷ furtherCauses ∷ [])

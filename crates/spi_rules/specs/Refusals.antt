@@ -5,7 +5,7 @@ use mathlib.Core.List.{List, [], _∷_}
 use lib.Dec.{eqb}
 use Rattle.spi_rules.specs.declared.Settings.{Settings}
 use Rattle.spi_rules.specs.declared.Refusal.{Refusal}
-use Rattle.spi_rules.specs.declared.Refusal.the-variants.{NoSuchRegister, Disabled, Enabled, BadSettings, TransmitFull, ReceiveEmpty, WrongClock, NoRate, UnreadableLine, DifferentModes, TooManyEdges}
+use Rattle.spi_rules.specs.declared.Refusal.the-variants.{NoSuchRegister, Disabled, Enabled, TransmitFull, ReceiveEmpty, WrongClock, NoRate, UnreadableLine, DifferentModes, TooManyEdges, Framed, Undivided, LateSampling, UnselectedCke}
 use Rattle.spi_rules.specs.declared.Answer.{Answer}
 use Rattle.spi_rules.specs.declared.Answer.the-variants.{Refused, Done, Value, NoEdge, Edge}
 use Rattle.spi_rules.specs.declared.Said.{Said}
@@ -20,8 +20,6 @@ numberOf NoSuchRegister = 1
 numberOf Disabled = 2
 -- CON1 or CON2 is written while SPIEN is 1
 numberOf Enabled = 3
--- a STAT write would enable settings that are not modelled or not allowed
-numberOf BadSettings = 4
 -- a BUF write finds the transmit buffer full
 numberOf TransmitFull = 5
 -- a BUF read finds the receive buffer empty
@@ -36,6 +34,15 @@ numberOf UnreadableLine = 9
 numberOf DifferentModes = 10
 -- a linked run is asked for more edges than one host can owe
 numberOf TooManyEdges = 11
+-- Request One: a STAT write would enable settings that are not modelled or not allowed. 4 told these four as one.
+-- framing is asked for
+numberOf Framed = 12
+-- a host with its own clock has both prescalers at 1:1
+numberOf Undivided = 13
+-- SMP is set
+numberOf LateSampling = 14
+-- a client has CKE and no SSEN
+numberOf UnselectedCke = 15
 
 -- What an answer says in the paper's numbers. Its kind has a number of its own, so that no two answers say the same.
 abbrev pub saidOf : Answer → Said
@@ -78,10 +85,10 @@ unselectedCke s = not (s .con1 .msten) && (s .con1 .cke && not (s .con1 .ssen))
 -- The causes, in the order in which they are looked at.
 abbrev pub causes : Settings → List Cause
 causes s =
-    record { why = BadSettings; given = framing s }
-    ∷ record { why = BadSettings; given = undivided s }
-    ∷ record { why = BadSettings; given = lateSampling s }
-    ∷ record { why = BadSettings; given = unselectedCke s }
+    record { why = Framed; given = framing s }
+    ∷ record { why = Undivided; given = undivided s }
+    ∷ record { why = LateSampling; given = lateSampling s }
+    ∷ record { why = UnselectedCke; given = unselectedCke s }
     ∷ []
 
 abbrev pub anyGiven : List Cause → Bool
@@ -94,6 +101,6 @@ abbrev pub badSettings : Settings → Bool
 badSettings s = anyGiven (causes s)
 
 abbrev pub firstGiven : List Cause → Refusal
-firstGiven [] = BadSettings
+firstGiven [] = Framed
 firstGiven (c ∷ []) = c .why
 firstGiven (c ∷ (d ∷ rest)) = if c .given then c .why else firstGiven (d ∷ rest)

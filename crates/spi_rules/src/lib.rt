@@ -117,7 +117,6 @@ pub enum Refusal {
     NoSuchRegister,
     Disabled,
     Enabled,
-    BadSettings,
     TransmitFull,
     ReceiveEmpty,
     WrongClock,
@@ -125,6 +124,10 @@ pub enum Refusal {
     UnreadableLine,
     DifferentModes,
     TooManyEdges,
+    Framed,
+    Undivided,
+    LateSampling,
+    UnselectedCke,
 }
 
 // What a call answers: a refusal, nothing to tell, a register's value, no edge, or one edge made.

@@ -17,7 +17,7 @@ use lib.ListN.{length, length-append}
 use Rattle.spi_rules.specs.declared.Module.{Module}
 use Rattle.spi_script_rules.specs.declared.Session.{Session}
 use Rattle.spi_rules.specs.declared.Refusal.{Refusal}
-use Rattle.spi_rules.specs.declared.Refusal.the-variants.{NoSuchRegister, Disabled, Enabled, BadSettings, TransmitFull, ReceiveEmpty, WrongClock, NoRate, UnreadableLine, DifferentModes, TooManyEdges}
+use Rattle.spi_rules.specs.declared.Refusal.the-variants.{NoSuchRegister, Disabled, Enabled, TransmitFull, ReceiveEmpty, WrongClock, NoRate, UnreadableLine, DifferentModes, TooManyEdges, Framed, Undivided, LateSampling, UnselectedCke}
 use Rattle.spi_rules.specs.declared.Answer.{Answer}
 use Rattle.spi_rules.specs.declared.Answer.the-variants.{Refused, Done, Value, NoEdge, Edge}
 use Rattle.spi_rules.specs.declared.Call.{Call}
@@ -48,7 +48,6 @@ unfolding numberOf
 number-below NoSuchRegister = omega arith
 number-below Disabled = omega arith
 number-below Enabled = omega arith
-number-below BadSettings = omega arith
 number-below TransmitFull = omega arith
 number-below ReceiveEmpty = omega arith
 number-below WrongClock = omega arith
@@ -56,6 +55,10 @@ number-below NoRate = omega arith
 number-below UnreadableLine = omega arith
 number-below DifferentModes = omega arith
 number-below TooManyEdges = omega arith
+number-below Framed = omega arith
+number-below Undivided = omega arith
+number-below LateSampling = omega arith
+number-below UnselectedCke = omega arith
 
 pub refused-length : (r : Refusal) → length (refusedText r) ≤ 4
 unfolding refusedText decimalOf

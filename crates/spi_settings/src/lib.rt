@@ -1,10 +1,11 @@
-// What the settings decide by themselves: width, depth, role, the causes of refusal 4, and which events raise the
+// What the settings decide by themselves: width, depth, role, why it cannot be enabled, and which events raise the
 // interrupt flag.
 use spi_rules::Event;
+use spi_rules::Refusal;
 use spi_rules::Settings;
 ghost use mathlib.Core.Path.{_≡_};
 ghost use Rattle.spi_rules.specs.Settings.{widthOf, depthOf, ssenClient, ownClock};
-ghost use Rattle.spi_rules.specs.Refusals.{framing, undivided, lateSampling, unselectedCke, badSettings};
+ghost use Rattle.spi_rules.specs.Refusals.{framing, undivided, lateSampling, unselectedCke, causes, badSettings, firstGiven};
 ghost use Rattle.spi_rules.specs.Interrupts.{enhancedRaises, standardRaises, raises};
 
 // The width in bits.
@@ -68,6 +69,22 @@ pub fn are_bad(s: Settings) -> bool
     ensures { λ r. ⌜ r ≡ badSettings s ⌝ }
 {
     framed(s) | (is_undivided(s) | (samples_late(s) | has_unselected_cke(s)))
+}
+
+// The first cause for which these settings cannot be enabled. It says something only where there is one.
+pub fn first_cause(s: Settings) -> Refusal
+    ensures { λ r. ⌜ r ≡ firstGiven (causes s) ⌝ }
+{
+    if framed(s) {
+        return Refusal::Framed;
+    }
+    if is_undivided(s) {
+        return Refusal::Undivided;
+    }
+    if samples_late(s) {
+        return Refusal::LateSampling;
+    }
+    Refusal::UnselectedCke
 }
 
 // Whether an event raises the interrupt flag in enhanced operation.

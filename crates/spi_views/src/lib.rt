@@ -19,7 +19,6 @@ pub fn refusal_number(r: Refusal) -> u8
         Refusal::NoSuchRegister => 1,
         Refusal::Disabled => 2,
         Refusal::Enabled => 3,
-        Refusal::BadSettings => 4,
         Refusal::TransmitFull => 5,
         Refusal::ReceiveEmpty => 6,
         Refusal::WrongClock => 7,
@@ -27,6 +26,10 @@ pub fn refusal_number(r: Refusal) -> u8
         Refusal::UnreadableLine => 9,
         Refusal::DifferentModes => 10,
         Refusal::TooManyEdges => 11,
+        Refusal::Framed => 12,
+        Refusal::Undivided => 13,
+        Refusal::LateSampling => 14,
+        Refusal::UnselectedCke => 15,
     }
 }
 

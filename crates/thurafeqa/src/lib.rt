@@ -159,7 +159,7 @@ pub extern "C" fn thurafeqa_clock(w: &[u16; 96], rate: u32, report: &mut [f64; 3
 pub extern "C" fn thurafeqa_version() -> u32
     ensures { λ r. ⌜ r ≡ versionNumber ⌝ }
 {
-    65536
+    131072
 }
 
 // The number of the memory's format: it rises wherever the meaning of the 96 numbers changes.

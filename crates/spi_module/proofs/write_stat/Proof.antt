@@ -4,31 +4,34 @@ use mathlib.Core.Path.{refl}
 use Rattle.spi_rules.specs.Registers.{bitOf}
 use Rattle.spi_rules.specs.Calls.{turnsOn, refuse, writeStat}
 use Rattle.spi_rules.proofs.Choices.{so, not-so}
-use Rattle.spi_module.proofs.Answers.{kept, changed, bad-settings, then-set}
+use Rattle.spi_module.proofs.Answers.{kept, changed, then-set}
 use Rattle.spi_module.proofs.write_stat.Statement.{statement}
 use Rattle.spi_module.proofs.write_stat.Tie as tie
 
 returns : tie.Need-returns
-unfolding writeStat turnsOn bitOf
+unfolding writeStat turnsOn bitOf refuse
 returns c =
-    let settings-in = c .before .before .before .settings-in .ensures in
-    kept
-    (so _ _ _ (rw ((c .before .are-bad .ensures), settings-in) at (c .if1 .taken)) (bad-settings _))
+    let s = c .before .before .before .before .settings-in .ensures in
+    let cause = rw s at (c .first-cause .ensures) in
+    kept (so _ _ _ (rw (c .before .before .are-bad .ensures, s) at (c .before .if1 .taken)) cc)
 
 returns-2 : tie.Need-returns-2
 unfolding writeStat turnsOn bitOf
 returns-2 c =
-    let are-bad = c .before .before .before .before .before .are-bad .ensures in
-    let settings-in = c .before .before .before .before .before .before .before .settings-in .ensures in
-    let if1 = c .before .before .before .before .if1 .left in
+    let s = c .before .before .before .before .before .before .before .settings-in .ensures in
+    let bad = c .before .before .before .before .before .are-bad .ensures in
     changed refl
-    (not-so _ _ _ (rw (are-bad, settings-in) at if1) (then-set _ (c .before .before .stat-written .ensures) (c .store-stat .ensures) refl refl))
+    (not-so _ _ _ (rw (bad, s) at (c .before .before .before .before .if1 .left))
+    (then-set _ (c .before .before .stat-written .ensures) (c .store-stat .ensures) refl refl))
 
 pub write-stat-spec : {M : Type 1} → statement M
 write-stat-spec =
     tie.close
     (tie.spec
-    (λ c κs. search needs) (λ c κs. search needs)
+    (λ c κs. search needs)
+    (λ c κs. search needs)
+    (λ c κs. search needs)
     returns
-    (λ c κs. search needs) (λ c κs. search needs)
+    (λ c κs. search needs)
+    (λ c κs. search needs)
     returns-2)
