@@ -7,17 +7,24 @@ use spi_rules::Module;
 use spi_rules::Refusal;
 use spi_rules::Settings;
 ghost use mathlib.Core.Path.{_≡_};
-ghost use Rattle.spi_clock_rules.specs.Clock.{primaryOf, secondaryOf, dividerOf, ratesOf, clockOf, reportBy, reportOf, saidClock};
+ghost use Rattle.spi_clock_rules.specs.Clock.{quartered, primaryOf, secondaryOf, dividerOf, ratesOf, clockOf, reportBy, reportOf, saidClock};
 
-// The primary prescaler by PPRE.
-const PRIMARY: [u8; 4] = [64, 16, 4, 1];
+// A number divided by four, so many times.
+fn quarter(steps: u8, n: u8) -> u8
+    ensures { λ r. ⌜ r ≡ quartered steps n ⌝ }
+{
+    let mut left = n;
+    for _ in 0..steps {
+        left /= 4;
+    }
+    left
+}
 
-// The primary prescaler, looked up.
+// The primary prescaler: from 64, each step of PPRE divides by four.
 pub fn primary(ppre: u8) -> u8
     ensures { λ r. ⌜ r ≡ primaryOf ppre ⌝ }
 {
-    let at = (ppre % 4) as usize;
-    PRIMARY[at]
+    quarter(ppre % 4, 64)
 }
 
 // The secondary prescaler.

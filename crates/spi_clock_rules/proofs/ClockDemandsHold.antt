@@ -4,7 +4,7 @@
 use mathlib.Core.Path.{refl, sym, _∙_}
 use lib.Ieee.{ofInt}
 use Rattle.spi_clock_rules.specs.ClockDemands.{ClockReports}
-use Rattle.spi_clock_rules.proofs.ClockExact.{rate-0-is-refused, disabled-has-none, own-clock-says, pin-clock-says, rate-rounds-once, rate-exact}
+use Rattle.spi_clock_rules.proofs.ClockExact.{rate-0-is-refused, disabled-has-none, own-clock-says, pin-clock-says, rate-rounds-once, rate-exact, divider-tabled}
 
 pub clock-reports : ClockReports
 unfolding ofInt
@@ -15,6 +15,7 @@ clock-reports =
       internal = own-clock-says;
       exact = λ m f q h e. sym (rate-rounds-once (m .settings) f h) ∙ rate-exact (m .settings) f q h e .0;
       external = pin-clock-says;
+      asTabled = divider-tabled;
       toldAs0 = refl;
       oneOutcome = λ m f x y e g. e ∙ sym g;
     }

@@ -3,11 +3,12 @@
 -- instruction rate the quotient is the float of a whole number, which is that number exactly.
 --     rate-rounds-once, bittime-rounds-once   the two floats of an internal clock
 --     rate-exact, rate-reads-back             the rate where D divides F
---     primary-falls-by-four                   the table's rule
+--     quartered-start, -step, -all            dividing by four, step by step
+--     primary-falls-by-four, divider-tabled   the rule of the primary, and the table that it gives
 --     rate-0-is-refused, disabled-has-none, own-clock-says, pin-clock-says
 --                                             what each module is told, in the paper's numbers
 -- Assumes nothing.
-use Prim.Native.Nat.{ℕ, zero, suc, _*_, _%_, _^_, _≤_, _<_}
+use Prim.Native.Nat.{ℕ, zero, suc, _+_, _-_, _*_, _/_, _%_, _^_, _≤_, _<_}
 use mathlib.Core.Bool.{Bool, true, false, not, true≢false, cond}
 use mathlib.Core.Path.{_≡_, refl, sym, ap, _∙_, subst}
 use mathlib.Core.List.{[], _∷_}
@@ -30,7 +31,8 @@ use Rattle.spi_clock_rules.specs.declared.Reported.the-variants.{Answere
 use Rattle.spi_rules.specs.Choice.{if_then_else_}
 use Rattle.spi_rules.specs.Settings.{ownClock}
 use Rattle.spi_rules.specs.Refusals.{numberOf}
-use Rattle.spi_clock_rules.specs.Clock.{primaryOf, secondaryOf, dividerOf, floatOf, ratesOf, clockOf, reportOf, saidRefused, saidInternal, saidExternal, saidNone, saidClock}
+use Rattle.spi_clock_rules.specs.Clock.{quartered, primaryOf, secondaryOf, dividerOf, floatOf, ratesOf, clockOf, reportOf, saidRefused, saidInternal, saidExternal, saidNone, saidClock}
+use Rattle.spi_clock_rules.specs.ClockDemands.{tabled}
 use Rattle.spi_rules.proofs.Choices.{so, not-so, not-so-eq}
 
 -- ---- one division of two whole floats
@@ -69,22 +71,51 @@ pub float-exact : (n : ℕ) → n < 2 ^ 32 → HasValue (floatOf n) false n 1
 unfolding ofInt
 float-exact n h = round-whole binary64 false n (omega arith)
 
--- The table's four entries: from 1 to 64, and each a quarter of the one before it.
-entry : (n : ℕ) → n < 4 → let x : ℕ = getD (64 ∷ 16 ∷ 4 ∷ 1 ∷ []) n 0 in (0 < x) × (x ≤ 64) × (x * 4 ^ n ≡ 64)
-entry zero h = (lit< tt, lit≤ tt, refl)
-entry (suc zero) h = (lit< tt, lit≤ tt, refl)
-entry (suc (suc zero)) h = (lit< tt, lit≤ tt, refl)
-entry (suc (suc (suc zero))) h = (lit< tt, lit≤ tt, refl)
-entry (suc (suc (suc (suc n)))) h = absurd (omega arith)
+-- 64 divided by four, up to three times: from 1 to 64, a quarter each time, and as the table has it.
+steps : (n : ℕ) → n < 4 →
+    let x : ℕ = quartered n 64 in
+    (0 < x) × (x ≤ 64) × (x * 4 ^ n ≡ 64) × (x ≡ getD (64 ∷ 16 ∷ 4 ∷ 1 ∷ []) n 0)
+unfolding quartered
+steps zero h = (lit< tt, lit≤ tt, refl, refl)
+steps (suc zero) h = (lit< tt, lit≤ tt, refl, refl)
+steps (suc (suc zero)) h = (lit< tt, lit≤ tt, refl, refl)
+steps (suc (suc (suc zero))) h = (lit< tt, lit≤ tt, refl, refl)
+steps (suc (suc (suc (suc n)))) h = absurd (omega arith)
+
+-- Before the first division by four, at one with some left to do, and with none left.
+pub quartered-start : (steps n : ℕ) → quartered (steps - 0) n ≡ quartered steps n
+quartered-start steps n =
+    let all : steps - 0 ≡ steps = omega arith in
+    ap (λ (k : ℕ). quartered k n) all
+
+pub quartered-step : (steps i left n : ℕ) → i < steps → quartered (steps - i) left ≡ quartered steps n →
+    quartered (steps - (i + 1)) (left / 4) ≡ quartered steps n
+unfolding quartered
+quartered-step steps i left n h e =
+    let one : suc (steps - (i + 1)) ≡ steps - i = omega arith in
+    ap (λ (k : ℕ). quartered k left) one ∙ e
+
+pub quartered-all : (steps i left n : ℕ) → steps ≤ i → quartered (steps - i) left ≡ quartered steps n →
+    left ≡ quartered steps n
+unfolding quartered
+quartered-all steps i left n h e =
+    let none : 0 ≡ steps - i = omega arith in
+    ap (λ (k : ℕ). quartered k left) none ∙ e
 
 pub primary-bounds : (ppre : ℕ) → (0 < primaryOf ppre) × (primaryOf ppre ≤ 64)
 unfolding primaryOf
-primary-bounds ppre = let e = entry (ppre % 4) (omega arith) in (e .0, e .1)
+primary-bounds ppre = let e = steps (ppre % 4) (omega arith) in (e .0, e .1)
 
--- The table by the manual's rule: each step of PPRE divides by four, from 64.
+-- Each step of PPRE divides by four, from 64.
 pub primary-falls-by-four : (ppre : ℕ) → primaryOf ppre * 4 ^ (ppre % 4) ≡ 64
 unfolding primaryOf
-primary-falls-by-four ppre = entry (ppre % 4) (omega arith) .2
+primary-falls-by-four ppre = steps (ppre % 4) (omega arith) .2
+
+-- The divider is the one that the table gave.
+pub divider-tabled : (s : Settings) → dividerOf s ≡ tabled s
+unfolding dividerOf primaryOf secondaryOf
+divider-tabled s =
+    ap (λ (p : ℕ). p * (8 - s .con1 .spre % 8)) (steps (s .con1 .ppre % 4) (omega arith) .3)
 
 pub secondary-bounds : (spre : ℕ) → (0 < secondaryOf spre) × (secondaryOf spre ≤ 8)
 unfolding secondaryOf
@@ -145,7 +176,7 @@ rate-reads-back s f q h e =
 
 -- The paper's own: 40,000,000 with PPRE 2 and SPRE 6 is 5,000,000.
 pub forty-million : (s : Settings) → s .con1 .ppre ≡ 2 → s .con1 .spre ≡ 6 → ratesOf s 40000000 .rate ≡ floatOf 5000000
-unfolding dividerOf primaryOf secondaryOf
+unfolding dividerOf primaryOf secondaryOf quartered
 forty-million s p q =
     let d : dividerOf s ≡ 8 = ap (λ (n : ℕ). primaryOf n * secondaryOf (s .con1 .spre)) p ∙ ap (λ (n : ℕ). primaryOf 2 * secondaryOf n) q in
     rate-exact s 40000000 5000000 (lit< tt) (ap (λ (n : ℕ). 5000000 * n) (sym d)) .0

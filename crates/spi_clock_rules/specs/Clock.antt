@@ -1,10 +1,8 @@
 -- Document 01, "The clock report".
-use Prim.Native.Nat.{ℕ, _-_, _*_, _%_}
+use Prim.Native.Nat.{ℕ, zero, suc, _-_, _*_, _/_, _%_}
 use mathlib.Core.Bool.{true, false, not}
-use mathlib.Core.List.{[], _∷_}
 use lib.Dec.{eqb}
 use lib.IntN.{pos}
-use lib.ListN.{getD}
 use lib.Ieee.{Float, fin, binary64, ofInt, div}
 use Rattle.spi_rules.specs.declared.Module.{Module}
 use Rattle.spi_rules.specs.declared.Settings.{Settings}
@@ -19,11 +17,16 @@ use Rattle.spi_rules.specs.Choice.{if_then_else_}
 use Rattle.spi_rules.specs.Settings.{ownClock}
 use Rattle.spi_rules.specs.Refusals.{numberOf}
 
--- Primary: looked up by PPRE. A record made otherwise counts by the two low bits of its PPRE.
-unfoldable pub primaryOf : ℕ → ℕ
-primaryOf ppre = getD (64 ∷ 16 ∷ 4 ∷ 1 ∷ []) (ppre % 4) 0
+-- A number divided by four, so many times.
+unfoldable pub quartered : ℕ → ℕ → ℕ
+quartered zero n = n
+quartered (suc steps) n = quartered steps (n / 4)
 
--- Secondary: 8 less SPRE. A record made otherwise counts by the three low bits of its SPRE.
+-- Document 02, Two. Primary: from 64, each step of PPRE divides by four. PPRE counts by its two bits.
+unfoldable pub primaryOf : ℕ → ℕ
+primaryOf ppre = quartered (ppre % 4) 64
+
+-- Secondary: 8 less SPRE, which counts by its three bits.
 unfoldable pub secondaryOf : ℕ → ℕ
 secondaryOf spre = 8 - spre % 8
 

@@ -1,13 +1,12 @@
--- The table of the code is the table of the definition. Assumes nothing.
+-- The code is the definition. Assumes nothing.
 use borrow.Author.Needs.{needs}
-use mathlib.Core.Path.{refl}
 use Rattle.spi_clock_rules.specs.Clock.{primaryOf}
 use Rattle.spi_clock.proofs.primary.Statement.{statement}
 use Rattle.spi_clock.proofs.primary.Tie as tie
 
 returns : tie.Need-returns
 unfolding primaryOf
-returns c = refl
+returns c = c .quarter .ensures
 
 pub primary-spec : {M : Type 1} → statement M
-primary-spec = tie.close (tie.spec (λ c. search needs) (λ c. search needs) returns)
+primary-spec = tie.close (tie.spec (λ c. search needs) returns)
