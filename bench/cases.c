@@ -30,9 +30,38 @@ static struct outcome busy_host(uint32_t times)
     while (times-- > 0) {
         bits = seed = next(seed);
         for (i = 0; i < 32; i++) {
-            o.units += tick(OF(m), bits & 1);
+            o.units += tick(OF(m), bits & 1, 0);
             bits >>= 1;
         }
+        o.sum = mixed(o.sum, read_register(OF(m), BUF));
+        o.sum = mixed(o.sum, write_register(OF(m), BUF, seed >> 7));
+    }
+    o.sum = SEEN(m, o.sum);
+    return o;
+}
+
+/* The same of a frame host with FRMDLY 0. The first word's pulse takes a clock,
+ * the others lie on the last bit of the word before, so the words follow each
+ * other without a gap; SS is looked at there. */
+static struct outcome frame_host(uint32_t times)
+{
+    struct outcome o = {0, 0};
+    uint32_t seed = 1, bits;
+    module m;
+    int i;
+
+    START_WITH(m, MSTEN | MODE16, FRMEN | SPIBEN);
+    for (i = 0; i < 5; i++)
+        o.sum = mixed(o.sum, write_register(OF(m), BUF, seed = next(seed)));
+    o.units += tick(OF(m), 0, 0);
+    o.units += tick(OF(m), 0, 0);
+    while (times-- > 0) {
+        bits = seed = next(seed);
+        for (i = 0; i < 32; i++) {
+            o.units += tick(OF(m), bits & 1, 0);
+            bits >>= 1;
+        }
+        o.sum = mixed(o.sum, levels(OF(m)));
         o.sum = mixed(o.sum, read_register(OF(m), BUF));
         o.sum = mixed(o.sum, write_register(OF(m), BUF, seed >> 7));
     }
@@ -128,12 +157,12 @@ static struct outcome registers(uint32_t times)
         SAID(write_register(OF(m), CON2, 0)); /* refused, 3 */
         SAID(read_register(OF(m), 4)); /* refused, 1 */
         for (i = 0; i < 4; i++) {
-            SAID(tick(OF(m), seed >> i & 1));
-            SAID(tick(OF(m), seed >> (i + 4) & 1));
+            SAID(tick(OF(m), seed >> i & 1, 0));
+            SAID(tick(OF(m), seed >> (i + 4) & 1, 0));
             SAID(read_register(OF(m), STAT));
             SAID(read_register(OF(m), CON1));
-            SAID(tick(OF(m), seed >> (i + 8) & 1));
-            SAID(tick(OF(m), seed >> (i + 12) & 1));
+            SAID(tick(OF(m), seed >> (i + 8) & 1, 0));
+            SAID(tick(OF(m), seed >> (i + 12) & 1, 0));
             SAID(read_register(OF(m), CON2));
         }
         SAID(read_register(OF(m), BUF));
@@ -147,4 +176,4 @@ static struct outcome registers(uint32_t times)
 
 const struct side EITHER(library_side, plain_side) = {
     EITHER("library", "plain C"),
-    {busy_host, client_8, client_16, linked_pair, registers}};
+    {busy_host, frame_host, client_8, client_16, linked_pair, registers}};

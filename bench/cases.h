@@ -11,7 +11,15 @@ struct outcome {
     uint32_t units, sum;
 };
 
-enum { BUSY_HOST, CLIENT_8, CLIENT_16, LINKED_PAIR, REGISTERS, CASES };
+enum {
+    BUSY_HOST,
+    FRAME_HOST,
+    CLIENT_8,
+    CLIENT_16,
+    LINKED_PAIR,
+    REGISTERS,
+    CASES
+};
 
 /* One run of each case; `times` is how often its round of calls is made. */
 struct side {

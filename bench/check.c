@@ -44,7 +44,8 @@ static uint64_t told(uint32_t number, uint32_t kind, double rate,
 }
 
 static struct ref_spi ref[MODULES];
-static unsigned long refused[12], edges, overflows, fillers, aborts;
+static unsigned long refused[16], edges, overflows, fillers, aborts;
+static unsigned long given, sampled, framed_words;
 
 static uint64_t ask_ref(const struct call *c)
 {
@@ -61,7 +62,7 @@ static uint64_t ask_ref(const struct call *c)
         number = ref_write(m, c->a, c->b & 0xFFFF);
         break;
     case TICK:
-        number = ref_tick(m, c->a != 0);
+        number = ref_tick(m, c->a != 0, c->b != 0);
         value = number == 0;
         break;
     case PINS:
@@ -74,6 +75,8 @@ static uint64_t ask_ref(const struct call *c)
         value = (unsigned)ref_flag(m) | (unsigned)ref_sck(m) << 1;
         if (ref_sdo(m) != REF_UNDRIVEN)
             value |= 8u | (unsigned)ref_sdo(m) << 2;
+        if (ref_ss(m) != REF_UNDRIVEN)
+            value |= 32u | (unsigned)ref_ss(m) << 4;
         break;
     case LINKED:
         number = ref_linked(m, &ref[c->j], c->a, &value);
@@ -104,7 +107,7 @@ static uint64_t ask_plain(const struct call *c)
     case WRITE:
         return plain_write(m, c->a, c->b);
     case TICK:
-        return plain_tick(m, c->a);
+        return plain_tick(m, c->a, c->b);
     case PINS:
         return plain_pins(m, c->a, c->b, c->c);
     case CLEAR:
@@ -136,7 +139,7 @@ static uint64_t ask_library(const struct call *c)
     case WRITE:
         return thurafeqa_write(m, c->a, c->b);
     case TICK:
-        return thurafeqa_tick(m, c->a);
+        return thurafeqa_tick(m, c->a, c->b);
     case PINS:
         return thurafeqa_pins(m, c->a, c->b, c->c);
     case CLEAR:
@@ -239,7 +242,7 @@ static void configure(int i)
         con1 &= ~0x0200u;
     if (!one_in(3))
         con1 &= ~0x1800u;
-    if (one_in(30))
+    if (one_in(3))
         con2 |= 0x8000;
     ask(WRITE, i, 0, 0, rnd(0x8000), 0);
     ask(WRITE, i, 0, 1, con1, 0);
@@ -252,16 +255,21 @@ static void edge(int i)
     struct ref_spi before = ref[i];
     int own = before.msten && !before.dissck;
     uint32_t sdi = level((int)rnd(2));
+    uint32_t ss = level(before.frmen ? one_in(4) != !before.frmpol
+                                     : one_in(60));
 
     if (own != one_in(50)) {
-        ask(TICK, i, 0, sdi, 0, 0);
+        ask(TICK, i, 0, sdi, ss, 0);
     } else {
         uint32_t sck = level(one_in(5) ? before.sck : !before.sck);
-        uint32_t ss = level(one_in(60));
         ask(PINS, i, 0, sck, sdi, ss);
-        fillers += !before.begun && ref[i].filler;
-        aborts += ss && before.begun && !ref[i].begun && before.ssen;
+        aborts += ss && before.begun && !ref[i].begun && before.ssen &&
+                  !before.msten && !before.frmen;
     }
+    fillers += !before.begun && ref[i].filler;
+    given += before.frmen && !before.spifsd && !before.pulse && ref[i].pulse;
+    sampled += before.frmen && before.spifsd && !before.pulse && ref[i].pulse;
+    framed_words += before.frmen && before.begun && !ref[i].begun;
     edges += before.sck != ref[i].sck;
     overflows += !before.spirov && ref[i].spirov;
 }
@@ -332,10 +340,12 @@ int main(int argc, char **argv)
         any((int)rnd(MODULES));
 
     printf("check: ok: %lu random calls: %lu edges, %lu fillers, %lu aborts, "
-           "%lu overflows; refused",
-           calls, edges, fillers, aborts, overflows);
-    for (i = 1; i < 12; i++)
-        if (i != 9)
-            printf(" %d: %lu%s", i, refused[i], i < 11 ? "," : "\n");
+           "%lu overflows; framed: %lu words, %lu pulses given, %lu sampled; "
+           "refused",
+           calls, edges, fillers, aborts, overflows, framed_words, given,
+           sampled);
+    for (i = 1; i < 16; i++)
+        if (i != 4 && i != 9 && i != 12) /* no call gives these */
+            printf(" %d: %lu%s", i, refused[i], i < 15 ? "," : "\n");
     return 0;
 }

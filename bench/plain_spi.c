@@ -29,10 +29,17 @@
 #define CON1_BITS 0x1FFFu
 /* CON2 */
 #define FRMEN BIT(15)
+#define SPIFSD BIT(14)
+#define FRMPOL BIT(13)
+#define FRMDLY BIT(1)
 #define SPIBEN BIT(0)
 #define CON2_BITS 0xE003u
 
-enum { OFF, OWN, PIN };
+/* What clocks a module. The framed ones are apart, so that the others need not
+ * ask. */
+enum { OFF, OWN, PIN, OWN_FRAMED, PIN_FRAMED };
+/* Where a framed module's pulses come. */
+enum { BEFORE, WITH, OUTSIDE };
 enum { STANDARD = 8 };
 
 static uint32_t refuse(uint32_t number) { return number << 16; }
@@ -170,10 +177,74 @@ static inline void shown(struct plain_spi *m, unsigned sck, unsigned sdi,
     edge(m, sdi);
 }
 
-uint32_t plain_tick(struct plain_spi *m, uint32_t sdi)
+/* ---- edges of a framed module ------------------------------------------- */
+
+/* An edge to the active level, after which SDO and SS change: may a word begin
+ * or go on? */
+static inline int transmits(struct plain_spi *m)
 {
-    if (m->clock != OWN)
+    if (m->edges == 0) {
+        if (m->frame == WITH ? !m->loaded : !m->pulse) {
+            m->pulse = m->frame == BEFORE && m->loaded;
+            return 0;
+        }
+        m->pulse = m->frame == WITH;
+        if (!m->loaded)
+            m->out = 0; /* a filler */
+    } else if (m->frame == WITH) {
+        m->pulse = 0;
+    } else if (m->edges + 2 == m->last && m->frame == BEFORE) {
+        m->pulse = m->tx.count != 0;
+    }
+    return 1;
+}
+
+static inline void framed_edge(struct plain_spi *m, unsigned sdi)
+{
+    if (m->sck != m->ckp) {
+        if (transmits(m))
+            edge(m, sdi);
+        return;
+    }
+    if (m->edges)
+        edge(m, sdi);
+    if (m->frame == OUTSIDE && m->edges == 0)
+        m->pulse = m->ss == m->active;
+}
+
+/* Out of line, so that a call on an unframed module is as short as without. */
+#define APART __attribute__((noinline)) static
+
+APART uint32_t framed_tick(struct plain_spi *m, unsigned sdi, unsigned ss)
+{
+    if (m->frame == OUTSIDE)
+        m->ss = (uint8_t)ss;
+    m->sck ^= 1;
+    framed_edge(m, sdi);
+    return 1;
+}
+
+APART uint32_t framed_pins(struct plain_spi *m, unsigned sck, unsigned sdi,
+                           unsigned ss)
+{
+    unsigned changed = sck ^ m->sck;
+
+    m->ss = (uint8_t)ss;
+    m->sck = (uint8_t)sck;
+    if (changed)
+        framed_edge(m, sdi);
+    return 0;
+}
+
+/* ---- ticks and pin calls ------------------------------------------------ */
+
+uint32_t plain_tick(struct plain_spi *m, uint32_t sdi, uint32_t ss)
+{
+    if (m->clock != OWN) {
+        if (m->clock == OWN_FRAMED)
+            return framed_tick(m, sdi != 0, ss != 0);
         return refuse(m->clock == OFF ? 2 : 7);
+    }
     if (!m->loaded)
         return 0;
     m->sck ^= 1;
@@ -184,8 +255,11 @@ uint32_t plain_tick(struct plain_spi *m, uint32_t sdi)
 uint32_t plain_pins(struct plain_spi *m, uint32_t sck, uint32_t sdi,
                     uint32_t ss)
 {
-    if (m->clock != PIN)
+    if (m->clock != PIN) {
+        if (m->clock == PIN_FRAMED)
+            return framed_pins(m, sck != 0, sdi != 0, ss != 0);
         return refuse(m->clock == OFF ? 2 : 7);
+    }
     shown(m, sck != 0, sdi != 0, ss != 0);
     return 0;
 }
@@ -266,13 +340,11 @@ static int bad_settings(const struct plain_spi *m)
 {
     unsigned c = m->con1;
 
-    if (m->con2 & FRMEN)
-        return 12;
     if (c & MSTEN && !(c & DISSCK) && (c & PRESCALERS) == PRESCALERS)
         return 13;
     if (c & SMP)
         return 14;
-    return !(c & MSTEN) && c & CKE && !(c & SSEN) ? 15 : 0;
+    return !(c & (MSTEN | SSEN)) && c & CKE && !(m->con2 & FRMEN) ? 15 : 0;
 }
 
 static void enable(struct plain_spi *m)
@@ -283,6 +355,15 @@ static void enable(struct plain_spi *m)
     m->clock = m->host && !(c & DISSCK) ? OWN : PIN;
     m->select = !m->host && c & SSEN;
     m->cke = (c & CKE) != 0;
+    if (m->con2 & FRMEN) {
+        m->clock += OWN_FRAMED - OWN;
+        m->select = m->cke = 0;
+        m->frame = m->con2 & FRMDLY ? WITH : BEFORE;
+        if (m->con2 & SPIFSD)
+            m->frame = OUTSIDE;
+        m->active = (m->con2 & FRMPOL) != 0;
+        m->pulse = 0;
+    }
     m->ckp = (c & CKP) != 0;
     m->last = c & MODE16 ? 32 : 16;
     m->spare = c & MODE16 ? 0 : 8;
@@ -356,6 +437,8 @@ uint32_t plain_levels(const struct plain_spi *m)
 {
     uint32_t v = m->flag | (uint32_t)m->sck << 1;
 
+    if (m->clock >= OWN_FRAMED && m->frame != OUTSIDE)
+        v |= (uint32_t)(m->pulse == m->active) << 4 | 32;
     return driven(m) ? v | (uint32_t)m->sdo << 2 | 8 : v;
 }
 
@@ -371,7 +454,7 @@ uint32_t plain_linked(struct plain_spi *host, struct plain_spi *client,
         return refuse(11);
     if (host->clock == OFF || client->clock == OFF)
         return refuse(2);
-    if (host->clock != OWN || client->host)
+    if (host->clock != OWN || client->clock != PIN || client->host)
         return refuse(7);
     if ((host->con1 ^ client->con1) & (CKP | CKE | MODE16))
         return refuse(10);
@@ -393,12 +476,12 @@ struct plain_clock plain_report(const struct plain_spi *m, uint32_t rate)
 
     if (rate == 0) {
         said.number = 8;
-    } else if (m->clock == OWN) {
+    } else if (m->clock == OWN || m->clock == OWN_FRAMED) {
         unsigned divider = primary[m->con1 & 3] * (8 - (m->con1 >> 2 & 7));
         said.kind = 1;
         said.rate = (double)rate / divider;
         said.bittime = divider / (double)rate;
-    } else if (m->clock == PIN) {
+    } else if (m->clock != OFF) {
         said.kind = 2;
         said.below = rate;
     }

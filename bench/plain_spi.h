@@ -1,6 +1,6 @@
-/* The SPI module of document 01 in plain C, written for speed and with no
- * proof: what the proved library is measured against. A call answers like the
- * library's: the refusal number times 65,536, or else the value read, the
+/* The SPI module of documents 01 and 02 in plain C, written for speed and with
+ * no proof: what the proved library is measured against. A call answers like
+ * the library's: the refusal number times 65,536, or else the value read, the
  * edges made by a tick (0 or 1), or the edges used by a linked run. */
 #ifndef PLAIN_SPI_H
 #define PLAIN_SPI_H
@@ -23,7 +23,7 @@ struct plain_spi {
     struct plain_ring rx;
 
     /* worked out when a STAT write enables */
-    uint8_t clock;  /* 0 disabled, 1 its own, 2 from the pin */
+    uint8_t clock;  /* none if disabled, its own, or the pin; framed or not */
     uint8_t select; /* a client that obeys SS */
     uint8_t host;
     uint8_t cke, ckp;
@@ -31,12 +31,15 @@ struct plain_spi {
     uint8_t spare;  /* 16 less the width */
     uint8_t depth;
     uint8_t raises; /* SISEL; 8 in standard operation */
+    uint8_t frame;  /* framed: pulses before words, with them, from outside */
+    uint8_t active; /* the level of a pulse */
 
     uint8_t loaded; /* the shift register holds an accepted word */
     uint8_t filler; /* what a client that obeys SS has begun is a filler */
     uint8_t edges;  /* of the begun word; 0 if none has begun */
     uint8_t sck, ss, sdo;
     uint8_t flag;
+    uint8_t pulse; /* a frame host gives one; a frame client has sampled one */
 };
 
 /* A clock report in numbers: the refusal number; 1 for internal, 2 for
@@ -49,14 +52,15 @@ struct plain_clock {
 void plain_power_up(struct plain_spi *m);
 uint32_t plain_read(struct plain_spi *m, uint32_t reg);
 uint32_t plain_write(struct plain_spi *m, uint32_t reg, uint32_t value);
-uint32_t plain_tick(struct plain_spi *m, uint32_t sdi);
+uint32_t plain_tick(struct plain_spi *m, uint32_t sdi, uint32_t ss);
 uint32_t plain_pins(struct plain_spi *m, uint32_t sck, uint32_t sdi,
                     uint32_t ss);
 void plain_clear(struct plain_spi *m);
 uint32_t plain_linked(struct plain_spi *host, struct plain_spi *client,
                       uint32_t limit);
 
-/* Bit 0 the interrupt flag, bit 1 SCK, bit 2 the SDO level, bit 3 SDO driven. */
+/* Bit 0 the interrupt flag, bit 1 SCK, bit 2 the SDO level, bit 3 SDO driven,
+ * bit 4 the SS level, bit 5 SS driven. */
 uint32_t plain_levels(const struct plain_spi *m);
 
 struct plain_clock plain_report(const struct plain_spi *m, uint32_t rate);

@@ -19,22 +19,22 @@ static uint32_t answers;
 
 int main(void)
 {
-    module host, client, other;
+    module host, client, other, framed;
     int i;
 
     START(host, MSTEN | MODE16);
     CALL("BUF write that loads", write_register(OF(host), BUF, 0xA5C3));
     CALL("BUF write that waits", write_register(OF(host), BUF, 0x3C5A));
-    CALL("tick, first edge", tick(OF(host), 1));
-    CALL("tick within a word, even edge", tick(OF(host), 1));
-    CALL("tick within a word, odd edge", tick(OF(host), 1));
+    CALL("tick, first edge", tick(OF(host), 1, 0));
+    CALL("tick within a word, even edge", tick(OF(host), 1, 0));
+    CALL("tick within a word, odd edge", tick(OF(host), 1, 0));
     for (i = 3; i < 31; i++)
-        answers += tick(OF(host), i & 1);
-    CALL("tick, last edge, one waiting", tick(OF(host), 1));
+        answers += tick(OF(host), i & 1, 0);
+    CALL("tick, last edge, one waiting", tick(OF(host), 1, 0));
     for (i = 0; i < 31; i++)
-        answers += tick(OF(host), i & 1);
-    CALL("tick, last edge, none waiting", tick(OF(host), 1));
-    CALL("tick, no word", tick(OF(host), 1));
+        answers += tick(OF(host), i & 1, 0);
+    CALL("tick, last edge, none waiting", tick(OF(host), 1, 0));
+    CALL("tick, no word", tick(OF(host), 1, 0));
     CALL("STAT read", read_register(OF(host), STAT));
     CALL("CON1 read", read_register(OF(host), CON1));
     CALL("BUF read, one left", read_register(OF(host), BUF));
@@ -43,6 +43,22 @@ int main(void)
     CALL("STAT write, SISEL", write_register(OF(host), STAT, 0x8004));
     CALL("levels", levels(OF(host)));
     CALL("clear", (clear(OF(host)), 0));
+
+    START_WITH(framed, MSTEN | MODE16, FRMEN | SPIBEN);
+    CALL("frame host: tick, no word", tick(OF(framed), 1, 0));
+    answers += tick(OF(framed), 1, 0);
+    answers += write_register(OF(framed), BUF, 0xA5C3);
+    answers += write_register(OF(framed), BUF, 0x3C5A);
+    CALL("frame host: tick, the pulse", tick(OF(framed), 1, 0));
+    answers += tick(OF(framed), 1, 0);
+    CALL("frame host: tick, first edge", tick(OF(framed), 1, 0));
+    CALL("frame host: tick, even edge", tick(OF(framed), 1, 0));
+    CALL("frame host: tick, odd edge", tick(OF(framed), 1, 0));
+    for (i = 3; i < 30; i++)
+        answers += tick(OF(framed), i & 1, 0);
+    CALL("frame host: tick, last bit", tick(OF(framed), 1, 0));
+    CALL("frame host: tick, last edge", tick(OF(framed), 1, 0));
+    CALL("frame host: levels", levels(OF(framed)));
 
     START(client, SSEN);
     CALL("SSEN client: BUF write", write_register(OF(client), BUF, 0xA5));

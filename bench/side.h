@@ -38,10 +38,14 @@ enum { STAT, CON1, CON2, BUF };
 #define CKE 0x0100u
 #define SSEN 0x0080u
 #define MSTEN 0x0020u
+/* CON2 */
+#define FRMEN 0x8000u
+#define SPIBEN 0x0001u
 
-/* A module in enhanced operation, enabled. */
-#define START(m, con1)                                                        \
+/* A module in enhanced operation, enabled; and a frame host or another one. */
+#define START_WITH(m, con1, con2)                                             \
     (power_up(OF(m)), write_register(OF(m), CON1, con1),                      \
-     write_register(OF(m), CON2, 1), write_register(OF(m), STAT, 0x8000))
+     write_register(OF(m), CON2, con2), write_register(OF(m), STAT, 0x8000))
+#define START(m, con1) START_WITH(m, con1, SPIBEN)
 
 #endif

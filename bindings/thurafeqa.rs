@@ -17,7 +17,7 @@ pub mod register {
     pub const STAT: u32 = 0;
     /// Control: width, clock mode, role, prescalers.
     pub const CON1: u32 = 1;
-    /// Control: the buffers' depth.
+    /// Control: frames, the buffers' depth.
     pub const CON2: u32 = 2;
     /// The data register.
     pub const BUF: u32 = 3;
@@ -58,11 +58,11 @@ pub mod register {
 
 /// The version of this file: major, minor and patch numbers. [`version`] tells the library's.
 #[allow(dead_code)]
-pub const VERSION: (u8, u8, u8) = (2, 0, 0);
+pub const VERSION: (u8, u8, u8) = (3, 0, 0);
 
 /// The format of a module's words. It rises wherever their meaning changes, so save it beside them.
 #[allow(dead_code)]
-pub const FORMAT: u32 = 1;
+pub const FORMAT: u32 = 2;
 
 /// One module. Equal modules have equal words; two that differ may still behave alike.
 #[repr(C)]
@@ -83,7 +83,7 @@ unsafe extern "C" {
     safe fn thurafeqa_power_up(m: &mut Module);
     safe fn thurafeqa_read(m: &mut Module, register: u32) -> u32;
     safe fn thurafeqa_write(m: &mut Module, register: u32, value: u32) -> u32;
-    safe fn thurafeqa_tick(m: &mut Module, sdi: u32) -> u32;
+    safe fn thurafeqa_tick(m: &mut Module, sdi: u32, ss: u32) -> u32;
     safe fn thurafeqa_pins(m: &mut Module, sck: u32, sdi: u32, ss: u32) -> u32;
     safe fn thurafeqa_clear(m: &mut Module);
     safe fn thurafeqa_levels(m: &Module) -> u32;
@@ -93,7 +93,7 @@ unsafe extern "C" {
     safe fn thurafeqa_format() -> u32;
 }
 
-/// Why a call was refused, under document 01's numbers.
+/// Why a call was refused, under the numbers of documents 01 and 02.
 #[derive(Clone, Copy, Debug, PartialEq, Eq)]
 pub enum Refusal {
     /// The register number is above 3.
@@ -106,7 +106,8 @@ pub enum Refusal {
     TransmitFull = 5,
     /// BUF is read, and nothing is unread.
     ReceiveEmpty = 6,
-    /// A tick where the pin gives the clock, a pin call where the module makes its own, or wrong roles in a linked run.
+    /// A tick where the pin gives the clock, a pin call where the module makes its own, or wrong roles or a framed module in
+    /// a linked run.
     WrongClock = 7,
     /// The instruction rate is 0.
     NoRate = 8,
@@ -116,13 +117,11 @@ pub enum Refusal {
     DifferentModes = 10,
     /// A linked run is asked for more than 288 edges.
     TooManyEdges = 11,
-    /// FRMEN is set where STAT would enable the module.
-    Framed = 12,
-    /// Both prescalers of a host with its own clock are 1:1 there.
+    /// Both prescalers of a host with its own clock are 1:1 where STAT would enable it.
     Undivided = 13,
     /// SMP is set there.
     LateSampling = 14,
-    /// A client has CKE and no SSEN there.
+    /// A client that is not framed has CKE and no SSEN there.
     UnselectedCke = 15,
 }
 
@@ -132,7 +131,7 @@ impl Refusal {
         use Refusal::*;
         #[rustfmt::skip]
         let all = [NoSuchRegister, Disabled, Enabled, TransmitFull, ReceiveEmpty, WrongClock, NoRate, UnreadableLine,
-            DifferentModes, TooManyEdges, Framed, Undivided, LateSampling, UnselectedCke];
+            DifferentModes, TooManyEdges, Undivided, LateSampling, UnselectedCke];
         all.iter().copied().find(|r| *r as u32 == number)
     }
 
@@ -143,12 +142,11 @@ impl Refusal {
             Refusal::Enabled => "the module is enabled",
             Refusal::TransmitFull => "the transmit buffer is full",
             Refusal::ReceiveEmpty => "nothing is unread",
-            Refusal::WrongClock => "the module is clocked in another way",
+            Refusal::WrongClock => "the module is clocked in another way, or is no end for a linked run",
             Refusal::NoRate => "the instruction rate is 0",
             Refusal::UnreadableLine => "the line cannot be read",
             Refusal::DifferentModes => "the linked modules differ in clock mode or width",
             Refusal::TooManyEdges => "more than 288 edges are asked for",
-            Refusal::Framed => "framed operation is not modelled",
             Refusal::Undivided => "both prescalers are 1:1",
             Refusal::LateSampling => "late sampling is not modelled",
             Refusal::UnselectedCke => "a client with CKE needs SSEN",
@@ -167,6 +165,14 @@ impl core::error::Error for Refusal {}
 /// The SDO pin.
 #[derive(Clone, Copy, Debug, PartialEq, Eq)]
 pub enum Sdo {
+    Low,
+    High,
+    Undriven,
+}
+
+/// The SS pin, as far as the module drives it: only an enabled frame host does.
+#[derive(Clone, Copy, Debug, PartialEq, Eq)]
+pub enum Ss {
     Low,
     High,
     Undriven,
@@ -200,6 +206,14 @@ fn sdo(levels: u32) -> Sdo {
         (false, _) => Sdo::Undriven,
         (true, false) => Sdo::Low,
         (true, true) => Sdo::High,
+    }
+}
+
+fn ss(levels: u32) -> Ss {
+    match (levels & 32 != 0, levels & 16 != 0) {
+        (false, _) => Ss::Undriven,
+        (true, false) => Ss::Low,
+        (true, true) => Ss::High,
     }
 }
 
@@ -254,19 +268,21 @@ impl Module {
     /// Writes a register. Writing BUF accepts a word for sending.
     ///
     /// Refused: `NoSuchRegister`; for BUF `Disabled`, `TransmitFull`; for CON1 and CON2 `Enabled`; for STAT
-    /// `Framed`, `Undivided`, `LateSampling`, `UnselectedCke`.
+    /// `Undivided`, `LateSampling`, `UnselectedCke`.
     pub fn write(&mut self, register: u32, value: u16) -> Result<(), Refusal> {
         done(thurafeqa_write(self, register, value.into()))
     }
 
-    /// One tick of a host with its own clock, with the level at SDI: did it make an edge? It makes none with nothing to send.
+    /// One tick of a host with its own clock, with the levels at SDI and SS: did it make an edge? It makes none with nothing to
+    /// send, unless it is framed. SS counts for a frame client alone.
     ///
     /// Refused: `Disabled`, `WrongClock`.
-    pub fn tick(&mut self, sdi: bool) -> Result<bool, Refusal> {
-        Ok(value(thurafeqa_tick(self, sdi.into()))? != 0)
+    pub fn tick(&mut self, sdi: bool, ss: bool) -> Result<bool, Refusal> {
+        Ok(value(thurafeqa_tick(self, sdi.into(), ss.into()))? != 0)
     }
 
-    /// Shows levels to the pins of a module without a clock of its own. An SCK level unlike the last is an edge.
+    /// Shows levels to the pins of a module without a clock of its own. An SCK level unlike the last is an edge. SS counts for
+    /// a client with SSEN, as its select, and for a frame client.
     ///
     /// Refused: `Disabled`, `WrongClock`.
     pub fn pins(&mut self, sck: bool, sdi: bool, ss: bool) -> Result<(), Refusal> {
@@ -293,7 +309,12 @@ impl Module {
         sdo(thurafeqa_levels(self))
     }
 
-    /// Runs this host and a client on one wire, for at most `limit` edges: how many did the host make?
+    /// The SS pin. Never refused.
+    pub fn ss(&self) -> Ss {
+        ss(thurafeqa_levels(self))
+    }
+
+    /// Runs this host and a client on one wire, both unframed, for at most `limit` edges: how many did the host make?
     ///
     /// Refused: `TooManyEdges`, `Disabled`, `WrongClock`, `DifferentModes`.
     pub fn linked(&mut self, client: &mut Module, limit: u32) -> Result<u16, Refusal> {
@@ -328,10 +349,11 @@ mod thurafeqa_tests {
 
     #[test]
     fn numbers_mean_what_the_header_says() {
-        assert_eq!((1..16).filter_map(Refusal::from_number).map(|r| r as u32).sum::<u32>(), 120 - 4);
-        assert_eq!([0, 4, 16].map(Refusal::from_number), [None; 3]);
+        assert_eq!((1..16).filter_map(Refusal::from_number).map(|r| r as u32).sum::<u32>(), 120 - 4 - 12);
+        assert_eq!([0, 4, 12, 16].map(Refusal::from_number), [None; 4]);
         assert_eq!((value(0), value(0xFFFF), value(0x6_0000)), (Ok(0), Ok(0xFFFF), Err(Refusal::ReceiveEmpty)));
         assert_eq!([3, 7, 8, 11, 12].map(sdo), [Sdo::Undriven, Sdo::Undriven, Sdo::Low, Sdo::Low, Sdo::High]);
+        assert_eq!([15, 31, 32, 47, 48].map(ss), [Ss::Undriven, Ss::Undriven, Ss::Low, Ss::Low, Ss::High]);
         let said = |answer| clock(answer, ClockReport { rate: 5e6, bittime: 2e-7, below: 4e7 });
         assert_eq!((said(8 << 16), said(0)), (Err(Refusal::NoRate), Ok(Clock::None)));
         assert_eq!(said(1), Ok(Clock::Internal { rate: 5e6, bit_time: 2e-7 }));

@@ -15,7 +15,7 @@
  *     if (thurafeqa_refusal(answer) == 0)
  *         answer = thurafeqa_write(&m, THURAFEQA_BUF, 0xA5);
  *     if (thurafeqa_refusal(answer) == 0) {
- *         while (thurafeqa_tick(&m, sdi_level()) == 1)
+ *         while (thurafeqa_tick(&m, sdi_level(), 0) == 1)
  *             ;
  *         answer = thurafeqa_read(&m, THURAFEQA_BUF);
  *     }
@@ -58,7 +58,7 @@ extern "C" {
 /* The version of this header. thurafeqa_version() tells the library's: the two
  * must have the same major number, and the library's minor number must not be
  * lower. */
-#define THURAFEQA_VERSION_MAJOR 2u
+#define THURAFEQA_VERSION_MAJOR 3u
 #define THURAFEQA_VERSION_MINOR 0u
 #define THURAFEQA_VERSION_PATCH 0u
 #define THURAFEQA_VERSION                                                      \
@@ -67,7 +67,7 @@ extern "C" {
 
 /* The format of a module's memory. It rises wherever the meaning of the numbers
  * changes, so save it beside them. */
-#define THURAFEQA_FORMAT 1u
+#define THURAFEQA_FORMAT 2u
 
 /* One module. */
 typedef struct {
@@ -78,19 +78,19 @@ typedef struct {
  * otherwise stops here. */
 typedef char thurafeqa_has_192_bytes[sizeof(thurafeqa) == 192 ? 1 : -1];
 
-/* Refusal numbers, as documents 01 and 02 list them. No call gives 4: it was one
- * number for the four mistakes that 12 to 15 now tell apart. */
+/* Refusal numbers, as documents 01 and 02 list them. No call gives 4, which was
+ * one number for mistakes that 13 to 15 tell apart, or 12, which was of framed
+ * modules. 15 is of unframed clients alone. */
 #define THURAFEQA_NO_SUCH_REGISTER 1u /* the register number is above 3 */
 #define THURAFEQA_DISABLED 2u         /* SPIEN is 0 */
 #define THURAFEQA_ENABLED 3u          /* CON1 or CON2 written, SPIEN is 1 */
 #define THURAFEQA_TRANSMIT_FULL 5u    /* BUF written, no room */
 #define THURAFEQA_RECEIVE_EMPTY 6u    /* BUF read, nothing unread */
-#define THURAFEQA_WRONG_CLOCK 7u      /* not this module's kind of clock */
+#define THURAFEQA_WRONG_CLOCK 7u      /* not its kind of clock; linked: roles */
 #define THURAFEQA_NO_RATE 8u          /* the instruction rate is 0 */
 #define THURAFEQA_UNREADABLE_LINE 9u  /* of scripts; no call here gives it */
 #define THURAFEQA_DIFFERENT_MODES 10u /* linked: CKP, CKE or width differ */
 #define THURAFEQA_TOO_MANY_EDGES 11u  /* linked: the limit is above 288 */
-#define THURAFEQA_FRAMED 12u          /* enabling: FRMEN is set */
 #define THURAFEQA_UNDIVIDED 13u       /* enabling: both prescalers are 1:1 */
 #define THURAFEQA_LATE_SAMPLING 14u   /* enabling: SMP is set */
 #define THURAFEQA_UNSELECTED_CKE 15u  /* enabling: client, CKE, no SSEN */
@@ -132,17 +132,18 @@ static inline uint16_t thurafeqa_value(uint32_t answer)
 #define THURAFEQA_CON1_MODE16 0x0400u /* words of 16 bits, else of 8 */
 #define THURAFEQA_CON1_SMP 0x0200u    /* not modelled: cannot be enabled */
 #define THURAFEQA_CON1_CKE 0x0100u    /* SDO changes on the way to idle */
-#define THURAFEQA_CON1_SSEN 0x0080u   /* a client heeds SS */
+#define THURAFEQA_CON1_SSEN 0x0080u   /* a client heeds SS as its select */
 #define THURAFEQA_CON1_CKP 0x0040u    /* the clock idles high */
 #define THURAFEQA_CON1_MSTEN 0x0020u  /* host, else client */
 #define THURAFEQA_CON1_SPRE 0x001Cu   /* secondary prescaler, 8 - SPRE */
 #define THURAFEQA_CON1_PPRE 0x0003u   /* primary prescaler: 64, 16, 4, 1 */
 
-/* CON2. */
-#define THURAFEQA_CON2_FRMEN 0x8000u  /* not modelled: cannot be enabled */
-#define THURAFEQA_CON2_SPIFSD 0x4000u /* kept, without effect */
-#define THURAFEQA_CON2_FRMPOL 0x2000u /* kept, without effect */
-#define THURAFEQA_CON2_FRMDLY 0x0002u /* kept, without effect */
+/* CON2. SPIFSD, FRMPOL and FRMDLY have an effect with FRMEN alone. In a framed
+ * module CKE and SSEN are kept and have no effect. */
+#define THURAFEQA_CON2_FRMEN 0x8000u  /* framed: pulses at SS begin the words */
+#define THURAFEQA_CON2_SPIFSD 0x4000u /* frame client, else frame host */
+#define THURAFEQA_CON2_FRMPOL 0x2000u /* a pulse is high, else low */
+#define THURAFEQA_CON2_FRMDLY 0x0002u /* with the first bit, else before it */
 #define THURAFEQA_CON2_SPIBEN 0x0001u /* enhanced: buffers of 8 words, else 1 */
 
 /* Where the fields of more than one bit begin. */
@@ -166,18 +167,20 @@ uint32_t thurafeqa_read(thurafeqa *m, uint32_t register_number);
  * Writing BUF accepts a word for sending, of which 8-bit operation keeps the
  * low 8 bits. Writing STAT with SPIEN 1 enables the module, with SPIEN 0
  * disables it, which empties both buffers and the shift register.
- * Refusals: 1; for BUF 2, then 5; for CON1 and CON2 3; for STAT 12, 13, 14, 15,
- * the first of them where there are several mistakes. */
+ * Refusals: 1; for BUF 2, then 5; for CON1 and CON2 3; for STAT 13, 14, 15, the
+ * first of them where there are several mistakes. */
 uint32_t thurafeqa_write(thurafeqa *m, uint32_t register_number,
                          uint32_t value);
 
-/* One tick of a host with its own clock, with the level at SDI; the answer's
- * value is 1 if it made an edge, 0 if there was no word to send.
+/* One tick of a host with its own clock, with the levels at SDI and SS; the
+ * answer's value is 1 if it made an edge, 0 if there was no word to send. A
+ * framed host makes an edge at every tick. SS counts for a frame client alone.
  * Refusals: 2, then 7 (a client, or a host under DISSCK). */
-uint32_t thurafeqa_tick(thurafeqa *m, uint32_t sdi);
+uint32_t thurafeqa_tick(thurafeqa *m, uint32_t sdi, uint32_t ss);
 
 /* Shows levels to the pins of a client or of a host under DISSCK; an SCK level
- * unlike the last is an edge. The answer's value is 0.
+ * unlike the last is an edge. SS counts for a client under SSEN, as its select,
+ * and for a frame client. The answer's value is 0.
  * Refusals: 2, then 7 (a host with its own clock). */
 uint32_t thurafeqa_pins(thurafeqa *m, uint32_t sck, uint32_t sdi, uint32_t ss);
 
@@ -193,6 +196,8 @@ uint32_t thurafeqa_levels(const thurafeqa *m);
 #define THURAFEQA_LEVELS_SCK 2u    /* last made here or seen at the pin */
 #define THURAFEQA_LEVELS_SDO 4u    /* 0 if SDO is not driven */
 #define THURAFEQA_LEVELS_DRIVEN 8u /* SDO is driven */
+#define THURAFEQA_LEVELS_SS 16u    /* 0 if SS is not driven */
+#define THURAFEQA_LEVELS_SS_DRIVEN 32u /* SS is driven: an enabled frame host */
 
 /* Runs two modules on one wire until the host has no more to send, or for
  * `limit` edges; the answer's value is the number of edges that the host made.
@@ -200,7 +205,7 @@ uint32_t thurafeqa_levels(const thurafeqa *m);
  * idle host, whatever calls were made since power-up. The client's select stays
  * low after the run.
  * Refusals: 11, then 2 (either disabled), 7 (the host has no clock of its own,
- * or the client is a host), 10. */
+ * the client is a host, or either is framed), 10. */
 uint32_t thurafeqa_linked(thurafeqa *host, thurafeqa *client, uint32_t limit);
 
 /* What a clock report carries, 0 where it carries nothing. With the rate F in

@@ -33,11 +33,12 @@ static void show_wires(struct board *b)
 }
 
 /* One edge: SDI has the level from before it, the memory sees the levels after
- * it. A resistor pulls SDI up while the memory does not drive it. */
+ * it. A resistor pulls SDI up while the memory does not drive it. SS counts for
+ * a frame client alone, which this host is not. */
 static void edge(struct board *b)
 {
     bool sdi = b->memory.driven ? b->memory.so : true;
-    uint32_t answer = thurafeqa_tick(&b->spi, sdi);
+    uint32_t answer = thurafeqa_tick(&b->spi, sdi, 0);
 
     if (thurafeqa_refusal(answer) != 0)
         printf("port: tick refused with %d\n", thurafeqa_refusal(answer));

@@ -39,10 +39,10 @@ impl Board {
     }
 
     /// One edge: SDI has the level from before it, the memory sees the levels after it. A resistor pulls SDI up while the
-    /// memory does not drive it.
+    /// memory does not drive it. SS counts for a frame client alone, which this host is not.
     fn edge(&mut self) {
         let sdi = self.memory.so().unwrap_or(true);
-        match self.spi.tick(sdi) {
+        match self.spi.tick(sdi, false) {
             Ok(true) => self.show_wires(),
             Ok(false) => (),
             Err(refusal) => println!("port: tick refused with {}", refusal as u32),

@@ -2,7 +2,8 @@
  * full, the lettered examples, and those that the paper only asks to run.
  * Examples f, k and l are tried in more modes than the paper names. Examples b
  * and d give the numbers of document 02's request One, and further cases tell
- * which number stands where there are several mistakes. */
+ * which number stands where there are several mistakes. Then come the frames of
+ * request Three, in every pairing. */
 #include "ref_spi.h"
 #include "script.h"
 
@@ -69,6 +70,253 @@ static int script_is(const char *in, size_t n, const char *want)
     return 1;
 }
 
+static int prints(const char *in, const char *want)
+{
+    return script_is(in, strlen(in), want);
+}
+
+/* ---- request Three ---------------------------------------------------- */
+
+/* What is varied over all framed modules, as bits of a number: CON1 and CON2
+ * of the module, and the levels that follow from them. */
+#define FRAMED_MODES 128
+
+struct framed {
+    unsigned con1, con2;
+    int own, frmdly, ckp, active, w;
+};
+
+static struct framed framed_mode(unsigned mode, int spifsd)
+{
+    static const unsigned role[] = {0x0020, 0x1020, 0x0000, 0x0180};
+    struct framed f;
+
+    f.con1 = role[mode & 3] | (mode & 4 ? 0x0040 : 0) | (mode & 8 ? 0x0400 : 0);
+    f.con2 = 0x8000u | (mode & 16 ? 0x2000 : 0) | (mode & 32 ? 0x0002 : 0) |
+             (mode & 64 ? 0x0001 : 0) | (spifsd ? 0x4000 : 0);
+    f.own = (mode & 3) == 0;
+    f.ckp = (mode & 4) != 0;
+    f.w = mode & 8 ? 16 : 8;
+    f.active = (mode & 16) != 0;
+    f.frmdly = (mode & 32) != 0;
+    return f;
+}
+
+/* One edge, by a tick or by a pin call. */
+static void framed_edge(struct ref_spi *m, const struct framed *f, int sdi,
+                        int ss)
+{
+    if (f->own)
+        EXPECT(ref_tick(m, sdi, ss) == 0);
+    else
+        EXPECT(ref_pins(m, !ref_sck(m), sdi, ss) == 0);
+}
+
+/* Two words from a frame host, written at once and without a gap between: at
+ * each edge the bit at SDO, and the pulse where FRMDLY puts it. SDI is SDO, so
+ * each word receives itself. */
+static void framed_host(void)
+{
+    unsigned mode;
+
+    begin();
+    for (mode = 0; mode < FRAMED_MODES; mode++) {
+        struct framed f = framed_mode(mode, 0);
+        unsigned word[2] = {0xA53Cu >> (16 - f.w), 0x5AC3u >> (16 - f.w)};
+        int edge, r, last = 2 * f.w * 2;
+        struct ref_spi m = fresh(f.con1, f.con2, 0x8000, &r);
+
+        EXPECT(r == 0);
+        EXPECT(ref_ss(&m) == !f.active);
+        /* the clock runs with nothing to send: no pulse, no bit, no word */
+        for (edge = 0; edge < 6; edge++) {
+            framed_edge(&m, &f, 1, f.active);
+            EXPECT(ref_sck(&m) == (f.ckp ^ !(edge & 1)));
+            EXPECT(ref_ss(&m) == !f.active && ref_sdo(&m) == 0);
+        }
+        EXPECT(ref_write(&m, 3, word[0]) == 0);
+        EXPECT(ref_write(&m, 3, word[1]) == 0);
+        EXPECT(ref_ss(&m) == !f.active);
+        if (!f.frmdly) { /* one clock for the pulse, with SDO as it was */
+            for (edge = 0; edge < 2; edge++) {
+                framed_edge(&m, &f, 1, !f.active);
+                EXPECT(ref_ss(&m) == f.active && ref_sdo(&m) == 0);
+            }
+        }
+        for (edge = 1; edge <= last; edge++) {
+            int at = (edge - 1) / 2 % f.w; /* which bit this is */
+            int of = (edge - 1) / 2 / f.w; /* of which word */
+            int pulse = f.frmdly ? at == 0 : at == f.w - 1 && of == 0;
+
+            framed_edge(&m, &f, ref_sdo(&m), f.active);
+            EXPECT(ref_sdo(&m) == (int)(word[of] >> (f.w - 1 - at) & 1));
+            EXPECT(ref_ss(&m) == (pulse ? f.active : !f.active));
+            if (edge == last / 2)
+                EXPECT(get(&m, 3) == word[0]);
+            if (edge < last)
+                EXPECT(get(&m, 3) == 0xE0006);
+        }
+        EXPECT(get(&m, 3) == word[1]);
+        /* and runs on */
+        for (edge = 0; edge < 40; edge++) {
+            framed_edge(&m, &f, 1, f.active);
+            EXPECT(ref_ss(&m) == !f.active);
+            EXPECT(ref_sdo(&m) == (int)(word[1] & 1));
+        }
+        EXPECT(get(&m, 3) == 0xE0006);
+        /* turned off it lets go of SS; turned on it starts without a pulse */
+        EXPECT(ref_write(&m, 3, word[0]) == 0);
+        framed_edge(&m, &f, 1, 0);
+        EXPECT(ref_ss(&m) == f.active);
+        EXPECT(ref_write(&m, 0, 0) == 0 && ref_ss(&m) == REF_UNDRIVEN);
+        EXPECT(ref_write(&m, 0, 0x8000) == 0 && ref_ss(&m) == !f.active);
+        framed_edge(&m, &f, 1, 0);
+        EXPECT(ref_ss(&m) == !f.active && !m.begun);
+    }
+    end("frame host: pulses, bits and levels at each edge");
+}
+
+/* A frame client: a word by a pulse, a word by a pulse at the last edge of the
+ * one before, a filler, and no word without a pulse. It is the same for either
+ * FRMDLY. */
+static void framed_client(void)
+{
+    unsigned mode;
+
+    begin();
+    for (mode = 0; mode < FRAMED_MODES; mode++) {
+        struct framed f = framed_mode(mode, 1);
+        unsigned out[3] = {0xA53Cu >> (16 - f.w), 0x5AC3u >> (16 - f.w), 0};
+        int edge, r, which;
+        struct ref_spi m = fresh(f.con1, f.con2, 0x8000, &r);
+
+        EXPECT(r == 0);
+        EXPECT(ref_write(&m, 3, out[0]) == 0);
+        EXPECT(ref_write(&m, 3, out[1]) == 0);
+        for (edge = 0; edge < 6; edge++) {
+            /* SS at transmit edges is not seen */
+            framed_edge(&m, &f, 1, edge & 1 ? !f.active : f.active);
+            EXPECT(!m.begun && ref_sdo(&m) == 0);
+            EXPECT(ref_ss(&m) == REF_UNDRIVEN);
+        }
+        framed_edge(&m, &f, 1, !f.active);
+        framed_edge(&m, &f, 1, f.active); /* the sample edge */
+        EXPECT(!m.begun);
+        for (which = 0; which < 3; which++) {
+            for (edge = 1; edge <= 2 * f.w; edge++) {
+                /* active where it does not count, and in the middle not
+                 * where it would begin another word */
+                int ss = edge == 2 * f.w ? which < 2 : edge % 3 == 0;
+                int place = f.w - 1 - (edge - 1) / 2;
+
+                framed_edge(&m, &f, (int)(out[which] >> place & 1) ^ 1,
+                            ss ? f.active : !f.active);
+                EXPECT(ref_sdo(&m) == (int)(out[which] >> place & 1));
+            }
+            EXPECT(get(&m, 3) == (~out[which] & (0xFFFFu >> (16 - f.w))));
+        }
+        for (edge = 0; edge < 10; edge++) {
+            framed_edge(&m, &f, 1, !f.active);
+            EXPECT(!m.begun && ref_sdo(&m) == 0);
+        }
+        EXPECT(get(&m, 3) == 0xE0006);
+    }
+    end("frame client: words and fillers by pulses alone");
+}
+
+/* A frame host and a frame client on one wire, either of them with the clock.
+ * With FRMDLY 0 their words change places. With FRMDLY 1 the frame client is
+ * one bit behind, since it begins at the transmit edge after the pulse: what it
+ * takes in is shifted up by a bit, and what it sends comes in shifted down. */
+static void framed_pair(void)
+{
+    static const unsigned given[3] = {0xA5C3, 0x3C5A, 0x8001};
+    static const unsigned answered[3] = {0x0F1E, 0xB4D2, 0x6789};
+    unsigned mode;
+
+    begin();
+    for (mode = 0; mode < 32; mode++) {
+        unsigned con1 = (mode & 1 ? 0x0040 : 0) | (mode & 2 ? 0x0400 : 0);
+        unsigned con2 = 0x8001 | (mode & 4 ? 0x2000 : 0);
+        int behind = (mode & 8) != 0;
+        int clock = mode & 16 ? 1 : 0; /* which one ticks */
+        unsigned w = mode & 2 ? 16 : 8, mask = 0xFFFFu >> (16 - w);
+        unsigned before = 0;
+        struct ref_spi m[2]; /* the frame host, the frame client */
+        struct ref_spi *h = &m[clock], *c = &m[!clock];
+        int r, n;
+        unsigned i;
+
+        m[0] = fresh(con1 | (clock == 0 ? 0x0020 : 0),
+                     con2 | (behind ? 0x0002 : 0), 0x8000, &r);
+        EXPECT(r == 0);
+        m[1] = fresh(con1 | (clock == 1 ? 0x0020 : 0), con2 | 0x4000, 0x8000,
+                     &r);
+        EXPECT(r == 0);
+        for (i = 0; i < 3; i++) {
+            EXPECT(ref_write(&m[0], 3, given[i]) == 0);
+            EXPECT(ref_write(&m[1], 3, answered[i]) == 0);
+        }
+        for (n = 0; n < 2 * 4 * (int)w; n++) {
+            /* both see the wires as they stood before the edge */
+            int to_host = ref_sdo(c), to_client = ref_sdo(h);
+            int ss = ref_ss(&m[0]);
+
+            EXPECT(ref_tick(h, to_host, ss) == 0);
+            EXPECT(ref_pins(c, ref_sck(h), to_client, ss) == 0);
+        }
+        for (i = 0; i < 3; i++) {
+            unsigned g = given[i] & mask, a = answered[i] & mask;
+            unsigned next = i < 2 ? (given[i + 1] & mask) >> (w - 1) : g & 1;
+
+            if (behind) {
+                unsigned down = before << (w - 1) | a >> 1;
+
+                before = a & 1;
+                a = down & mask;
+                g = (g << 1 | next) & mask;
+            }
+            EXPECT(get(&m[1], 3) == g);
+            EXPECT(get(&m[0], 3) == a);
+        }
+        EXPECT(get(&m[0], 3) == 0xE0006);
+        EXPECT(get(&m[1], 3) == 0xE0006);
+    }
+    end("a frame host and a frame client on one wire");
+}
+
+/* A linked run does not take a framed module, at either end. */
+static void framed_linked(void)
+{
+    unsigned mode;
+
+    begin();
+    for (mode = 0; mode < 16; mode++) {
+        struct ref_spi h, c, hb, cb;
+        unsigned used = 999;
+        int r, want = mode & 3 ? 7 : 0;
+
+        h = fresh(0x0020, mode & 1 ? (mode & 4 ? 0xC000 : 0x8000) : 0, 0x8000,
+                  &r);
+        c = fresh(mode & 8 ? 0x0040 : 0, mode & 2 ? 0x8000 : 0, 0x8000, &r);
+        EXPECT(ref_write(&h, 3, 0xA5) == 0);
+        hb = h;
+        cb = c;
+        if (want == 0 && mode & 8)
+            want = 10; /* 7 comes before 10, which is of other modes */
+        EXPECT(ref_linked(&h, &c, 289, &used) == 11);
+        EXPECT(ref_linked(&h, &c, 16, &used) == want);
+        if (want != 0) {
+            EXPECT(used == 999);
+            EXPECT(memcmp(&h, &hb, sizeof h) == 0);
+            EXPECT(memcmp(&c, &cb, sizeof c) == 0);
+        }
+        EXPECT(ref_write(&c, 0, 0) == 0);
+        EXPECT(ref_linked(&h, &c, 16, &used) == 2); /* 2 before 7 */
+    }
+    end("a linked run takes no framed module");
+}
+
 int main(void)
 {
     int r;
@@ -106,6 +354,18 @@ int main(void)
         /* T shows Z under DISSDO */
         EXPECT(script_is("W 1 0820\nW 0 8000\nW 3 00FF\nT 0\n", 31,
                          "1 OK\n2 OK\n3 OK\n4 1 Z 0\n"));
+        /* T with SS: the level counts for a frame client, and a frame host
+         * shows its own; nothing else changes */
+        EXPECT(prints("W 1 0020\nW 2 E000\nW 0 8000\nW 3 00FF\nT 0\nT 0 1\n"
+                      "T 0\nT 0 2\nT 0 0 \nT 00\n",
+                      "1 OK\n2 OK\n3 OK\n4 OK\n5 1 0 0\n6 0 0 0\n7 1 1 0\n"
+                      "8 E 9\n9 E 9\n10 E 9\n"));
+        EXPECT(prints("W 1 0820\nW 2 A002\nW 0 8000\nW 3 00FF\nT 0 0\n"
+                      "T 0 1\nT 0 0\nP 0 0 0\n",
+                      "1 OK\n2 OK\n3 OK\n4 OK\n5 1 Z 0 1\n6 0 Z 0 1\n"
+                      "7 1 Z 0 0\n8 E 7\n"));
+        EXPECT(prints("W 1 0020\nW 0 8000\nT 1 1\nW 3 00FF\nT 1 1\n",
+                      "1 OK\n2 OK\n3 N\n4 OK\n5 1 1 0\n"));
     }
     {
         /* an input beyond the limit: its last line is cut short */
@@ -174,10 +434,6 @@ int main(void)
             int want;
         } setting[] = {
             /* one mistake, in each role that can make it */
-            {0x0020, 0x8000, 12},
-            {0x1020, 0x8000, 12},
-            {0x0000, 0x8000, 12},
-            {0x0180, 0xE003, 12},
             {0x003F, 0x0000, 13},
             {0x05FF, 0x0001, 13}, /* CKE, SSEN, CKP and MODE16 do not matter */
             {0x0220, 0x0000, 14},
@@ -187,14 +443,25 @@ int main(void)
             {0x0100, 0x0000, 15},
             {0x1100, 0x0000, 15}, /* DISSCK does not matter to a client */
             /* two: 13 is a host's and 15 a client's, so they never meet */
-            {0x003F, 0x8000, 12}, /* 12 and 13 */
-            {0x0220, 0x8000, 12}, /* 12 and 14 */
-            {0x0100, 0x8000, 12}, /* 12 and 15 */
             {0x023F, 0x0000, 13}, /* 13 and 14 */
             {0x0300, 0x0000, 14}, /* 14 and 15 */
-            /* three */
-            {0x023F, 0x8000, 12}, /* 12, 13 and 14 */
-            {0x0300, 0x8000, 12}, /* 12, 14 and 15 */
+            /* FRMEN is none in any role, and takes 15 away but not 13, 14 */
+            {0x0020, 0x8000, 0},
+            {0x1020, 0x8000, 0},
+            {0x0000, 0x8000, 0},
+            {0x0180, 0xE003, 0},
+            {0x0100, 0x8000, 0},
+            {0x0100, 0xC000, 0},
+            {0x1100, 0xC000, 0},
+            {0x011F, 0x8000, 0},
+            {0x003F, 0x8000, 13},
+            {0x003F, 0xC000, 13},
+            {0x103F, 0x8000, 0},
+            {0x023F, 0x8000, 13},
+            {0x0220, 0x8000, 14},
+            {0x1220, 0xC000, 14},
+            {0x0200, 0x8000, 14},
+            {0x0300, 0x8000, 14},
             /* 1:1 is no mistake where the clock comes from the pin */
             {0x001F, 0x0000, 0},
             {0x009F, 0x0000, 0},
@@ -236,15 +503,13 @@ int main(void)
                 EXPECT(ref_write(&m, 0, 0xA01C) == 0); /* enabled already */
         }
     }
-    end("12 to 15, alone and together: the first is told");
+    end("13 to 15, alone and together: the first is told");
 
     begin();
     {
         /* one mistake after the other is put right */
-        struct ref_spi m = fresh(0x023F, 0x8000, 0x8000, &r);
-        EXPECT(r == 12);
-        EXPECT(ref_write(&m, 2, 0x0000) == 0);
-        EXPECT(ref_write(&m, 0, 0x8000) == 13);
+        struct ref_spi m = fresh(0x023F, 0x0000, 0x8000, &r);
+        EXPECT(r == 13);
         EXPECT(ref_write(&m, 1, 0x0300) == 0);
         EXPECT(ref_write(&m, 0, 0x8000) == 14);
         EXPECT(ref_write(&m, 1, 0x0100) == 0);
@@ -253,13 +518,13 @@ int main(void)
         EXPECT(ref_write(&m, 0, 0x8000) == 0);
         EXPECT(get(&m, 0) == 0x8000);
     }
-    end("12, 13, 14 and 15 put right in turn");
+    end("13, 14 and 15 put right in turn");
 
     begin();
     {
-        /* every CON1 and FRMEN. FRMEN takes half of the 16,384. Of the other
-         * half, 13 fixes seven bits; 14 fixes one and leaves the half of
-         * those to 13; 15 fixes three and needs SMP 0. */
+        /* every CON1, unframed and framed, 8,192 each. 13 fixes seven bits;
+         * 14 fixes one and leaves the half of those to 13; 15 fixes three,
+         * needs SMP 0 and is of the unframed half alone. */
         unsigned long told[16] = {0};
         for (i = 0; i < 0x4000; i++) {
             (void)fresh(i & 0x1FFF, i & 0x2000 ? 0x8000 : 0, 0x8000, &r);
@@ -269,15 +534,14 @@ int main(void)
             }
             told[r]++;
         }
-        EXPECT(told[12] == 8192);
-        EXPECT(told[13] == 64);
-        EXPECT(told[14] == 4096 - 32);
+        EXPECT(told[13] == 2 * 64);
+        EXPECT(told[14] == 2 * (4096 - 32));
         EXPECT(told[15] == 512);
-        EXPECT(told[0] == 8192 - 64 - 4064 - 512);
-        for (i = 1; i < 12; i++)
-            EXPECT(told[i] == 0); /* 4 among them */
+        EXPECT(told[0] == 2 * (8192 - 64 - 4064) - 512);
+        for (i = 1; i < 13; i++)
+            EXPECT(told[i] == 0); /* 4 and 12 among them */
     }
-    end("every CON1 with and without FRMEN; never 4");
+    end("every CON1 with and without FRMEN; never 4 or 12");
 
     begin();
     {
@@ -292,13 +556,13 @@ int main(void)
                 level = (unsigned)ref_sdo(&m); /* before the edge */
                 if (cke && i % 2 == 1)
                     got = got * 2 + level;
-                EXPECT(ref_tick(&m, 0) == 0);
+                EXPECT(ref_tick(&m, 0, 0) == 0);
                 EXPECT((unsigned)ref_sck(&m) == (ckp ^ (i % 2)));
                 level = (unsigned)ref_sdo(&m); /* after it */
                 if (!cke && i % 2 == 1)
                     got = got * 2 + level;
             }
-            EXPECT(ref_tick(&m, 0) == REF_NO_EDGE);
+            EXPECT(ref_tick(&m, 0, 0) == REF_NO_EDGE);
             EXPECT(got == 0xA5);
             /* CKE 0 keeps the last bit, CKE 1 has no next word to show */
             EXPECT(ref_sdo(&m) == (cke ? 0 : 1));
@@ -334,7 +598,7 @@ int main(void)
             EXPECT(ref_write(&m, 3, 0x10 + i) == 0);
         /* SDO is looped back: an odd edge puts out the bit that the even
          * edge after it takes in, so each word receives itself */
-        while (ref_tick(&m, ref_sdo(&m)) == 0)
+        while (ref_tick(&m, ref_sdo(&m), 0) == 0)
             edges++;
         EXPECT(edges == 9 * 16);
         EXPECT(get(&m, 0) == 0x80C1);
@@ -350,13 +614,13 @@ int main(void)
         struct ref_spi m = fresh(0x0020, 0, 0x8000, &r);
         EXPECT(ref_write(&m, 3, 0x5A) == 0);
         for (i = 0; i < 15; i++)
-            EXPECT(ref_tick(&m, 1) == 0);
+            EXPECT(ref_tick(&m, 1, 0) == 0);
         EXPECT(get(&m, 0) == 0x8000);
         EXPECT(ref_flag(&m) == 0);
-        EXPECT(ref_tick(&m, 1) == 0);
+        EXPECT(ref_tick(&m, 1, 0) == 0);
         EXPECT(get(&m, 0) == 0x8001);
         EXPECT(ref_flag(&m) == 1);
-        EXPECT(ref_tick(&m, 1) == REF_NO_EDGE);
+        EXPECT(ref_tick(&m, 1, 0) == REF_NO_EDGE);
         EXPECT(get(&m, 3) == 0xFF);
     }
     end("j  at 8 bits edge 15 does not finish, edge 16 does");
@@ -459,7 +723,7 @@ int main(void)
         EXPECT(used == 999);
         EXPECT(ref_linked(&h, &c, 288, &used) == 0);
         EXPECT(used == 288);
-        EXPECT(ref_tick(&h, 0) == REF_NO_EDGE);
+        EXPECT(ref_tick(&h, 0, 0) == REF_NO_EDGE);
         EXPECT(get(&h, 0) == 0x80C1);
         EXPECT(get(&c, 0) == 0x87C1);
         for (i = 0; i < 8; i++) {
@@ -468,6 +732,11 @@ int main(void)
         }
     }
     end("also: limits 288 and 289");
+
+    framed_host();
+    framed_client();
+    framed_pair();
+    framed_linked();
 
     printf("%s\n", failures == 0 ? "all examples passed" : "EXAMPLES FAILED");
     return failures != 0;

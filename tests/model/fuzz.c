@@ -2,7 +2,9 @@
  * lists that only grow, filled from the caller's side (words given, words
  * got, levels at the pins) and never from the model's own queues. After every
  * call the model's registers, levels and flag must be those of its ledger, and
- * the customer's third demand, the one about word order, must hold.
+ * the customer's third demand, the one about word order, must hold. Of a framed
+ * module the ledger sees the SS level, given or shown, and nothing else of its
+ * pulses: what the paper says of them is held to that level.
  *
  * usage: fuzz [seed] [calls]
  */
@@ -54,6 +56,11 @@ struct ledger {
     /* the word on the wire */
     int begun, filler, k;
     unsigned in, out;
+
+    /* framed: SS is active, as a frame host shows it after this edge or as a
+     * frame client was shown it at the last edge where it looks; the pulses
+     * that a frame host has shown */
+    int pulse, n_pulses;
 };
 
 struct pair {
@@ -66,14 +73,33 @@ static unsigned long st_sent, st_kept, st_lost, st_filler, st_abort, st_linked,
 
 static unsigned long st_together; /* enabling with more than one mistake */
 
+/* Framed modules: pulses shown by FRMDLY, those of them on the last bit of a
+ * word, those that came a clock late; pulses seen, those of them at the last
+ * edge of a word; clocks of neither word nor pulse; finished words by clock,
+ * frame client, FRMDLY, FRMPOL and width; linked runs refused. */
+static unsigned long st_given[2], st_last_bit, st_late, st_sampled,
+    st_at_finish, st_idle_clock, st_framed[2][2][2][2][2], st_framed_filler,
+    st_unlinked, st_framed_drain;
+
 static int l_en(const struct ledger *l) { return l->stat_rw >> 15 & 1; }
 static int l_w(const struct ledger *l) { return l->con1 & 0x400 ? 16 : 8; }
 static int l_ben(const struct ledger *l) { return (int)(l->con2 & 1); }
 static int l_depth(const struct ledger *l) { return l_ben(l) ? 8 : 1; }
 static int l_host(const struct ledger *l) { return (l->con1 & 0x20) != 0; }
 static int l_own(const struct ledger *l) { return (l->con1 & 0x1020) == 0x20; }
-static int l_ssc(const struct ledger *l) { return (l->con1 & 0xA0) == 0x80; }
-static int l_cke(const struct ledger *l) { return (l->con1 & 0x100) != 0; }
+static int l_framed(const struct ledger *l) { return (l->con2 & 0x8000) != 0; }
+static int l_fclient(const struct ledger *l) { return l->con2 >> 14 == 3; }
+static int l_fhost(const struct ledger *l) { return l->con2 >> 14 == 2; }
+static int l_active(const struct ledger *l) { return l->con2 >> 13 & 1; }
+static int l_frmdly(const struct ledger *l) { return l->con2 >> 1 & 1; }
+static int l_ssc(const struct ledger *l)
+{
+    return (l->con1 & 0xA0) == 0x80 && !l_framed(l);
+}
+static int l_cke(const struct ledger *l)
+{
+    return (l->con1 & 0x100) != 0 && !l_framed(l);
+}
 static int l_ckp(const struct ledger *l) { return (l->con1 & 0x40) != 0; }
 static int l_sisel(const struct ledger *l) { return (int)(l->stat_rw >> 2 & 7); }
 
@@ -107,6 +133,7 @@ static void l_enable(struct ledger *l)
     l->in = l->out = 0;
     l->sck = l_ckp(l);
     l->ss = 1;
+    l->pulse = l->n_pulses = 0;
 }
 
 /* STAT as the ledger has it. */
@@ -172,13 +199,16 @@ static void demand3(struct pair *p)
     CHECK(ref_read(m, 1, &v) == 0 && v == l->con1);
     CHECK(ref_read(m, 2, &v) == 0 && v == l->con2);
     if (!l_en(l)) {
-        CHECK(ref_sdo(m) == 2);
+        CHECK(ref_sdo(m) == 2 && ref_ss(m) == 2);
         CHECK(m->tx.n == 0 && m->rx.n == 0 && !m->loaded && !m->begun);
         return;
     }
     CHECK(ref_sck(m) == l->sck);
-    if (!l_own(l))
-        CHECK(m->ss == l->ss);
+    CHECK(m->ss == l->ss);
+    if (l_fhost(l))
+        CHECK(ref_ss(m) == (l->pulse ? l_active(l) : !l_active(l)));
+    else
+        CHECK(ref_ss(m) == 2);
     CHECK((ref_sdo(m) == 2) == ((l->con1 & 0x800) || (l_ssc(l) && l->ss)));
 
     /* Sending: after the sent words come the loaded one and the queue, and
@@ -202,6 +232,14 @@ static void demand3(struct pair *p)
 
     CHECK(m->begun == l->begun && m->filler == l->filler && m->edges == l->k);
 
+    /* a frame host: one pulse for each word, before it under FRMDLY 0, and
+     * never a filler */
+    if (l_fhost(l)) {
+        CHECK(!l->filler && l->n_received == l->n_sent);
+        CHECK(l->n_pulses ==
+              l->n_sent + l->begun + (!l_frmdly(l) && l->pulse));
+    }
+
     /* CKE 1: the first bit of the next word is out between words */
     if (l_cke(l) && !l->begun) {
         int top = 0;
@@ -220,6 +258,41 @@ static void demand3_whole(const struct ledger *l)
                  (size_t)l->n_read * sizeof l->read[0]) == 0);
 }
 
+/* A frame host on its own clock, given no new word: on a copy, the edges until
+ * the last word is finished. Each pulse comes at the earliest clock that does
+ * not cut a word, so no clock is lost between words, but one for a word that
+ * was written too late for a pulse on the last bit of the word before. */
+static void framed_drain(const struct pair *p)
+{
+    const struct ledger *l = &p->l;
+    struct ref_spi c = p->m;
+    int w = l_w(l), words = l_unfinished(l);
+    int edges = 0, want = 2 * w * words - l->k;
+
+    if (!l_fhost(l))
+        return;
+    st_framed_drain++;
+    if (words > 0 && !l->begun) {
+        if (l->sck != l_ckp(l))
+            want += 1; /* to the next transmit edge */
+        if (!l_frmdly(l) && !l->pulse)
+            want += 2; /* the pulse's clock */
+    }
+    if (words > 1 && l->k == 2 * w - 1 && !l_frmdly(l) && !l->pulse)
+        want += 2;
+    while (c.begun || c.loaded || c.tx.n > 0) {
+        CHECK(ref_tick(&c, (int)rnd(2), (int)rnd(2)) == 0);
+        edges++;
+        CHECK(edges <= 291);
+    }
+    CHECK(edges == want);
+    for (edges = 0; edges < 40; edges++) { /* and it runs on, in silence */
+        int sdo = c.sdo;
+        CHECK(ref_tick(&c, (int)rnd(2), (int)rnd(2)) == 0);
+        CHECK(c.sdo == sdo && !c.begun && ref_ss(&c) == !l_active(l));
+    }
+}
+
 /* The end of the third demand: on a copy, a host's own clock runs until it
  * stops, and the edges made must be those that the ledger says are owed. */
 static void drain(const struct pair *p)
@@ -231,9 +304,13 @@ static void drain(const struct pair *p)
 
     if (!l_en(&p->l) || !l_own(&p->l))
         return;
+    if (l_framed(&p->l)) {
+        framed_drain(p);
+        return;
+    }
     st_drain++;
     want = 2 * l_w(&p->l) * l_unfinished(&p->l) - p->l.k;
-    while (ref_tick(&c, (int)rnd(2)) == 0) {
+    while (ref_tick(&c, (int)rnd(2), (int)rnd(2)) == 0) {
         edges++;
         CHECK(edges <= 288);
         if (one_in(40))
@@ -254,17 +331,16 @@ static void refused(const struct pair *p, const struct ref_spi *before, int r)
     CHECK(memcmp(&p->m, before, sizeof p->m) == 0);
 }
 
-/* Document 02, request One: the first mistake in the settings. */
+/* Document 02, requests One and Three: the first mistake in the settings. */
 static int expected_enable_refusal(const struct ledger *l)
 {
     unsigned c = l->con1;
-    int framed = (l->con2 & 0x8000) != 0;
     int undivided = (c & 0x103F) == 0x003F;
     int late = (c & 0x0200) != 0;
-    int unselected = (c & 0x01A0) == 0x0100;
+    int unselected = (c & 0x01A0) == 0x0100 && !l_framed(l);
 
-    st_together += framed + undivided + late + unselected > 1;
-    return framed ? 12 : undivided ? 13 : late ? 14 : unselected ? 15 : 0;
+    st_together += undivided + late + unselected > 1;
+    return undivided ? 13 : late ? 14 : unselected ? 15 : 0;
 }
 
 static void do_write(struct pair *p, unsigned reg, unsigned value)
@@ -394,6 +470,11 @@ static void l_edge(struct pair *p, int sdi, int sdo_before, int sdo_after)
             appended = 1;
             st_kept++;
         }
+        if (l_framed(l)) {
+            st_framed[l_own(l)][l_fclient(l)][l_frmdly(l)][l_active(l)]
+                     [w == 16]++;
+            st_framed_filler += (unsigned long)was_filler;
+        }
         if (was_filler) {
             CHECK(l->out == 0);
             st_filler++;
@@ -409,11 +490,89 @@ static void l_edge(struct pair *p, int sdi, int sdo_before, int sdo_after)
     }
 }
 
-static int do_tick(struct pair *p, int sdi)
+/* A frame host: its SS after the edge tells what it did. SS goes active at a
+ * transmit edge alone, for one clock, and exactly where the paper has it. */
+static void l_given(struct pair *p)
+{
+    struct ledger *l = &p->l;
+    int transmit = l->sck != l_ckp(l);
+    int last_bit = l->begun && l->k + 1 == 2 * l_w(l) - 1;
+    int active = ref_ss(&p->m) == l_active(l);
+    int begins;
+
+    if (!transmit) {
+        CHECK(active == l->pulse);
+        return;
+    }
+    CHECK(!(active && l->pulse));
+    if (l_frmdly(l)) {
+        CHECK(active == (!l->begun && l_unfinished(l) > 0));
+        begins = active;
+    } else {
+        CHECK(!(l->pulse && l->begun));
+        if (l->begun)
+            CHECK(active == (last_bit && l_waiting(l) > 0));
+        else
+            CHECK(active == (!l->pulse && l_unfinished(l) > 0));
+        begins = l->pulse;
+        st_last_bit += (unsigned long)(active && last_bit);
+        st_late += (unsigned long)(active && !last_bit && l->n_sent > 0);
+    }
+    if (begins) {
+        CHECK(l_unfinished(l) > 0);
+        l->begun = 1;
+    }
+    l->pulse = active;
+    l->n_pulses += active;
+    st_given[l_frmdly(l)] += (unsigned long)active;
+}
+
+/* A frame client, before the edge is entered: a pulse seen half a clock ago
+ * begins a word, a filler if there is nothing to send now. */
+static void l_started(struct ledger *l)
+{
+    if (l->sck == l_ckp(l) || l->begun)
+        return;
+    l->begun = l->pulse;
+    l->filler = l->pulse && l_unfinished(l) == 0;
+}
+
+/* And after it: SS is looked at on a sample edge with no word under way. */
+static void l_looks(struct ledger *l, int finished)
+{
+    if (l->sck != l_ckp(l) || l->begun)
+        return;
+    l->pulse = l->ss == l_active(l);
+    st_sampled += (unsigned long)l->pulse;
+    st_at_finish += (unsigned long)(l->pulse && finished);
+}
+
+/* Enters an edge of a framed module, whose clock and select levels are in the
+ * ledger already. Without a word nothing comes in and SDO stays. */
+static void l_framed_edge(struct pair *p, int sdi, int sdo_before)
+{
+    struct ledger *l = &p->l;
+    int words = l->n_received;
+
+    if (l_fhost(l))
+        l_given(p);
+    else
+        l_started(l);
+    if (l->begun) {
+        l_edge(p, sdi, sdo_before, p->m.sdo);
+    } else {
+        CHECK(p->m.sdo == sdo_before);
+        st_idle_clock += (unsigned long)!l->pulse;
+    }
+    if (l_fclient(l))
+        l_looks(l, l->n_received > words);
+}
+
+static int do_tick(struct pair *p, int sdi, int ss)
 {
     struct ref_spi before = p->m;
     struct ledger *l = &p->l;
-    int r = ref_tick(&p->m, sdi);
+    int r = ref_tick(&p->m, sdi, ss);
     int want = 0;
 
     calls++;
@@ -421,11 +580,16 @@ static int do_tick(struct pair *p, int sdi)
         want = 2;
     else if (!l_own(l))
         want = 7;
-    else if (l_unfinished(l) == 0)
+    else if (l_unfinished(l) == 0 && !l_framed(l))
         want = -1;
     CHECK(r == want);
     if (r != 0) {
         refused(p, &before, r);
+    } else if (l_framed(l)) {
+        l->sck = !l->sck;
+        if (l_fclient(l))
+            l->ss = ss;
+        l_framed_edge(p, sdi, before.sdo);
     } else {
         l->begun = 1;
         l->sck = !l->sck;
@@ -460,7 +624,9 @@ static void do_pins(struct pair *p, int sck, int sdi, int ss)
         }
         l->ss = ss;
         l->sck = sck;
-        if (edge && selected) {
+        if (edge && l_framed(l)) {
+            l_framed_edge(p, sdi, before.sdo);
+        } else if (edge && selected) {
             if (!l->begun && sck != l_ckp(l) &&
                 (!l_host(l) || l_unfinished(l) > 0)) {
                 l->begun = 1;
@@ -506,13 +672,16 @@ static void do_linked(struct pair *h, struct pair *c, unsigned limit)
         want = 11;
     else if (!l_en(&h->l) || !l_en(&c->l))
         want = 2;
-    else if (!l_own(&h->l) || l_host(&c->l))
+    else if (!l_own(&h->l) || l_host(&c->l) || l_framed(&h->l) ||
+             l_framed(&c->l))
         want = 7;
     else if ((h->l.con1 ^ c->l.con1) & 0x540)
         want = 10;
     CHECK(r == want);
     if (r != 0) {
         st_refused[r]++;
+        st_unlinked += (unsigned long)(r == 7 && l_own(&h->l) &&
+                                       !l_host(&c->l)); /* framed */
         CHECK(used == 0xABCDu);
         CHECK(memcmp(&hc, &h->m, sizeof hc) == 0);
         CHECK(memcmp(&cc, &c->m, sizeof cc) == 0);
@@ -524,7 +693,7 @@ static void do_linked(struct pair *h, struct pair *c, unsigned limit)
     for (;;) {
         if (n == limit)
             break;
-        if (do_tick(h, wire(&c->m)) != 0)
+        if (do_tick(h, wire(&c->m), (int)rnd(2)) != 0)
             break;
         n++;
         do_pins(c, ref_sck(&h->m), wire(&h->m), 0);
@@ -598,11 +767,20 @@ static unsigned random_con1(void)
 static unsigned random_con2(void)
 {
     unsigned c = (unsigned)rnd(0x10000);
-    if (!one_in(8))
-        c &= ~0x8000u;
     if (one_in(4))
         c |= 1;
     return c;
+}
+
+/* SS as shown to a module: a client under select control is selected soon and
+ * deselected seldom; a frame client gets a pulse now and then, or many. */
+static int some_ss(const struct ledger *l, int often)
+{
+    if (l_ssc(l))
+        return l->ss ? !one_in(3) : one_in(60);
+    if (l_fclient(l))
+        return one_in(often ? 2 : 9) ? l_active(l) : !l_active(l);
+    return (int)rnd(2);
 }
 
 /* One random step; the mood says how much of it is writing, clocking and
@@ -629,15 +807,14 @@ static void random_call(struct pair *p, unsigned mood)
         do_write(p, 3, rnd(0x10000));
     } else if (x < q[0] + q[1]) {
         int n = one_in(2) ? 1 : 1 + (int)rnd(40);
-        int same = one_in(4);
+        int same = one_in(4), often = one_in(3);
         int i;
         for (i = 0; i < n; i++) {
+            int ss = some_ss(l, often);
             if (l_own(l) ? !one_in(200) : one_in(200)) {
-                do_tick(p, (int)rnd(2));
+                do_tick(p, (int)rnd(2), ss);
             } else {
                 int sck = same ? (int)rnd(2) : !l->sck;
-                int ss = l_ssc(l) ? (l->ss ? !one_in(3) : one_in(60))
-                                  : (int)rnd(2);
                 do_pins(p, sck, (int)rnd(2), ss);
             }
         }
@@ -670,6 +847,28 @@ static void random_call(struct pair *p, unsigned mood)
             break;
         }
     }
+}
+
+static void print_framed(void)
+{
+    int i;
+
+    printf("pulses given %lu with FRMDLY 0 (on a last bit %lu, after it %lu) "
+           "and %lu with 1, sampled %lu (at a last edge %lu)\n",
+           st_given[0], st_last_bit, st_late, st_given[1], st_sampled,
+           st_at_finish);
+    printf("framed: clock edges alone %lu, fillers %lu, linked runs refused "
+           "%lu, drains %lu\n",
+           st_idle_clock, st_framed_filler, st_unlinked, st_framed_drain);
+    printf("framed words by width, FRMPOL and FRMDLY");
+    for (i = 0; i < 32; i++) {
+        if (i % 8 == 0)
+            printf("\n  %s clock, frame %s:", i / 16 ? "own" : "pin",
+                   i / 8 % 2 ? "client" : "host");
+        printf(" %lu", st_framed[i / 16][i / 8 % 2][i % 2][i / 2 % 2]
+                                [i / 4 % 2]);
+    }
+    printf("\n");
 }
 
 int main(int argc, char **argv)
@@ -716,8 +915,8 @@ int main(int argc, char **argv)
                 cc |= 0x80;
             if (one_in(12))
                 cc ^= 1u << rnd(13);
-            set_up(&a, hc, rnd(2));
-            set_up(&b, cc, rnd(2));
+            set_up(&a, hc, rnd(2) | (one_in(12) ? 0x8000 : 0));
+            set_up(&b, cc, rnd(2) | (one_in(12) ? 0xC000 : 0));
             while (turns--) {
                 random_call(one_in(2) ? &a : &b, mood);
                 if (one_in(4)) {
@@ -744,13 +943,15 @@ int main(int argc, char **argv)
            st_enable, st_sent, st_kept, st_lost, st_filler, st_abort,
            st_linked, st_drain, st_noedge);
     printf("refusals");
+    CHECK(st_refused[4] == 0 && st_refused[12] == 0);
     for (i = 1; i <= 15; i++)
-        if (i != 4 && i != 9) /* no call gives these */
+        if (i != 4 && i != 9 && i != 12) /* no call gives these */
             printf(" %d:%lu", i, st_refused[i]);
     printf(", with several mistakes at once %lu\nflag set by SISEL",
            st_together);
     for (i = 0; i < 8; i++)
         printf(" %d:%lu", i, st_flagset[i]);
     printf(" standard:%lu\n", st_flagset[8]);
+    print_framed();
     return 0;
 }

@@ -1,7 +1,8 @@
 /* Linked runs over the second model.
  *
  * link_examples    prints linked runs in every mode of clock and width, a
- *                  limit that is too high and one that stops after a word
+ *                  limit that is too high, one that stops after a word, and
+ *                  runs with a framed end
  * link_examples l  prints example l of document 01, each module numbering
  *                  its own lines as a script would
  */
@@ -13,14 +14,15 @@
 
 /* ---- runs in every mode ---------------------------------------------- */
 
-/* A module set up with eight-word buffers and turned on. */
-static struct ref_spi enabled(unsigned con1)
+/* A module set up with eight-word buffers and turned on, a frame host if it
+ * is framed. */
+static struct ref_spi enabled(unsigned con1, int framed)
 {
     struct ref_spi m;
 
     ref_power_up(&m);
     ref_write(&m, 1, con1);
-    ref_write(&m, 2, 0x0001);
+    ref_write(&m, 2, framed ? 0x8001 : 0x0001);
     ref_write(&m, 0, 0x8000);
     return m;
 }
@@ -50,27 +52,33 @@ static void print_reads(struct ref_spi *m)
     printf("\n");
 }
 
-/* One run: its line, then what the host read, then what the client read. */
-static void print_run(int ckp, int cke, int wide, unsigned limit)
+/* The rest of a run's line, then what the host read, then what the client
+ * read. */
+static void print_pair(struct ref_spi host, struct ref_spi client,
+                       unsigned limit)
 {
-    unsigned common =
-        (ckp ? 0x0040u : 0) | (cke ? 0x0100u : 0) | (wide ? 0x0400u : 0);
-    struct ref_spi host = enabled(common | 0x0020u);
-    struct ref_spi client = enabled(common | 0x0080u);
     unsigned used = 0;
     int r;
 
     fill(&host, 0xA5C3, 0x1111);
     fill(&client, 0x3C5A, 0x0F0F);
     r = ref_linked(&host, &client, limit, &used);
-
-    printf("CKP %d CKE %d w %2d:", ckp, cke, wide ? 16 : 8);
     if (r == 0)
         printf(" used %u\n", used);
     else
         printf(" E %d\n", r);
     print_reads(&host);
     print_reads(&client);
+}
+
+static void print_run(int ckp, int cke, int wide, unsigned limit)
+{
+    unsigned common =
+        (ckp ? 0x0040u : 0) | (cke ? 0x0100u : 0) | (wide ? 0x0400u : 0);
+
+    printf("CKP %d CKE %d w %2d:", ckp, cke, wide ? 16 : 8);
+    print_pair(enabled(common | 0x0020u, 0), enabled(common | 0x0080u, 0),
+               limit);
 }
 
 static void print_runs(void)
@@ -83,6 +91,10 @@ static void print_runs(void)
                 print_run(ckp, cke, wide, 288);
     print_run(0, 0, 1, 289);
     print_run(0, 0, 1, 32);
+    printf("framed host:");
+    print_pair(enabled(0x0420, 1), enabled(0x0480, 0), 288);
+    printf("framed client:");
+    print_pair(enabled(0x0420, 0), enabled(0x0480, 1), 288);
 }
 
 /* ---- example l ------------------------------------------------------- */

@@ -49,10 +49,30 @@ static int own_clock(const struct ref_spi *m)
     return m->msten && !m->dissck;
 }
 
-/* The client for which the select level matters. */
+/* Request Three: FRMEN frames a module of any role. SPIFSD then says on whose
+ * side the pulses are made: 0 here, at a frame host; 1 outside, and the module
+ * is a frame client. */
+static int frame_host(const struct ref_spi *m)
+{
+    return m->frmen && !m->spifsd;
+}
+
+static int frame_client(const struct ref_spi *m)
+{
+    return m->frmen && m->spifsd;
+}
+
+/* The client for which the select level matters. Request Three: in a framed
+ * module SSEN is as good as 0. */
 static int ssen_client(const struct ref_spi *m)
 {
-    return !m->msten && m->ssen;
+    return !m->msten && m->ssen && !m->frmen;
+}
+
+/* CKE as the edges see it. Request Three: in a framed module as good as 0. */
+static int late_sdo(const struct ref_spi *m)
+{
+    return m->cke && !m->frmen;
 }
 
 /* Registers: the part of a value that BUF stores; at 8 bits the upper byte
@@ -104,6 +124,15 @@ int ref_sdo(const struct ref_spi *m)
     if (ssen_client(m) && m->ss == 1)
         return REF_UNDRIVEN;
     return m->sdo;
+}
+
+/* Request Three: only an enabled frame host drives SS, to the level FRMPOL
+ * while it gives a pulse and to the other one at all other times. */
+int ref_ss(const struct ref_spi *m)
+{
+    if (!m->spien || !frame_host(m))
+        return REF_UNDRIVEN;
+    return m->pulse ? m->frmpol : !m->frmpol;
 }
 
 /* ---- One edge at a time, Interrupt flag: one function per event ------ */
@@ -202,7 +231,7 @@ static void show_between_words(struct ref_spi *m)
 {
     unsigned word;
 
-    if (!m->cke || m->begun)
+    if (!late_sdo(m) || m->begun)
         return;
     if (next_word(m, &word))
         m->sdo = top_bit(m, word);
@@ -305,22 +334,19 @@ static int bit(unsigned value, int number)
     return (int)((value >> number) & 1u);
 }
 
-/* What each refusal number says, with request One of document 02: the four
- * settings that cannot be turned on, each with a number of its own; the first
- * that is found is told. 0 if none is. */
+/* What each refusal number says, with requests One and Three of document 02:
+ * the three settings that cannot be turned on, each with a number of its own;
+ * the first that is found is told. 0 if none is. */
 static int enabling_refusal(const struct ref_spi *m)
 {
-    /* frames are asked for */
-    if (m->frmen)
-        return 12;
     /* a host making its own clock, undivided */
     if (own_clock(m) && m->ppre == 3 && m->spre == 7)
         return 13;
     /* late sampling, host or client */
     if (m->smp)
         return 14;
-    /* CKE at a client needs the select pin */
-    if (!m->msten && m->cke && !m->ssen)
+    /* CKE at a client needs the select pin; framed, neither counts */
+    if (!m->msten && m->cke && !m->ssen && !m->frmen)
         return 15;
     return 0;
 }
@@ -355,10 +381,12 @@ static int write_stat(struct ref_spi *m, unsigned value)
     }
     if (!was && now) {
         /* Registers: turning on starts with the clock at rest, where CKP
-         * puts it, nobody selected and a low SDO */
+         * puts it, nobody selected and a low SDO. Request Three: no pulse is
+         * given yet, and none from before counts */
         m->sck = m->ckp;
         m->ss = 1;
         m->sdo = 0;
+        m->pulse = 0;
     }
     return 0;
 }
@@ -466,7 +494,7 @@ static void word_edge(struct ref_spi *m, int sdi)
     m->edges = m->edges + 1;
     odd = m->edges % 2;
 
-    if (m->cke == 0) {
+    if (!late_sdo(m)) {
         /* Bits, CKE 0: put out a bit on the way to active, take one in on
          * the way back */
         if (odd) {
@@ -492,13 +520,100 @@ static void word_edge(struct ref_spi *m, int sdi)
         finish(m);
 }
 
+/* ---- Request Three: the edges of a framed module --------------------- */
+
+/* A word begins, with its first edge: the loaded one or, where there is none,
+ * a filler, which only a frame client comes to. */
+static void begin_framed(struct ref_spi *m, int sdi)
+{
+    m->begun = 1;
+    m->filler = !m->loaded;
+    word_edge(m, sdi);
+}
+
+/* A transmit edge of a frame host under FRMDLY 0: the pulse comes one clock
+ * before the word. It may lie on the last bit of the word before, if its own
+ * word is already queued then. */
+static void pulse_before(struct ref_spi *m, int sdi)
+{
+    if (m->begun) {
+        word_edge(m, sdi);
+        m->pulse = m->edges == 2 * width(m) - 1 && m->tx.n > 0;
+    } else if (m->pulse) {
+        m->pulse = 0;
+        begin_framed(m, sdi);
+    } else {
+        m->pulse = m->loaded;
+    }
+}
+
+/* The same under FRMDLY 1: the pulse is as long as the word's first bit. */
+static void pulse_with(struct ref_spi *m, int sdi)
+{
+    if (m->begun) {
+        m->pulse = 0;
+        word_edge(m, sdi);
+    } else if (m->loaded) {
+        m->pulse = 1;
+        begin_framed(m, sdi);
+    }
+}
+
+/* A transmit edge of a frame client: a pulse sampled half a clock ago starts a
+ * word, whatever FRMDLY says and whether or not there is one to send. */
+static void pulse_awaited(struct ref_spi *m, int sdi)
+{
+    if (m->begun) {
+        word_edge(m, sdi);
+    } else if (m->pulse) {
+        m->pulse = 0;
+        begin_framed(m, sdi);
+    }
+}
+
+/* A sample edge. Between words nothing is taken in. A frame client looks for a
+ * pulse wherever the next transmit edge can begin a word: between words, and
+ * once a word has ended on this very edge. */
+static void sample_edge(struct ref_spi *m, int sdi)
+{
+    if (m->begun)
+        word_edge(m, sdi);
+    if (frame_client(m) && !m->begun)
+        m->pulse = m->ss == m->frmpol;
+}
+
+/* Any edge; the caller has stored the new levels. CKE being as good as 0, the
+ * way to active is the transmit edge and the way to rest the sample edge. */
+static void framed_edge(struct ref_spi *m, int sdi)
+{
+    if (m->sck == m->ckp)
+        sample_edge(m, sdi);
+    else if (frame_client(m))
+        pulse_awaited(m, sdi);
+    else if (m->frmdly)
+        pulse_with(m, sdi);
+    else
+        pulse_before(m, sdi);
+}
+
+/* ---- One edge at a time: ticks and pin calls ------------------------- */
+
 /* One edge of a host's own clock; refusals: 2 comes before 7. */
-int ref_tick(struct ref_spi *m, int sdi)
+int ref_tick(struct ref_spi *m, int sdi, int ss)
 {
     if (!m->spien)
         return 2;
     if (!own_clock(m))
         return 7;
+    if (m->frmen) {
+        /* Request Three: this clock never stands still; the select level
+         * that a tick brings is for a frame client alone */
+        if (frame_client(m))
+            m->ss = ss != 0;
+        m->sck = !m->sck;
+        framed_edge(m, sdi != 0);
+        return 0;
+    }
     /* a clock with nothing to send stands still */
     if (!m->loaded)
         return REF_NO_EDGE;
@@ -546,6 +661,10 @@ int ref_pins(struct ref_spi *m, int sck, int sdi, int ss)
     m->sck = sck;
     if (!edge)
         return 0;
+    if (m->frmen) {
+        framed_edge(m, sdi);
+        return 0;
+    }
 
     /* not selected: storing the level was all */
     if (ssen_client(m) && m->ss == 1)
@@ -582,14 +701,15 @@ int ref_linked(struct ref_spi *host, struct ref_spi *client, unsigned limit,
 {
     unsigned count = 0;
 
-    /* What each refusal number says: limit, enabled, roles, settings */
+    /* What each refusal number says: limit, enabled, roles, settings; by
+     * request Three a framed module has no role here */
     if (limit > 288)
         return 11;
     if (!host->spien)
         return 2;
     if (!client->spien)
         return 2;
-    if (!own_clock(host) || client->msten)
+    if (!own_clock(host) || client->msten || host->frmen || client->frmen)
         return 7;
     if (host->ckp != client->ckp || host->cke != client->cke ||
         width(host) != width(client))
@@ -600,7 +720,7 @@ int ref_linked(struct ref_spi *host, struct ref_spi *client, unsigned limit,
 
     while (count < limit) {
         /* the host takes in what the client shows now */
-        if (ref_tick(host, wire(client)) == REF_NO_EDGE)
+        if (ref_tick(host, wire(client), 0) == REF_NO_EDGE)
             break;
         count = count + 1;
         /* and the client is shown what came of it */

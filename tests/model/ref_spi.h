@@ -1,6 +1,7 @@
 /* A second model of the SPI module, written from document 01 of the purchase,
- * with request One of document 02, and from nothing else. It keeps plain lists and takes one small step for
- * each rule, so that it can be read beside the paper. */
+ * with requests One and Three of document 02, and from nothing else. It keeps
+ * plain lists and takes one small step for each rule, so that it can be read
+ * beside the paper. */
 #ifndef REF_SPI_H
 #define REF_SPI_H
 
@@ -41,15 +42,18 @@ struct ref_spi {
     int ss;  /* select level last seen at the pin */
     int sdo; /* level behind the SDO pin, kept even when not driven out */
 
+    int pulse; /* framed: a frame host is giving one now; a frame client has
+                * sampled one, and a word begins at the next transmit edge */
+
     int flag; /* the interrupt flag */
 };
 
-/* The calls. Each answers 0 or the papers' refusal number, 1 to 15 but never 4;
- * a tick may also answer REF_NO_EDGE. */
+/* The calls. Each answers 0 or the papers' refusal number, 1 to 15 but never 4
+ * or 12; a tick of an unframed module may also answer REF_NO_EDGE. */
 void ref_power_up(struct ref_spi *m);
 int ref_read(struct ref_spi *m, unsigned reg, unsigned *value);
 int ref_write(struct ref_spi *m, unsigned reg, unsigned value);
-int ref_tick(struct ref_spi *m, int sdi);
+int ref_tick(struct ref_spi *m, int sdi, int ss);
 int ref_pins(struct ref_spi *m, int sck, int sdi, int ss);
 void ref_clear(struct ref_spi *m);
 
@@ -57,6 +61,7 @@ void ref_clear(struct ref_spi *m);
 int ref_flag(const struct ref_spi *m);
 int ref_sck(const struct ref_spi *m);
 int ref_sdo(const struct ref_spi *m); /* 0, 1 or REF_UNDRIVEN */
+int ref_ss(const struct ref_spi *m);  /* what it drives at SS: the same three */
 
 /* Host and client on one wire; *used is set only if the answer is 0. */
 int ref_linked(struct ref_spi *host, struct ref_spi *client, unsigned limit,

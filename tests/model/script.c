@@ -1,5 +1,6 @@
-/* Document 01, The script program. Built without SCRIPT_NO_MAIN it is that
- * program; with it, the two functions of script.h. */
+/* Document 01, The script program, with request Three of document 02. Built
+ * without SCRIPT_NO_MAIN it is that program; with it, the two functions of
+ * script.h. */
 #include "ref_spi.h"
 #include "script.h"
 
@@ -38,10 +39,22 @@ static char sdo_letter(const struct ref_spi *m)
     return level == REF_UNDRIVEN ? 'Z' : (char)('0' + level);
 }
 
+/* The last field of a T or P line, and its end: the SS level of a frame host,
+ * which drives it; no other module has that field. */
+static void print_ss(const struct ref_spi *m, FILE *out)
+{
+    int level = ref_ss(m);
+
+    if (level == REF_UNDRIVEN)
+        fprintf(out, "\n");
+    else
+        fprintf(out, " %d\n", level);
+}
+
 void script_line(struct ref_spi *m, unsigned long number,
                  const unsigned char *s, size_t n, FILE *out)
 {
-    int r = 9; /* stays unless the line has one of the five shapes */
+    int r = 9; /* stays unless the line has one of the six shapes */
 
     fprintf(out, "%lu ", number);
     if (shape(s, n, "W x xxxx") && is_digit(s[2]) && hex(s[4]) >= 0 &&
@@ -56,17 +69,23 @@ void script_line(struct ref_spi *m, unsigned long number,
         r = ref_read(m, (unsigned)(s[2] - '0'), &v);
         if (r == 0)
             fprintf(out, "%04X\n", v);
-    } else if (shape(s, n, "T x") && is_level(s[2])) {
-        r = ref_tick(m, s[2] - '0');
+    } else if ((shape(s, n, "T x") && is_level(s[2])) ||
+               (shape(s, n, "T x x") && is_level(s[2]) && is_level(s[4]))) {
+        /* SS may be left out, and is low then */
+        r = ref_tick(m, s[2] - '0', n == 5 && s[4] == '1');
         if (r == REF_NO_EDGE)
             fprintf(out, "N\n");
-        else if (r == 0)
-            fprintf(out, "%d %c %d\n", ref_sck(m), sdo_letter(m), ref_flag(m));
+        else if (r == 0) {
+            fprintf(out, "%d %c %d", ref_sck(m), sdo_letter(m), ref_flag(m));
+            print_ss(m, out);
+        }
     } else if (shape(s, n, "P x x x") && is_level(s[2]) && is_level(s[4]) &&
                is_level(s[6])) {
         r = ref_pins(m, s[2] - '0', s[4] - '0', s[6] - '0');
-        if (r == 0)
-            fprintf(out, "%c %d\n", sdo_letter(m), ref_flag(m));
+        if (r == 0) {
+            fprintf(out, "%c %d", sdo_letter(m), ref_flag(m));
+            print_ss(m, out);
+        }
     } else if (shape(s, n, "C")) {
         ref_clear(m);
         r = 0;

@@ -18,7 +18,7 @@ int concerned(const struct call *c)
 
 int is_given(uint32_t number)
 {
-    return number >= 1 && number < REFUSALS && number != 4 &&
+    return number >= 1 && number < REFUSALS && number != 4 && number != 12 &&
            number != THURAFEQA_UNREADABLE_LINE;
 }
 
@@ -27,8 +27,8 @@ void print_call(const struct call *c)
     printf("module %d: %s", c->module, kind_name[c->kind]);
     switch (c->kind) {
     case READ:
-    case TICK:
     case CLOCK: printf(" %" PRIu32, c->x); break;
+    case TICK: printf(" %" PRIu32 " %" PRIu32, c->x, c->y); break;
     case WRITE: printf(" %" PRIu32 " %04" PRIX32, c->x, c->y); break;
     case PINS:
         printf(" %" PRIu32 " %" PRIu32 " %" PRIu32, c->x, c->y, c->z);
@@ -49,7 +49,7 @@ void ask_library(thurafeqa *m, thurafeqa *other, const struct call *c,
     case POWER_UP: thurafeqa_power_up(m); break;
     case READ: o->answer = thurafeqa_read(m, c->x); break;
     case WRITE: o->answer = thurafeqa_write(m, c->x, c->y); break;
-    case TICK: o->answer = thurafeqa_tick(m, c->x); break;
+    case TICK: o->answer = thurafeqa_tick(m, c->x, c->y); break;
     case PINS: o->answer = thurafeqa_pins(m, c->x, c->y, c->z); break;
     case CLEAR: thurafeqa_clear(m); break;
     case LINKED: o->answer = thurafeqa_linked(m, other, c->x); break;

@@ -19,8 +19,8 @@ struct call {
 /* How many modules a call is made on. */
 int concerned(const struct call *c);
 
-/* Refusal numbers are below this. Does any call give that one? Not 4, which 12
- * to 15 have replaced, and not 9, which is of scripts. */
+/* Refusal numbers are below this. Does any call give that one? Not 4 and 12,
+ * which are gone, and not 9, which is of scripts. */
 #define REFUSALS 16
 int is_given(uint32_t number);
 

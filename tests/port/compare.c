@@ -1,7 +1,7 @@
 /* The exported library beside the second model (tests/model): random calls go
  * to both, and after every call the answers, the registers STAT, CON1 and CON2,
  * the levels and the interrupt flags must agree. No answer may carry a refusal
- * number that calls do not give, such as 4.
+ * number that calls do not give, such as 4 or 12.
  *
  * usage: compare CALLS SEED
  *
@@ -60,6 +60,10 @@ static uint32_t model_levels(const struct ref_spi *m)
         levels |= THURAFEQA_LEVELS_DRIVEN;
     if (ref_sdo(m) == 1)
         levels |= THURAFEQA_LEVELS_SDO;
+    if (ref_ss(m) != REF_UNDRIVEN)
+        levels |= THURAFEQA_LEVELS_SS_DRIVEN;
+    if (ref_ss(m) == 1)
+        levels |= THURAFEQA_LEVELS_SS;
     return levels;
 }
 
@@ -87,7 +91,7 @@ static void ask_model(struct ref_spi *m, struct ref_spi *other,
     case READ: r = ref_read(m, c->x, &value); break;
     case WRITE: r = ref_write(m, c->x, c->y & 0xFFFFu); break;
     case TICK:
-        r = ref_tick(m, c->x != 0);
+        r = ref_tick(m, c->x != 0, c->y != 0);
         value = r == 0;
         break;
     case PINS: r = ref_pins(m, c->x != 0, c->y != 0, c->z != 0); break;
@@ -247,20 +251,24 @@ static void tell(struct call *list, int n, uint64_t noise)
 
 /* ---- what the run has reached ---------------------------------------- */
 
-/* Counted on the model, before and after a call. */
+/* Counted on the model, before and after a call. In a framed module SSEN has no
+ * effect, so such a client is one without it. */
 enum role { OWN_CLOCK, DISSCK_HOST, CLIENT, SSEN_CLIENT, ROLES };
 static const char *const role_name[ROLES] = {
     "host, its own clock", "host under DISSCK", "client", "client under SSEN"};
 
 /* The mistakes for which enabling is refused, in the order of their numbers. */
-enum mistake { FRAMED, UNDIVIDED, LATE_SAMPLING, UNSELECTED_CKE, MISTAKES };
-#define NUMBER_OF(mistake) ((int)THURAFEQA_FRAMED + (int)(mistake))
+enum mistake { UNDIVIDED, LATE_SAMPLING, UNSELECTED_CKE, MISTAKES };
+#define NUMBER_OF(mistake) ((int)THURAFEQA_UNDIVIDED + (int)(mistake))
 
 static struct {
     unsigned long kinds[KINDS];
     unsigned long refused[REFUSALS];
-    /* enabling refused for one mistake; for two, the lower first */
-    unsigned long single[MISTAKES], pair[MISTAKES][MISTAKES], three;
+    /* enabling refused for one mistake, of these the framed modules; for two,
+     * the lower first */
+    unsigned long single[MISTAKES], framed[MISTAKES], pair[MISTAKES][MISTAKES];
+    /* framed modules enabled, by role; those that 15 would refuse unframed */
+    unsigned long framed_on[ROLES], framed_cke;
     /* both prescalers 1:1: enabled, by role; refused for CKE without SSEN */
     unsigned long undivided[ROLES], undivided_cke;
     unsigned long raised[9]; /* the flag, by SISEL; the last one: standard */
@@ -268,13 +276,37 @@ static struct {
     unsigned long edge, no_edge, linked_edges, clock[3];
     /* finished words: enhanced, role, 16 bits, CKE, CKP */
     unsigned long words[2][ROLES][2][2][2];
+    /* those of framed modules: role, frame client, 16 bits, FRMDLY, FRMPOL;
+     * where CKE 1, where SSEN 1 has no effect, with CKP 1, enhanced */
+    unsigned long framed_words[SSEN_CLIENT][2][2][2][2];
+    unsigned long framed_by[4];
+    /* pulses given: FRMDLY 0 between words, on a last bit; FRMDLY 1 */
+    unsigned long pulse_between, pulse_last_bit, pulse_with;
+    /* sampled: between words, at the last edge of a word; and SS then gone */
+    unsigned long sampled_between, sampled_last_edge, sampled_gone;
+    /* a pulse given or sampled that is lost by disabling */
+    unsigned long given_lost, sampled_lost;
+    /* framed fillers, by role; clock edges with neither word nor pulse */
+    unsigned long framed_filler[SSEN_CLIENT], clock_alone;
+    /* linked runs refused as the host, the client, or both are framed */
+    unsigned long linked_framed[3];
 } reached;
 
 static enum role role_of(const struct ref_spi *m)
 {
     if (m->msten)
         return m->dissck ? DISSCK_HOST : OWN_CLOCK;
-    return m->ssen ? SSEN_CLIENT : CLIENT;
+    return m->ssen && !m->frmen ? SSEN_CLIENT : CLIENT;
+}
+
+static int is_frame_host(const struct ref_spi *m)
+{
+    return m->frmen && !m->spifsd;
+}
+
+static int is_frame_client(const struct ref_spi *m)
+{
+    return m->frmen && m->spifsd;
 }
 
 static int is_undivided(const struct ref_spi *m)
@@ -285,10 +317,9 @@ static int is_undivided(const struct ref_spi *m)
 /* Which mistakes a module's settings hold. */
 static void find_mistakes(const struct ref_spi *m, int found[MISTAKES])
 {
-    found[FRAMED] = m->frmen;
     found[UNDIVIDED] = role_of(m) == OWN_CLOCK && is_undivided(m);
     found[LATE_SAMPLING] = m->smp;
-    found[UNSELECTED_CKE] = role_of(m) == CLIENT && m->cke;
+    found[UNSELECTED_CKE] = role_of(m) == CLIENT && m->cke && !m->frmen;
 }
 
 /* 13 is a host's and 15 a client's, so the two cannot meet. */
@@ -309,13 +340,18 @@ static void count_enabling(const struct ref_spi *m, uint32_t number)
     for (a = 0; a < MISTAKES; a++) {
         if (n == 1 && found[a])
             reached.single[a]++;
+        if (n == 1 && found[a] && m->frmen)
+            reached.framed[a]++;
         for (b = a + 1; b < MISTAKES; b++) {
             if (n == 2 && found[a] && found[b])
                 reached.pair[a][b]++;
         }
     }
-    if (n == 3)
-        reached.three++;
+    if (m->frmen && number == 0) {
+        reached.framed_on[m->ssen && !m->msten ? SSEN_CLIENT : role_of(m)]++;
+        if (!m->msten && m->cke && !m->ssen)
+            reached.framed_cke++;
+    }
     if (is_undivided(m) && number == 0)
         reached.undivided[role_of(m)]++;
     if (is_undivided(m) && number == THURAFEQA_UNSELECTED_CKE)
@@ -334,7 +370,48 @@ static int is_filler(const struct ref_spi *m)
 
 static void count_words(const struct ref_spi *m, unsigned n)
 {
-    reached.words[m->spiben][role_of(m)][m->mode16][m->cke][m->ckp] += n;
+    if (!m->frmen) {
+        reached.words[m->spiben][role_of(m)][m->mode16][m->cke][m->ckp] += n;
+        return;
+    }
+    reached.framed_words[role_of(m)][m->spifsd][m->mode16][m->frmdly]
+                        [m->frmpol] += n;
+    if (m->cke)
+        reached.framed_by[0] += n;
+    if (m->ssen && !m->msten)
+        reached.framed_by[1] += n;
+    if (m->ckp)
+        reached.framed_by[2] += n;
+    if (m->spiben)
+        reached.framed_by[3] += n;
+}
+
+/* The edge of a framed module, a clock's level having changed. */
+static void count_framed(const struct ref_spi *before,
+                         const struct ref_spi *after)
+{
+    if (before->sck == after->sck) {
+        if (is_frame_client(before) && before->pulse &&
+            after->ss != after->frmpol)
+            reached.sampled_gone++;
+        return;
+    }
+    if (!before->begun && !after->begun && !before->pulse && !after->pulse)
+        reached.clock_alone++;
+    if (!is_filler(before) && is_filler(after))
+        reached.framed_filler[role_of(after)]++;
+    if (before->pulse || !after->pulse)
+        return;
+    if (is_frame_client(after) && before->begun)
+        reached.sampled_last_edge++;
+    else if (is_frame_client(after))
+        reached.sampled_between++;
+    else if (after->frmdly)
+        reached.pulse_with++;
+    else if (before->begun)
+        reached.pulse_last_bit++;
+    else
+        reached.pulse_between++;
 }
 
 /* A module that a call has left with `after`. */
@@ -347,6 +424,12 @@ static void count_module(const struct ref_spi *before,
         reached.overflow++;
     if (!is_filler(before) && is_filler(after))
         reached.filler++;
+    if (before->spien && !after->spien && before->pulse) {
+        if (is_frame_host(before))
+            reached.given_lost++;
+        if (is_frame_client(before))
+            reached.sampled_lost++;
+    }
 }
 
 /* A tick or a pin call that was not refused. Select is looked at first, so a
@@ -362,6 +445,20 @@ static void count_edge(const struct ref_spi *before,
         reached.aborted_word++;
     if (!abort && before->edges == word_edges(before) - 1 && !after->begun)
         count_words(before, 1);
+    if (before->frmen)
+        count_framed(before, after);
+}
+
+/* A linked run refused with 7: are both ends in their roles, and framed? */
+static void count_unlinked(const struct ref_spi *host,
+                           const struct ref_spi *client)
+{
+    if (role_of(host) != OWN_CLOCK || client->msten)
+        return;
+    if (host->frmen && client->frmen)
+        reached.linked_framed[2]++;
+    else
+        reached.linked_framed[client->frmen]++;
 }
 
 static void count(const struct call *c, const struct outcome *o,
@@ -378,6 +475,8 @@ static void count(const struct call *c, const struct outcome *o,
     if (c->kind == WRITE && c->x == THURAFEQA_STAT && !before[0].spien &&
         (c->y & THURAFEQA_STAT_SPIEN))
         count_enabling(&before[0], number);
+    if (c->kind == LINKED && number == THURAFEQA_WRONG_CLOCK)
+        count_unlinked(m, &pool[c->other]);
     if (number != 0) {
         reached.refused[number]++;
         return;
@@ -438,6 +537,52 @@ static void print_words(enum role role, int mode16, int spiben)
     printf("\n");
 }
 
+/* One line of words that framed modules finished, by FRMDLY and FRMPOL. */
+static void print_framed_words(enum role role, int spifsd, int mode16)
+{
+    int i;
+
+    printf("  %-19s frame %-6s %2d bits", role_name[role],
+           spifsd ? "client" : "host", mode16 ? 16 : 8);
+    for (i = 0; i < 4; i++) {
+        unsigned long n =
+            reached.framed_words[role][spifsd][mode16][i / 2][i % 2];
+        printf(" %9lu", n);
+        if (n == 0)
+            not_reached++;
+    }
+    printf("\n");
+}
+
+static void print_framed(void)
+{
+    int i;
+
+    printf("\npulses given:");
+    print_count("FRMDLY 0, between words", reached.pulse_between);
+    print_count("on a last bit", reached.pulse_last_bit);
+    print_count("FRMDLY 1", reached.pulse_with);
+    print_count("lost by disabling", reached.given_lost);
+    printf("\npulses sampled:");
+    print_count("between words", reached.sampled_between);
+    print_count("at a last edge", reached.sampled_last_edge);
+    print_count("kept as SS goes", reached.sampled_gone);
+    print_count("lost by disabling", reached.sampled_lost);
+    printf("\nframed fillers:");
+    for (i = 0; i < SSEN_CLIENT; i++)
+        print_count(role_name[i], reached.framed_filler[i]);
+    printf("\nframed:");
+    print_count("clock edges alone", reached.clock_alone);
+    print_count("words with CKE 1", reached.framed_by[0]);
+    print_count("SSEN 1", reached.framed_by[1]);
+    print_count("CKP 1", reached.framed_by[2]);
+    print_count("SPIBEN 1", reached.framed_by[3]);
+    printf("\nlinked runs refused as framed:");
+    print_count("host", reached.linked_framed[0]);
+    print_count("client", reached.linked_framed[1]);
+    print_count("both", reached.linked_framed[2]);
+}
+
 /* What enabling was refused for, and what it was not. */
 static void print_enabling(void)
 {
@@ -446,6 +591,9 @@ static void print_enabling(void)
     printf("\nenabling, one mistake:");
     for (a = 0; a < MISTAKES; a++)
         print_numbered("", NUMBER_OF(a), reached.single[a]);
+    printf(" of these framed:");
+    for (a = 0; a < UNSELECTED_CKE; a++)
+        print_numbered("", NUMBER_OF(a), reached.framed[a]);
     printf("\nenabling, more:");
     for (a = 0; a < MISTAKES; a++) {
         for (b = a + 1; b < MISTAKES; b++) {
@@ -455,7 +603,10 @@ static void print_enabling(void)
             print_numbered("", NUMBER_OF(b), reached.pair[a][b]);
         }
     }
-    print_count("three", reached.three);
+    printf("\nframed and enabled:");
+    for (a = 0; a < ROLES; a++)
+        print_count(role_name[a], reached.framed_on[a]);
+    print_count("client with CKE, no SSEN", reached.framed_cke);
     printf("\nboth prescalers 1:1:");
     for (a = 0; a < ROLES; a++) {
         if (a == OWN_CLOCK)
@@ -478,6 +629,8 @@ static void print_reached(void)
         if (is_given((uint32_t)i))
             print_numbered("", i, reached.refused[i]);
     }
+    printf("\nnever given: 4: %lu 12: %lu", reached.refused[4],
+           reached.refused[12]);
     print_enabling();
     printf("\nflag raised:");
     print_count("standard", reached.raised[8]);
@@ -496,10 +649,15 @@ static void print_reached(void)
     print_count("none", reached.clock[THURAFEQA_CLOCK_NONE]);
     print_count("internal", reached.clock[THURAFEQA_CLOCK_INTERNAL]);
     print_count("external", reached.clock[THURAFEQA_CLOCK_EXTERNAL]);
+    print_framed();
     printf("\n%-40s %9s %9s %9s %9s\n", "words finished, by CKE and CKP:",
            "0 0", "0 1", "1 0", "1 1");
     for (i = 0; i < 4 * ROLES; i++)
         print_words((enum role)(i / 4), i / 2 % 2, i % 2);
+    printf("%-42s %9s %9s %9s %9s\n", "framed ones, by FRMDLY and FRMPOL:",
+           "0 0", "0 1", "1 0", "1 1");
+    for (i = 0; i < 4 * SSEN_CLIENT; i++)
+        print_framed_words((enum role)(i / 4), i / 2 % 2, i % 2);
 }
 
 /* ---- the run --------------------------------------------------------- */
@@ -563,7 +721,11 @@ static void write_register(int i, uint32_t n, uint32_t value)
 }
 
 static uint32_t any_level(void) { return some_level((int)below(2)); }
-static void tick(int i) { make(TICK, i, i, any_level(), 0, 0); }
+
+static void tick(int i, int ss)
+{
+    make(TICK, i, i, any_level(), some_level(ss), 0);
+}
 
 static void pins(int i, int sck, int ss)
 {
@@ -605,12 +767,14 @@ static uint32_t some_modes(void)
            (THURAFEQA_CON1_MODE16 | THURAFEQA_CON1_CKE | THURAFEQA_CON1_CKP);
 }
 
-static uint32_t some_con2(void)
+static uint32_t some_con2(int framed)
 {
     uint32_t c = any_number() & 0xFFFFu;
 
-    if (!one_in(40))
+    if (!one_in(40) && !framed)
         c &= ~THURAFEQA_CON2_FRMEN;
+    if (framed)
+        c |= THURAFEQA_CON2_FRMEN;
     if (one_in(3))
         c |= THURAFEQA_CON2_SPIBEN;
     return c;
@@ -637,7 +801,7 @@ static void set_up(int i, uint32_t con1, uint32_t con2)
 static void set_up_mistaken(int i)
 {
     uint32_t con1 = some_con1((enum role)below(ROLES), some_modes());
-    uint32_t con2 = some_con2();
+    uint32_t con2 = some_con2(one_in(3));
 
     con1 &= ~THURAFEQA_CON1_SMP;
     if (one_in(2))
@@ -646,8 +810,6 @@ static void set_up_mistaken(int i)
         con1 |= THURAFEQA_CON1_CKE;
     if (one_in(3))
         con1 |= THURAFEQA_CON1_SMP;
-    if (one_in(3))
-        con2 |= THURAFEQA_CON2_FRMEN;
     set_up(i, con1, con2);
 }
 
@@ -660,7 +822,8 @@ static void set_up_alone(int i)
         if (now.model[i].spien)
             return;
     }
-    set_up(i, some_con1((enum role)below(ROLES), some_modes()), some_con2());
+    set_up(i, some_con1((enum role)below(ROLES), some_modes()),
+           some_con2(one_in(3)));
 }
 
 /* Partners that can be linked, but for a mode now and then. */
@@ -674,8 +837,8 @@ static void set_up_partners(int i)
 
     if (one_in(12))
         other ^= some_modes();
-    set_up(host, some_con1(OWN_CLOCK, modes), some_con2());
-    set_up(host ^ 1, some_con1(role, other), some_con2());
+    set_up(host, some_con1(OWN_CLOCK, modes), some_con2(one_in(20)));
+    set_up(host ^ 1, some_con1(role, other), some_con2(one_in(20)));
 }
 
 /* ---- random acts on an enabled module -------------------------------- */
@@ -711,8 +874,9 @@ static void read_words(int i)
 }
 
 /* One edge, or a pin call much like one. An SSEN client is selected soon and
- * deselected seldom. */
-static void give_edge(int i)
+ * deselected seldom. A frame client sees a pulse in every second to eighth
+ * call. */
+static void give_edge(int i, uint32_t apart)
 {
     const struct ref_spi *m = &now.model[i];
     int sck = one_in(32) ? (int)below(2) : !m->sck;
@@ -720,29 +884,42 @@ static void give_edge(int i)
 
     if (role_of(m) == SSEN_CLIENT)
         ss = m->ss ? one_in(8) : one_in(150);
+    if (is_frame_client(m))
+        ss = one_in(apart) ? m->frmpol : !m->frmpol;
     if (role_of(m) == OWN_CLOCK)
-        tick(i);
+        tick(i, ss);
     else
         pins(i, sck, ss);
+}
+
+/* The edges to the end of the word that is under way or comes next. */
+static int edges_left(const struct ref_spi *m)
+{
+    int n = word_edges(m) - m->edges;
+
+    if (m->frmen && !m->begun)
+        n += 2 + (m->sck != m->ckp);
+    return n;
 }
 
 static void give_edges(int i)
 {
     const struct ref_spi *m = &now.model[i];
     int word = word_edges(m);
+    uint32_t apart = 2 + below(7);
     int n;
 
-    if (m->msten && !m->loaded && one_in(2))
+    if ((m->msten || m->frmen) && !m->loaded && one_in(2))
         write_register(i, THURAFEQA_BUF, some_word());
     switch (below(8)) {
     case 0: case 1: n = 1 + (int)below(3); break;
     case 2: n = (int)below((uint32_t)word); break;
     case 3: n = word * (1 + (int)below(9)); break;
-    default: n = word - m->edges; break; /* to the end of the word */
+    default: n = edges_left(m); break;
     }
     while (n-- > 0) {
-        give_edge(i);
-        if (role_of(m) == OWN_CLOCK && !m->loaded && !one_in(4))
+        give_edge(i, apart);
+        if (role_of(m) == OWN_CLOCK && !m->loaded && !m->frmen && !one_in(4))
             return;
     }
 }
@@ -801,7 +978,7 @@ static void do_anything(int i)
     case 0: clock_report(i, some_rate(&now.model[i])); break;
     case 1: read_register(i, some_register()); break;
     case 2: write_register(i, some_register(), any_number()); break;
-    case 3: tick(i); break;
+    case 3: tick(i, (int)below(2)); break;
     case 4: pins(i, (int)below(2), (int)below(2)); break;
     case 5: clear(i); break;
     case 6: write_setting(i); break;

@@ -131,20 +131,25 @@ static int guarded(const struct place *p)
 /* An enabled module as calls make it, with some words under way. */
 static void make_real(thurafeqa *m, uint32_t con1)
 {
+    uint32_t con2 = any_number();
     uint32_t n;
 
     con1 &= ~(THURAFEQA_CON1_SMP | 1u); /* the primary prescaler is not 1:1 */
     if (!(con1 & THURAFEQA_CON1_MSTEN) && (con1 & THURAFEQA_CON1_CKE))
         con1 |= THURAFEQA_CON1_SSEN;
+    if (!one_in(3))
+        con2 &= ~THURAFEQA_CON2_FRMEN;
     thurafeqa_power_up(m);
     thurafeqa_write(m, THURAFEQA_CON1, con1);
-    thurafeqa_write(m, THURAFEQA_CON2, any_number() & ~THURAFEQA_CON2_FRMEN);
+    thurafeqa_write(m, THURAFEQA_CON2, con2);
     thurafeqa_write(m, THURAFEQA_STAT, any_number() | THURAFEQA_STAT_SPIEN);
     for (n = below(10); n > 0; n--)
         thurafeqa_write(m, THURAFEQA_BUF, any_number());
     for (n = below(80); n > 0; n--) {
-        thurafeqa_tick(m, below(2));
-        thurafeqa_pins(m, n % 2, below(2), 0);
+        uint32_t ss = con2 & THURAFEQA_CON2_FRMEN ? below(2) : 0;
+
+        thurafeqa_tick(m, below(2), ss);
+        thurafeqa_pins(m, n % 2, below(2), ss);
     }
 }
 
@@ -216,6 +221,16 @@ static int own_clock(const uint32_t *seen)
            THURAFEQA_CON1_MSTEN;
 }
 
+static int framed(const uint32_t *seen)
+{
+    return (seen[CON2] & THURAFEQA_CON2_FRMEN) != 0;
+}
+
+static int frame_host(const uint32_t *seen)
+{
+    return framed(seen) && !(seen[CON2] & THURAFEQA_CON2_SPIFSD);
+}
+
 static int receive_empty(const uint32_t *seen)
 {
     if (seen[CON2] & THURAFEQA_CON2_SPIBEN)
@@ -239,11 +254,10 @@ static int enabling(const struct call *c, const uint32_t *seen)
 /* The first mistake in the settings, the prescalers left out. */
 static uint32_t enabling_refusal(const uint32_t *seen)
 {
-    if (seen[CON2] & THURAFEQA_CON2_FRMEN)
-        return THURAFEQA_FRAMED;
     if (seen[CON1] & THURAFEQA_CON1_SMP)
         return THURAFEQA_LATE_SAMPLING;
-    if ((seen[CON1] & (THURAFEQA_CON1_MSTEN | THURAFEQA_CON1_CKE |
+    if (!framed(seen) &&
+        (seen[CON1] & (THURAFEQA_CON1_MSTEN | THURAFEQA_CON1_CKE |
                        THURAFEQA_CON1_SSEN)) == THURAFEQA_CON1_CKE)
         return THURAFEQA_UNSELECTED_CKE;
     return 0;
@@ -273,7 +287,8 @@ static uint32_t linked_refusal(const struct call *c, const uint32_t *host,
         return THURAFEQA_TOO_MANY_EDGES;
     if (!enabled(host) || !enabled(client))
         return THURAFEQA_DISABLED;
-    if (!own_clock(host) || (client[CON1] & THURAFEQA_CON1_MSTEN))
+    if (!own_clock(host) || (client[CON1] & THURAFEQA_CON1_MSTEN) ||
+        framed(host) || framed(client))
         return THURAFEQA_WRONG_CLOCK;
     if ((host[CON1] ^ client[CON1]) &
         (THURAFEQA_CON1_MODE16 | THURAFEQA_CON1_CKE | THURAFEQA_CON1_CKP))
@@ -301,11 +316,10 @@ static uint32_t table_refusal(const struct call *c,
 
 /* Memory made otherwise may hold prescaler numbers of which the register shows
  * only some bits. So a host that shows both as 1:1 may be refused with 13, or
- * be answered as if they were not; with FRMEN 12 comes before either. */
+ * be answered as if they were not. */
 static int may_be_undivided(const struct call *c, uint32_t seen[2][VIEWS])
 {
-    return enabling(c, seen[0]) && undivided(seen[0]) &&
-           enabling_refusal(seen[0]) != THURAFEQA_FRAMED;
+    return enabling(c, seen[0]) && undivided(seen[0]);
 }
 
 /* ---- legal shapes ---------------------------------------------------- */
@@ -315,12 +329,18 @@ static void hold_views(const uint32_t *seen)
     hold((seen[STAT] & ~0xA7FFu) == 0, "STAT shows bits that it has not");
     hold((seen[CON1] & ~0x1FFFu) == 0, "CON1 shows bits that it has not");
     hold((seen[CON2] & ~0xE003u) == 0, "CON2 shows bits that it has not");
-    hold((seen[LEVELS] & ~15u) == 0, "levels show bits that they have not");
+    hold((seen[LEVELS] & ~63u) == 0, "levels show bits that they have not");
     hold((seen[LEVELS] & THURAFEQA_LEVELS_DRIVEN) ||
              !(seen[LEVELS] & THURAFEQA_LEVELS_SDO),
          "an undriven SDO has a level");
     hold(enabled(seen) || !(seen[LEVELS] & THURAFEQA_LEVELS_DRIVEN),
          "SDO is driven by a disabled module");
+    hold((seen[LEVELS] & THURAFEQA_LEVELS_SS_DRIVEN) ||
+             !(seen[LEVELS] & THURAFEQA_LEVELS_SS),
+         "an undriven SS has a level");
+    hold(!(seen[LEVELS] & THURAFEQA_LEVELS_SS_DRIVEN) ==
+             !(enabled(seen) && frame_host(seen)),
+         "SS is driven, or is not, against the settings");
 }
 
 static void hold_report(const struct call *c, const struct outcome *o,
@@ -365,6 +385,8 @@ static void hold_answer(const struct call *c, const struct outcome *o,
         hold_report(c, o, seen[0]);
     if (number != 0)
         hold(value == 0, "a refused call tells a value");
+    else if (c->kind == TICK && framed(seen[0]))
+        hold(value == 1, "a framed host's tick made no edge");
     else if (c->kind == TICK)
         hold(value <= 1, "a tick made more than one edge");
     else if (c->kind == LINKED)

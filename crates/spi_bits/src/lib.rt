@@ -28,11 +28,11 @@ pub fn low_bits(s: Settings, v: u16) -> u16
     ((v as u32) % (1u32 << w)) as u16
 }
 
-// Whether an edge samples SDI; any other edge changes SDO.
-pub fn is_sampling(s: Settings, edge: u16) -> bool
-    ensures { λ r. ⌜ r ≡ samples (s .con1 .cke) edge ⌝ }
+// Whether an edge samples SDI, by CKE as the edge rules see it; any other edge changes SDO.
+pub fn is_sampling(cke: bool, edge: u16) -> bool
+    ensures { λ r. ⌜ r ≡ samples cke edge ⌝ }
 {
-    s.con1.cke == (edge % 2 == 1)
+    cke == (edge % 2 == 1)
 }
 
 // A bit enters behind those received before it.
@@ -46,7 +46,7 @@ pub fn shift_in(received: u16, sdi: bool) -> u16
 pub fn received_after(s: Settings, edge: u16, sdi: bool, received: u16) -> u16
     ensures { λ r. ⌜ r ≡ receivedAfter s edge sdi received ⌝ }
 {
-    if is_sampling(s, edge) {
+    if is_sampling(spi_settings::cke(s), edge) {
         shift_in(received, sdi)
     } else {
         received
@@ -67,7 +67,7 @@ pub fn shown_bit(s: Settings, word: u16, edge: u16) -> bool
 pub fn sdo_after(s: Settings, word: u16, edge: u16, sdo: bool) -> bool
     ensures { λ r. ⌜ r ≡ sdoAfter s word edge sdo ⌝ }
 {
-    if is_sampling(s, edge) {
+    if is_sampling(spi_settings::cke(s), edge) {
         sdo
     } else {
         shown_bit(s, word, edge)

@@ -1,10 +1,10 @@
 -- What the forms of a line say.
 --     fits-at        each byte of a line that has a form fits its place
---     not-write, not-read, not-tick, not-pin, not-clear    a line of another length does not have the form
---     as-write, as-read, as-tick, as-pin, as-clear         a line of the form reads as the form's call
+--     not-write, not-read, not-tick, not-tick-ss, not-pin, not-clear    a line of another length does not have the form
+--     as-write, as-read, as-tick, as-tick-ss, as-pin, as-clear         a line of the form reads as the form's call
 --     unread         a line of none of the forms cannot be read
---     write-tests, read-tests, tick-tests, pin-tests, clear-tests    a line of the form's length has the form if every byte
---                    passes its test
+--     write-tests, read-tests, tick-tests, tick-ss-tests, pin-tests, clear-tests    a line of the form's length has the form
+--                    if every byte passes its test
 -- Assumes nothing.
 use Prim.Native.Nat.{ℕ, zero, suc, _<_}
 use Prim.Native.Char.{code}
@@ -17,7 +17,7 @@ use lib.ListN.{length, getD}
 use Rattle.spi_script_rules.specs.declared.Line.the-variants.{Unreadable, Asked}
 use Rattle.spi_rules.specs.declared.Call.the-variants.{Read, Write, Tick, Pin, Clear}
 use Rattle.spi_rules.specs.Choice.{if_then_else_}
-use Rattle.spi_script_rules.specs.Script.{Place, digit, hexDigit, level, space, fitsPlace, fits, writeForm, readForm, tickForm, pinForm, clearForm, digitValue, fourHexValue, levelValue, at, readingOf}
+use Rattle.spi_script_rules.specs.Script.{Place, digit, hexDigit, level, space, fitsPlace, fits, writeForm, readForm, tickForm, tickSsForm, pinForm, clearForm, digitValue, fourHexValue, levelValue, at, readingOf}
 use Rattle.spi_rules.proofs.Keeps.{clash, and-left, and-right}
 use Rattle.spi_script_rules.proofs.ScriptLines.{not-fits}
 
@@ -43,6 +43,10 @@ module _ (line : List ℕ) where
   unfolding tickForm
   not-tick h = not-fits tickForm line h
 
+  pub not-tick-ss : (length line ≡ 5 → ⊥) → fits tickSsForm line ≡ false
+  unfolding tickSsForm
+  not-tick-ss h = not-fits tickSsForm line h
+
   pub not-pin : (length line ≡ 7 → ⊥) → fits pinForm line ≡ false
   unfolding pinForm
   not-pin h = not-fits pinForm line h
@@ -61,24 +65,37 @@ module _ (line : List ℕ) where
   as-read n e = rw (not-write (λ k. omega arith), e)
 
   pub as-tick : length line ≡ 3 → fits readForm line ≡ false → fits tickForm line ≡ true →
-      readingOf line ≡ Asked (Tick (levelValue (at line 2)))
+      readingOf line ≡ Asked (Tick (levelValue (at line 2)) false)
   unfolding readingOf if_then_else_
   as-tick n r e = rw (not-write (λ k. omega arith), r, e)
+
+  pub as-tick-ss : length line ≡ 5 → fits tickSsForm line ≡ true →
+      readingOf line ≡ Asked (Tick (levelValue (at line 2)) (levelValue (at line 4)))
+  unfolding readingOf if_then_else_
+  as-tick-ss n e = rw (not-write (λ k. omega arith), not-read (λ k. omega arith), not-tick (λ k. omega arith), e)
 
   pub as-pin : length line ≡ 7 → fits pinForm line ≡ true →
       readingOf line ≡ Asked (Pin (levelValue (at line 2)) (levelValue (at line 4)) (levelValue (at line 6)))
   unfolding readingOf if_then_else_
-  as-pin n e = rw (not-write (λ k. omega arith), not-read (λ k. omega arith), not-tick (λ k. omega arith), e)
+  as-pin n e =
+      rw (not-write (λ k. omega arith), not-read (λ k. omega arith), not-tick (λ k. omega arith), not-tick-ss (λ k. omega arith), e)
 
   pub as-clear : length line ≡ 1 → fits clearForm line ≡ true → readingOf line ≡ Asked Clear
   unfolding readingOf if_then_else_
   as-clear n e =
-      rw (not-write (λ k. omega arith), not-read (λ k. omega arith), not-tick (λ k. omega arith), not-pin (λ k. omega arith), e)
+      rw (
+        not-write (λ k. omega arith),
+        not-read (λ k. omega arith),
+        not-tick (λ k. omega arith),
+        not-tick-ss (λ k. omega arith),
+        not-pin (λ k. omega arith),
+        e,
+      )
 
-  pub unread : fits writeForm line ≡ false → fits readForm line ≡ false → fits tickForm line ≡ false → fits pinForm line ≡ false →
-      fits clearForm line ≡ false → readingOf line ≡ Unreadable
+  pub unread : fits writeForm line ≡ false → fits readForm line ≡ false → fits tickForm line ≡ false →
+      fits tickSsForm line ≡ false → fits pinForm line ≡ false → fits clearForm line ≡ false → readingOf line ≡ Unreadable
   unfolding readingOf if_then_else_
-  unread w r t p c = rw (w, r, t, p, c)
+  unread w r t u p c = rw (w, r, t, u, p, c)
 
 -- The last byte's test ends the row.
 and-true : (b : Bool) → (b && true) ≡ b
@@ -98,6 +115,11 @@ read-tests k s n = rw (and-true (fitsPlace digit n))
 pub tick-tests : (k s n : ℕ) → fits tickForm (k ∷ s ∷ n ∷ []) ≡ (eqb k (code "T") && (eqb s space && fitsPlace level n))
 unfolding fits tickForm fitsPlace
 tick-tests k s n = rw (and-true (fitsPlace level n))
+
+pub tick-ss-tests : (k s a t b : ℕ) → fits tickSsForm (k ∷ s ∷ a ∷ t ∷ b ∷ [])
+    ≡ (eqb k (code "T") && (eqb s space && (fitsPlace level a && (eqb t space && fitsPlace level b))))
+unfolding fits tickSsForm fitsPlace
+tick-ss-tests k s a t b = rw (and-true (fitsPlace level b))
 
 pub pin-tests : (k s a t b u c : ℕ) → fits pinForm (k ∷ s ∷ a ∷ t ∷ b ∷ u ∷ c ∷ [])
     ≡ (eqb k (code "P") && (eqb s space && (fitsPlace level a && (eqb t space

@@ -77,7 +77,17 @@ fn three_bytes(k: u8, s: u8, n: u8) -> Line
         return Line::Asked(Call::Read((n - 48) as u32));
     }
     if (k == b'T') & ((s == b' ') & is_level(n)) {
-        return Line::Asked(Call::Tick(n == b'1'));
+        return Line::Asked(Call::Tick(n == b'1', false));
+    }
+    Line::Unreadable
+}
+
+// `T sdi ss`
+fn five_bytes(k: u8, s: u8, a: u8, t: u8, b: u8) -> Line
+    ensures { λ r. ⌜ r ≡ readingOf (k ∷ s ∷ a ∷ t ∷ b ∷ []) ⌝ }
+{
+    if (k == b'T') & ((s == b' ') & (is_level(a) & ((t == b' ') & is_level(b)))) {
+        return Line::Asked(Call::Tick(a == b'1', b == b'1'));
     }
     Line::Unreadable
 }
@@ -122,6 +132,9 @@ pub fn reading(line: &[u8]) -> Line
     }
     if n == 3 {
         return three_bytes(line[0], line[1], line[2]);
+    }
+    if n == 5 {
+        return five_bytes(line[0], line[1], line[2], line[3], line[4]);
     }
     if n == 7 {
         return seven_bytes(

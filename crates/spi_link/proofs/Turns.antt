@@ -14,18 +14,18 @@ use Rattle.spi_rules.specs.declared.Engine.{Engine}
 use Rattle.spi_rules.specs.declared.Module.{Module}
 use Rattle.spi_rules.specs.declared.Outcome.{Outcome}
 use Rattle.spi_rules.specs.declared.Answer.the-variants.{NoEdge, Edge}
-use Rattle.spi_rules.specs.declared.Sdo.the-variants.{Low, High, Undriven}
+use Rattle.spi_rules.specs.declared.Output.the-variants.{Low, High, Undriven}
 use Rattle.spi_link_rules.specs.declared.Run.{Run}
 use Rattle.spi_rules.specs.Choice.{if_then_else_}
-use Rattle.spi_rules.specs.Settings.{ssenClient, ownClock}
+use Rattle.spi_rules.specs.Settings.{framed, clockStops, ssenClient, ownClock}
 use Rattle.spi_rules.specs.Registers.{isFree}
 use Rattle.spi_rules.specs.Select.{deselected}
 use Rattle.spi_rules.specs.Edge.{levels, stepped}
 use Rattle.spi_rules.specs.Calls.{answering, tickOf, performOf, sckOf, undriven, sdoOf}
 use Rattle.spi_link_rules.specs.Link.{levelRead, madeEdge, hostTicked, clientSees, runStops, clientTurn, handedOver, hostTurn, eitherDisabled, wrongRoles}
-use Rattle.spi_rules.proofs.Keeps.{if-true, if-false, clash, and-false, or-left, or-right}
+use Rattle.spi_rules.proofs.Keeps.{if-true, if-false, clash, and-false, and-both, or-left, or-right}
 use Rattle.spi_rules.proofs.Choices.{by-case}
-use Rattle.spi_rules.proofs.CallsWhen.{own-not-client, tick-is, pin-is}
+use Rattle.spi_rules.proofs.CallsWhen.{own-not-client, tick-is, pin-is, told-elsewhere, unframed-told}
 use Rattle.spi_rules.proofs.OrderSelect.{stepped-select}
 use Rattle.spi_module.specs.Answered.{turned}
 use Rattle.spi_module.proofs.Edges.{own-turn}
@@ -38,11 +38,15 @@ on f m = record { settings = m .settings; engine = f (m .settings) (m .engine) }
 pub linkable : (host client : Module) → eitherDisabled (host .settings) (client .settings) ≡ false →
     wrongRoles (host .settings) (client .settings) ≡ false → Linkable host client
 linkable host client enabled roles =
+    let host-role : (not (ownClock (host .settings)) || framed (host .settings)) ≡ false = or-left _ _ roles in
     record {
       hostOn = not-false (host .settings .spien) (or-left _ (not (client .settings .spien)) enabled);
-      own = not-false (ownClock (host .settings)) (or-left _ (client .settings .con1 .msten) roles);
+      own = not-false (ownClock (host .settings)) (or-left _ (framed (host .settings)) host-role);
+      unframed = or-right (not (ownClock (host .settings))) _ host-role;
       clientOn = not-false (client .settings .spien) (or-right (not (host .settings .spien)) _ enabled);
-      isClient = or-right (not (ownClock (host .settings))) _ roles;
+      isClient =
+          or-left _ (framed (client .settings))
+          (or-right (not (ownClock (host .settings)) || framed (host .settings)) _ roles);
     }
 
 -- What the other end reads of an SDO that is not off and not deselected.
@@ -86,7 +90,7 @@ module _ {host client : Module} where
   wired-shown e l =
       subst (λ (m : Module). Wired host m) (shown l ∙ sym e)
       record {
-        linkable = record { hostOn = l .hostOn; own = l .own; clientOn = l .clientOn; isClient = l .isClient };
+        linkable = record { hostOn = l .hostOn; own = l .own; unframed = l .unframed; clientOn = l .clientOn; isClient = l .isClient };
         selected =
             stepped-select (client .settings) false (host .engine .pins .sck) (openLevel host) (client .engine);
       }
@@ -96,7 +100,7 @@ module _ {host client : Module} where
       let l : Linkable host client = w .linkable in
       subst (λ (m : Module). Wired m client) (sym e)
       record {
-        linkable = record { hostOn = l .hostOn; own = l .own; clientOn = l .clientOn; isClient = l .isClient };
+        linkable = record { hostOn = l .hostOn; own = l .own; unframed = l .unframed; clientOn = l .clientOn; isClient = l .isClient };
         selected = w .selected;
       }
 
@@ -120,7 +124,8 @@ module _ {host client : Module} {left : ℕ} {z : Run} (some : left ≡ 0 → �
       goes host client left some (record { answer = NoEdge; after = host })
       (if-false (not (host .settings .spien)) _ _ (ap not (l .hostOn))
       ∙ if-false (not (ownClock (host .settings))) _ _ (ap not (l .own))
-      ∙ if-true (isFree (host .engine .shift)) _ _ free)
+      ∙ if-true (clockStops (host .settings) && isFree (host .engine .shift)) _ _
+      (and-both (clockStops (host .settings)) _ (ap not (l .unframed)) free))
       h
 
   pub hands-over : {to : Module} → Wired host client → isFree (host .engine .shift) ≡ false →
@@ -132,8 +137,10 @@ module _ {host client : Module} {left : ℕ} {z : Run} (some : left ≡ 0 → �
       let s : Settings = host .settings in
       let sdi : Bool = levelRead (sdoOf client) in
       goes host client left some (record { answer = Edge; after = to })
-      (tick-is host sdi (l .hostOn) (l .own) busy
+      (tick-is host sdi false (l .hostOn) (l .own) (and-false (clockStops s) _ busy)
       ∙ ap (λ (x : Engine). record { answer = Edge; after = record { settings = s; engine = x } })
-      (sym (ap (λ (x : Bool). turned s x (host .engine)) (client-level w) ∙ own-turn s sdi (host .engine) (l .own)))
+      (ap (λ (ss : Bool). stepped s (levels (not (host .engine .pins .sck)) sdi ss) (host .engine))
+      (told-elsewhere host false (unframed-told s (l .unframed)))
+      ∙ sym (ap (λ (x : Bool). turned s x (host .engine)) (client-level w) ∙ own-turn s sdi (host .engine) (l .own)))
       ∙ ap (λ (m : Module). record { answer = Edge; after = m }) (sym e))
       h

@@ -8,17 +8,18 @@ use Rattle.spi_link_rules.specs.declared.Run.{Run}
 use Rattle.spi_link_rules.specs.declared.LinkAnswer.{LinkAnswer}
 use Rattle.spi_link_rules.specs.declared.LinkAnswer.the-variants.{Refused, Used}
 use Rattle.spi_link_rules.specs.declared.Linked.{Linked}
-use Rattle.spi_rules.specs.Settings.{ownClock}
+use Rattle.spi_rules.specs.Settings.{framed, ownClock}
 use Rattle.spi_memory.specs.Memory.{moduleIn}
 
 -- The level of an SDO that is driven unless DISSDO is set.
 unfoldable pub openLevel : Module → Bool
 openLevel m = not (m .settings .con1 .dissdo) && m .engine .pins .sdo
 
--- Both ends as a linked run needs them: a host with its own clock and a client, both enabled.
+-- Both ends as a linked run needs them: an unframed host with its own clock and a client, both enabled.
 pub record Linkable (host client : Module) : Type 0 where
   pub hostOn : host .settings .spien ≡ true
   pub own : ownClock (host .settings) ≡ true
+  pub unframed : framed (host .settings) ≡ false
   pub clientOn : client .settings .spien ≡ true
   pub isClient : client .settings .con1 .msten ≡ false
 

@@ -1,5 +1,5 @@
-// Two modules in memory on one wire: a linked run of a host with its own clock and a client, turn by turn. Any numbers and
-// any limit are answered, and a refused run leaves every number as it was.
+// Two modules in memory on one wire: a linked run of a host with its own clock and a client, both unframed, turn by turn. Any
+// numbers and any limit are answered, and a refused run leaves every number as it was.
 use spi_link_rules::LinkAnswer;
 use spi_link_rules::LinkSaid;
 use spi_rules::Refusal;
@@ -67,11 +67,12 @@ fn either_disabled(host: Settings, client: Settings) -> bool
     !host.spien | !client.spien
 }
 
-// Whether the host has no clock of its own, or the client is no client.
+// Whether the host has no clock of its own, the client is no client, or either is framed.
 fn wrong_roles(host: Settings, client: Settings) -> bool
     ensures { λ r. ⌜ r ≡ wrongRoles host client ⌝ }
 {
-    !spi_settings::own_clock(host) | client.con1.msten
+    (!spi_settings::own_clock(host) | spi_settings::is_framed(host))
+        | (client.con1.msten | spi_settings::is_framed(client))
 }
 
 // Whether the modules differ in CKP, CKE or width.

@@ -1,5 +1,5 @@
-// Linked runs, run on the proved call: a pair in each clock mode and width moves a full buffer each way, and the limits 288
-// and 289. A line for a run is the mode (CKP, CKE, width), then the edges used or `E` and the refusal number; the lines
+// Linked runs, run on the proved call: a pair in each clock mode and width moves a full buffer each way, the limits 288 and
+// 289, and framed ends. A line for a run is the mode (CKP, CKE, width), then the edges used or `E` and the refusal number; the lines
 // under it are the words that the host and the client then read.
 use libc::STDOUT_FILENO;
 use spi_rules::Answer;
@@ -31,13 +31,23 @@ fn print_read(a: Answer) {
     }
 }
 
-// A module in enhanced operation with these CON1 bits, enabled.
-fn enabled(con1: u16) -> Module {
+// A module with these CON1 and CON2 bits, enabled.
+fn configured(con1: u16, con2: u16) -> Module {
     let m = spi_values::power_up();
     let named = spi_values::write(m, 1, con1);
-    let deep = spi_values::write(named.after, 2, 0x0001);
+    let deep = spi_values::write(named.after, 2, con2);
     let on = spi_values::write(deep.after, 0, 0x8000);
     on.after
+}
+
+// A module in enhanced operation with these CON1 bits.
+fn enabled(con1: u16) -> Module {
+    configured(con1, 0x0001)
+}
+
+// The same as a frame host.
+fn framed(con1: u16) -> Module {
+    configured(con1, 0x8001)
 }
 
 // The module with eight words written, the first `first` and each later one `step` more.
@@ -64,11 +74,11 @@ fn print_reads(m: Module) {
     print(b"\n");
 }
 
-// A linked run of a full pair with these CON1 values and this limit: its line, and what both ends then read.
-fn pair(mode: &[u8], host_con1: u16, client_con1: u16, limit: u32) {
-    let host = filled(enabled(host_con1), 0xA5C3, 0x1111);
-    let client = filled(enabled(client_con1), 0x3C5A, 0x0F0F);
-    let run = spi_values::linked(host, client, limit);
+// A linked run of these two, both filled, with this limit: its line, and what both ends then read.
+fn pair(mode: &[u8], host: Module, client: Module, limit: u32) {
+    let full_host = filled(host, 0xA5C3, 0x1111);
+    let full_client = filled(client, 0x3C5A, 0x0F0F);
+    let run = spi_values::linked(full_host, full_client, limit);
     let answer = run.answer;
     let said = spi_link::link_said(answer);
     print(mode);
@@ -87,14 +97,16 @@ fn pair(mode: &[u8], host_con1: u16, client_con1: u16, limit: u32) {
 }
 
 fn main() {
-    pair(b"CKP 0 CKE 0 w  8:", 0x0020, 0x0080, 288);
-    pair(b"CKP 0 CKE 1 w  8:", 0x0120, 0x0180, 288);
-    pair(b"CKP 1 CKE 0 w  8:", 0x0060, 0x00C0, 288);
-    pair(b"CKP 1 CKE 1 w  8:", 0x0160, 0x01C0, 288);
-    pair(b"CKP 0 CKE 0 w 16:", 0x0420, 0x0480, 288);
-    pair(b"CKP 0 CKE 1 w 16:", 0x0520, 0x0580, 288);
-    pair(b"CKP 1 CKE 0 w 16:", 0x0460, 0x04C0, 288);
-    pair(b"CKP 1 CKE 1 w 16:", 0x0560, 0x05C0, 288);
-    pair(b"CKP 0 CKE 0 w 16:", 0x0420, 0x0480, 289);
-    pair(b"CKP 0 CKE 0 w 16:", 0x0420, 0x0480, 32);
+    pair(b"CKP 0 CKE 0 w  8:", enabled(0x0020), enabled(0x0080), 288);
+    pair(b"CKP 0 CKE 1 w  8:", enabled(0x0120), enabled(0x0180), 288);
+    pair(b"CKP 1 CKE 0 w  8:", enabled(0x0060), enabled(0x00C0), 288);
+    pair(b"CKP 1 CKE 1 w  8:", enabled(0x0160), enabled(0x01C0), 288);
+    pair(b"CKP 0 CKE 0 w 16:", enabled(0x0420), enabled(0x0480), 288);
+    pair(b"CKP 0 CKE 1 w 16:", enabled(0x0520), enabled(0x0580), 288);
+    pair(b"CKP 1 CKE 0 w 16:", enabled(0x0460), enabled(0x04C0), 288);
+    pair(b"CKP 1 CKE 1 w 16:", enabled(0x0560), enabled(0x05C0), 288);
+    pair(b"CKP 0 CKE 0 w 16:", enabled(0x0420), enabled(0x0480), 289);
+    pair(b"CKP 0 CKE 0 w 16:", enabled(0x0420), enabled(0x0480), 32);
+    pair(b"framed host:", framed(0x0420), enabled(0x0480), 288);
+    pair(b"framed client:", enabled(0x0420), framed(0x0480), 288);
 }

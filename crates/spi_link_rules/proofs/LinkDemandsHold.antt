@@ -10,7 +10,7 @@ use lib.Dec.{lit≤}
 use Rattle.spi_rules.specs.declared.Module.{Module}
 use Rattle.spi_rules.specs.declared.Call.{Call}
 use Rattle.spi_rules.specs.declared.Refusal.{Refusal}
-use Rattle.spi_rules.specs.declared.Refusal.the-variants.{NoSuchRegister, Disabled, Enabled, TransmitFull, ReceiveEmpty, WrongClock, NoRate, UnreadableLine, DifferentModes, TooManyEdges, Framed, Undivided, LateSampling, UnselectedCke}
+use Rattle.spi_rules.specs.declared.Refusal.the-variants.{NoSuchRegister, Disabled, Enabled, TransmitFull, ReceiveEmpty, WrongClock, NoRate, UnreadableLine, DifferentModes, TooManyEdges, Undivided, LateSampling, UnselectedCke}
 use Rattle.spi_link_rules.specs.declared.LinkAnswer.{LinkAnswer}
 use Rattle.spi_link_rules.specs.declared.LinkAnswer.the-variants as linked
 use Rattle.spi_rules.specs.Refusals.{numberOf}
@@ -40,7 +40,6 @@ numbered NoRate = lit≤ tt
 numbered UnreadableLine = lit≤ tt
 numbered DifferentModes = lit≤ tt
 numbered TooManyEdges = lit≤ tt
-numbered Framed = lit≤ tt
 numbered Undivided = lit≤ tt
 numbered LateSampling = lit≤ tt
 numbered UnselectedCke = lit≤ tt
@@ -95,10 +94,10 @@ linked-runs =
           let used = made host client limit e in
           let on = host-on host client limit (link-when host client limit _ used .0) in
           let held : owed (life b cs) ≡ _ = owed-is-held (life b cs) (life-holds b cs .tied on) in
-          let all = link-uses-owed host client limit _ (life-holds b cs .holds) used (subst (λ (k : ℕ). k ≤ limit) held most) in
+          let all = link-uses-owed host client limit _ (life-holds b cs .holds .holds) used (subst (λ (k : ℕ). k ≤ limit) held most) in
           (all .0 ∙ sym held, all .1);
       mostOwed = λ b cs on.
           subst (λ (k : ℕ). k ≤ 288) (sym (owed-is-held (life b cs) (life-holds b cs .tied on)))
-          (owed-most (life b cs .now) (life-holds b cs .holds));
+          (owed-most (life b cs .now) (life-holds b cs .holds .holds));
       staysSelected = λ host client limit e. link-selected host client limit _ (made host client limit e);
     }

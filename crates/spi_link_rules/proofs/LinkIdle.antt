@@ -5,7 +5,7 @@
 --     link-uses-limit  with a limit of at most that, exactly the limit is used
 -- Assumes nothing.
 use Prim.Native.Nat.{ℕ, zero, suc, _+_, _*_, _-_, _≤_, _<_}
-use mathlib.Core.Bool.{Bool, true, false, not, _||_}
+use mathlib.Core.Bool.{Bool, true, false, not, _&&_, _||_}
 use mathlib.Core.List.{List, [], _∷_}
 use mathlib.Core.Path.{_≡_, refl, sym, ap, subst, _∙_}
 use native.Mathlib.Nat.{le-trans, sub-le, mul-le-mul}
@@ -24,7 +24,7 @@ use Rattle.spi_rules.specs.declared.Call.the-variants.{Tick}
 use Rattle.spi_link_rules.specs.declared.Run.{Run}
 use Rattle.spi_link_rules.specs.declared.LinkAnswer.the-variants as linked
 use Rattle.spi_link_rules.specs.declared.Linked.{Linked}
-use Rattle.spi_rules.specs.Settings.{widthOf, depthOf, enhancedDepth, ssenClient, ownClock}
+use Rattle.spi_rules.specs.Settings.{widthOf, depthOf, enhancedDepth, framed, clockStops, ssenClient, ownClock, unframedHost}
 use Rattle.spi_rules.specs.Refusals.{isDone}
 use Rattle.spi_rules.specs.Registers.{isFree}
 use Rattle.spi_rules.specs.Calls.{afterCalls, refuse, answering, tickOf, sdoOf, performOf}
@@ -32,7 +32,7 @@ use Rattle.spi_link_rules.specs.Link.{mostEdges, levelRead, madeEdge, ho
 use Rattle.spi_rules.specs.Invariant.{ModuleHolds}
 use Rattle.spi_rules.specs.Words.{unfinished, leftBuffer, waitingIn}
 use Rattle.spi_rules.specs.Demands.{edgesMade, IsIdle}
-use Rattle.spi_rules.proofs.Keeps.{if-keeps, and-false, clash, or-left}
+use Rattle.spi_rules.proofs.Keeps.{if-keeps, and-false, and-left, and-both, clash, or-left, or-right}
 use Rattle.spi_rules.proofs.Sizes.{width-most}
 use Rattle.spi_rules.proofs.BuffersOrder.{waiting-length}
 use Rattle.spi_rules.proofs.RefusalsUnchanged.{no-edge-unchanged}
@@ -63,25 +63,26 @@ owed-most m h =
     le-trans (sub-le _ (givenIn (m .engine .shift))) (mul-le-mul edges words)
 
 -- A tick leaves the settings.
-tick-settings : (m : Module) (sdi : Bool) → tickOf m sdi .after .settings ≡ m .settings
+tick-settings : (m : Module) (sdi ss : Bool) → tickOf m sdi ss .after .settings ≡ m .settings
 unfolding tickOf refuse answering
-tick-settings m sdi =
+tick-settings m sdi ss =
     let P : Outcome → Type 0 = λ (o : Outcome). o .after .settings ≡ m .settings in
     if-keeps P (not (m .settings .spien)) _ _ (λ e. refl)
     (λ on.
     if-keeps P (not (ownClock (m .settings))) _ _ (λ e. refl)
-    (λ own. if-keeps P (isFree (m .engine .shift)) _ _ (λ e. refl) (λ e. refl)))
+    (λ own. if-keeps P (clockStops (m .settings) && isFree (m .engine .shift)) _ _ (λ e. refl) (λ e. refl)))
 
 -- A tick of an enabled host with its own clock that makes no edge says so.
-tick-none : (m : Module) (sdi : Bool) → m .settings .spien ≡ true → ownClock (m .settings) ≡ true →
-    madeEdge (tickOf m sdi .answer) ≡ false → tickOf m sdi .answer ≡ NoEdge
+tick-none : (m : Module) (sdi ss : Bool) → m .settings .spien ≡ true → ownClock (m .settings) ≡ true →
+    madeEdge (tickOf m sdi ss .answer) ≡ false → tickOf m sdi ss .answer ≡ NoEdge
 unfolding tickOf answering madeEdge
-tick-none m sdi on own =
+tick-none m sdi ss on own =
     let P : Outcome → Type 0 = λ (o : Outcome). madeEdge (o .answer) ≡ false → o .answer ≡ NoEdge in
     if-keeps P (not (m .settings .spien)) _ _ (λ off. clash (not (m .settings .spien)) off (ap not on))
     (λ e.
     if-keeps P (not (ownClock (m .settings))) _ _ (λ pin. clash (not (ownClock (m .settings))) pin (ap not own))
-    (λ f. if-keeps P (isFree (m .engine .shift)) _ _ (λ free none. refl) (λ busy none. clash true refl none)))
+    (λ f.
+    if-keeps P (clockStops (m .settings) && isFree (m .engine .shift)) _ _ (λ stands none. refl) (λ moves none. clash true refl none)))
 
 -- The host's calls leave it undisturbed: they are ticks.
 turn-undisturbed : (left : ℕ) (host client : Module) → host .settings .spien ≡ true →
@@ -90,8 +91,8 @@ unfolding hostCalls hostTicked performOf
 turn-undisturbed zero host client on = tt
 turn-undisturbed (suc left) host client on =
     let sdi : Bool = levelRead (sdoOf client) in
-    let ticked : Outcome = tickOf host sdi in
-    let still : ticked .after .settings .spien ≡ true = ap (λ (s : Settings). s .spien) (tick-settings host sdi) ∙ on in (
+    let ticked : Outcome = tickOf host sdi false in
+    let still : ticked .after .settings .spien ≡ true = ap (λ (s : Settings). s .spien) (tick-settings host sdi false) ∙ on in (
       record { enabled = still; noWord = and-false (isDone (ticked .answer)) false refl },
       if-keeps (λ (cs : List Call). AllUndisturbing (ticked .after) cs) (madeEdge (ticked .answer)) _ _
           (λ e. turn-undisturbed left (ticked .after) (clientSees (ticked .after) client) still)
@@ -100,22 +101,22 @@ turn-undisturbed (suc left) host client on =
 
 -- A turn that leaves edges of the limit leaves a host that owes none.
 turn-stops : (left : ℕ) (host client : Module) → ModuleHolds host → host .settings .spien ≡ true →
-    ownClock (host .settings) ≡ true → hostTurn left host client .used < left → owedIn (hostTurn left host client .host) ≡ 0
+    unframedHost (host .settings) ≡ true → hostTurn left host client .used < left → owedIn (hostTurn left host client .host) ≡ 0
 unfolding hostTurn handedOver clientTurn oneMore runStops hostTicked performOf
 turn-stops zero host client h on own = λ k. absurd (omega (arith, k))
 turn-stops (suc left) host client h on own =
     let sdi : Bool = levelRead (sdoOf client) in
-    let ticked : Outcome = tickOf host sdi in
-    let same : ticked .after .settings ≡ host .settings = tick-settings host sdi in
+    let ticked : Outcome = tickOf host sdi false in
+    let same : ticked .after .settings ≡ host .settings = tick-settings host sdi false in
     if-keeps (λ (r : Run). r .used < suc left → owedIn (r .host) ≡ 0) (madeEdge (ticked .answer)) _ _
     (λ e k.
-    turn-stops left (ticked .after) (clientSees (ticked .after) client) (call-keeps host (Tick sdi) h)
+    turn-stops left (ticked .after) (clientSees (ticked .after) client) (call-keeps host (Tick sdi false) h)
     (ap (λ (s : Settings). s .spien) same ∙ on)
-    (ap ownClock same ∙ own)
+    (ap unframedHost same ∙ own)
     (omega (arith, k)))
     (λ e k.
-    let none : tickOf host sdi .answer ≡ NoEdge = tick-none host sdi on own e in
-    ap owedIn (no-edge-unchanged host (Tick sdi) none) ∙ no-edge-owes-none host h on own sdi none)
+    let none : tickOf host sdi false .answer ≡ NoEdge = tick-none host sdi false on (and-left _ (clockStops (host .settings)) own) e in
+    ap owedIn (no-edge-unchanged host (Tick sdi false) none) ∙ no-edge-owes-none host h on own sdi false none)
 
 -- What is used: all that is owed if the limit allows it, and else the limit.
 all-owed : (used left debt limit : ℕ) → used + left ≡ debt → used ≤ limit → (used < limit → left ≡ 0) → debt ≤ limit → used ≡ debt
@@ -136,12 +137,16 @@ all-limit used left debt limit e k short least = go (ltb used limit) refl
 nothing-left : (used left debt : ℕ) → used ≡ debt → used + left ≡ debt → left ≡ 0
 nothing-left used left debt all e = omega arith
 
--- A host in a run that is not refused is enabled and has its own clock.
+-- A host in a run that is not refused is enabled, has its own clock and is unframed.
 pub host-on : (host client : Module) (limit : ℕ) → Allowed host client limit → host .settings .spien ≡ true
 host-on host client limit a = not-false (host .settings .spien) (or-left _ (not (client .settings .spien)) (a .enabled))
 
-host-own : (host client : Module) (limit : ℕ) → Allowed host client limit → ownClock (host .settings) ≡ true
-host-own host client limit a = not-false (ownClock (host .settings)) (or-left _ (client .settings .con1 .msten) (a .roles))
+host-own : (host client : Module) (limit : ℕ) → Allowed host client limit → unframedHost (host .settings) ≡ true
+host-own host client limit a =
+    let role : (not (ownClock (host .settings)) || framed (host .settings)) ≡ false = or-left _ _ (a .roles) in
+    and-both (ownClock (host .settings)) (clockStops (host .settings))
+    (not-false (ownClock (host .settings)) (or-left _ (framed (host .settings)) role))
+    (ap not (or-right (not (ownClock (host .settings))) _ role))
 
 module _ (host client : Module) (limit n : ℕ) (h : ModuleHolds host) (e : linkedOf host client limit .answer ≡ linked.Used n) where
   -- What the tests have found.

@@ -2,7 +2,7 @@
 --     link-selected    after a linked run the client's select is low
 -- Assumes nothing.
 use Prim.Native.Nat.{ℕ, zero, suc}
-use mathlib.Core.Bool.{Bool, true, false, not, _&&_}
+use mathlib.Core.Bool.{Bool, true, false, not, _&&_, _||_}
 use mathlib.Core.Path.{_≡_, refl, ap, _∙_}
 use borrow.Author.Tests.{not-false}
 use Rattle.spi_rules.specs.declared.Module.{Module}
@@ -10,11 +10,11 @@ use Rattle.spi_rules.specs.declared.Outcome.{Outcome}
 use Rattle.spi_link_rules.specs.declared.Run.{Run}
 use Rattle.spi_link_rules.specs.declared.LinkAnswer.the-variants as linked
 use Rattle.spi_link_rules.specs.declared.Linked.{Linked}
-use Rattle.spi_rules.specs.Settings.{ownClock}
+use Rattle.spi_rules.specs.Settings.{framed, ownClock}
 use Rattle.spi_rules.specs.Edge.{levels, stepped}
 use Rattle.spi_rules.specs.Calls.{answering, pinsOf, sckOf, sdoOf, performOf}
 use Rattle.spi_link_rules.specs.Link.{levelRead, madeEdge, hostTicked, clientSees, runStops, oneMore, clientTurn, handedOver, hostTurn, runOf, toldOf, linkedOf}
-use Rattle.spi_rules.proofs.Keeps.{if-keeps, or-right}
+use Rattle.spi_rules.proofs.Keeps.{if-keeps, or-left, or-right}
 use Rattle.spi_rules.proofs.OrderSelect.{stepped-select}
 use Rattle.spi_rules.proofs.CallsWhen.{pin-is}
 use Rattle.spi_link_rules.proofs.LinkRuns.{Allowed, link-when, link-is}
@@ -62,7 +62,8 @@ link-selected host client limit n e =
     let a : Allowed host client limit = link-when host client limit n e .0 in
     let on : client .settings .spien ≡ true =
     not-false (client .settings .spien) (or-right (not (host .settings .spien)) _ (a .enabled)) in
-    let role : client .settings .con1 .msten ≡ false = or-right (not (ownClock (host .settings))) _ (a .roles) in
+    let role : client .settings .con1 .msten ≡ false =
+    or-left (client .settings .con1 .msten) _ (or-right (not (ownClock (host .settings)) || framed (host .settings)) _ (a .roles)) in
     let pin : ownClock (client .settings) ≡ false = ap (λ (b : Bool). b && not (client .settings .con1 .dissck)) role in
     ap (λ (l : Linked). l .client .engine .pins .ss) (link-is host client limit a)
     ∙ turn-selected limit host (clientSees host client) (sees-selected host client on pin) .low

@@ -1,4 +1,4 @@
--- Document 01, "Two modules on one wire": a linked run of a host with its own clock and a client.
+-- Document 01, "Two modules on one wire": a linked run of a host with its own clock and a client, both unframed.
 use Prim.Native.Nat.{ℕ, zero, suc, _+_, _*_}
 use mathlib.Core.Bool.{Bool, true, false, not, _||_, Bool·beq}
 use mathlib.Core.List.{List, [], _∷_}
@@ -12,15 +12,15 @@ use Rattle.spi_rules.specs.declared.Answer.{Answer}
 use Rattle.spi_rules.specs.declared.Answer.the-variants.{Refused, Done, Value, NoEdge, Edge}
 use Rattle.spi_rules.specs.declared.Call.{Call}
 use Rattle.spi_rules.specs.declared.Call.the-variants.{Tick, Pin}
-use Rattle.spi_rules.specs.declared.Sdo.{Sdo}
-use Rattle.spi_rules.specs.declared.Sdo.the-variants.{Low, High, Undriven}
+use Rattle.spi_rules.specs.declared.Output.{Output}
+use Rattle.spi_rules.specs.declared.Output.the-variants.{Low, High, Undriven}
 use Rattle.spi_link_rules.specs.declared.Run.{Run}
 use Rattle.spi_link_rules.specs.declared.LinkAnswer.{LinkAnswer}
 use Rattle.spi_link_rules.specs.declared.LinkAnswer.the-variants as linked
 use Rattle.spi_link_rules.specs.declared.LinkSaid.{LinkSaid}
 use Rattle.spi_link_rules.specs.declared.Linked.{Linked}
 use Rattle.spi_rules.specs.Choice.{if_then_else_}
-use Rattle.spi_rules.specs.Settings.{widthOf, enhancedDepth, ownClock}
+use Rattle.spi_rules.specs.Settings.{widthOf, enhancedDepth, framed, ownClock}
 use Rattle.spi_rules.specs.Refusals.{numberOf}
 use Rattle.spi_rules.specs.Calls.{tickOf, pinsOf, sckOf, sdoOf}
 
@@ -30,7 +30,7 @@ abbrev pub mostEdges : ℕ
 mostEdges = 2 * 16 * (enhancedDepth + 1)
 
 -- The level that the other end of a wire reads: undriven reads 0.
-unfoldable pub levelRead : Sdo → Bool
+unfoldable pub levelRead : Output → Bool
 levelRead Low = false
 levelRead High = true
 levelRead Undriven = false
@@ -43,9 +43,9 @@ madeEdge (Value v) = false
 madeEdge NoEdge = false
 madeEdge Edge = true
 
--- The host's tick takes the client's present SDO.
+-- The host's tick takes the client's present SDO. SS is 0 there, and an unframed host does not look at it.
 unfoldable pub hostTicked : Module → Module → Outcome
-hostTicked host client = tickOf host (levelRead (sdoOf client))
+hostTicked host client = tickOf host (levelRead (sdoOf client)) false
 
 -- The client sees the host's present SCK and SDO with SS low.
 unfoldable pub clientSees : Module → Module → Module
@@ -83,9 +83,9 @@ runOf host client limit = hostTurn limit host (clientSees host client)
 abbrev pub eitherDisabled : Settings → Settings → Bool
 eitherDisabled host client = not (host .spien) || not (client .spien)
 
--- Refusal 7: the host has no clock of its own, or the client is no client.
+-- Refusal 7: the host has no clock of its own, the client is no client, or either is framed (document 02, Three).
 abbrev pub wrongRoles : Settings → Settings → Bool
-wrongRoles host client = not (ownClock host) || client .con1 .msten
+wrongRoles host client = (not (ownClock host) || framed host) || (client .con1 .msten || framed client)
 
 -- Refusal 10: the modules differ in CKP, CKE or width.
 abbrev pub differentModes : Settings → Settings → Bool
@@ -127,7 +127,7 @@ unfoldable pub hostCalls : ℕ → Module → Module → List Call
 hostCalls zero host client = []
 hostCalls (suc left) host client =
     let ticked : Outcome = hostTicked host client in
-    Tick (levelRead (sdoOf client))
+    Tick (levelRead (sdoOf client)) false
     ∷ (if madeEdge (ticked .answer) then hostCalls left (ticked .after) (clientSees (ticked .after) client) else [])
 
 -- The client's calls from the host's turn on.

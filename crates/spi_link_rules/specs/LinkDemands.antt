@@ -21,8 +21,10 @@ linkRows host client limit =
     row 11 (ltb 288 limit)
     -- either module disabled
     ∷ row 2 (not (host .settings .spien) || not (client .settings .spien))
-    -- wrong roles: the host has no clock of its own, or the client is a host
-    ∷ row 7 (not (clocksItself (host .settings .con1)) || client .settings .con1 .msten)
+    -- wrong roles: the host has no clock of its own, or the client is a host; or either is framed
+    ∷ row 7
+    ((not (clocksItself (host .settings .con1)) || host .settings .con2 .frmen)
+    || (client .settings .con1 .msten || client .settings .con2 .frmen))
     -- the modules differ in CKP, CKE or width
     ∷ row 10
     (not (Bool·beq (host .settings .con1 .ckp) (client .settings .con1 .ckp))

@@ -7,7 +7,7 @@ use lib.Dec.{eqb}
 use lib.ListN.{replicate}
 use Rattle.spi_rules.specs.declared.Module.{Module}
 use Rattle.spi_rules.specs.declared.Call.the-variants.{Read, Write, Tick}
-use Rattle.spi_rules.specs.declared.Sdo.the-variants.{Low}
+use Rattle.spi_rules.specs.declared.Output.the-variants.{Low}
 use Rattle.spi_rules.specs.Calls.{poweredUp}
 use Rattle.spi_rules.specs.Examples.{Step, says, shows, ok, value, noEdge, edge, refused, allHold, afterSteps, set-up}
 use Rattle.spi_link_rules.specs.declared.LinkSaid.{LinkSaid}
@@ -41,12 +41,12 @@ clientL = ready 0x0000 0x0000 1 0x003C
 abbrev pub exampleL : Bool
 exampleL =
     linkHolds (linkedOf hostL clientL 16) (used 16)
-    (says (Read 3) (value 0x003C) ∷ says (Tick true) noEdge ∷ [])
+    (says (Read 3) (value 0x003C) ∷ says (Tick true false) noEdge ∷ [])
     (says (Read 3) (value 0x00A5) ∷ [])
 
 -- Nothing was read, and the host still owes its word.
 abbrev pub unreadHost : List Step
-unreadHost = says (Read 3) (refused 6) ∷ says (Tick true) edge ∷ []
+unreadHost = says (Read 3) (refused 6) ∷ says (Tick true false) edge ∷ []
 
 abbrev pub unreadClient : List Step
 unreadClient = says (Read 3) (refused 6) ∷ []
@@ -55,7 +55,7 @@ unreadClient = says (Read 3) (refused 6) ∷ []
 abbrev pub linkLimits : Bool
 linkLimits =
     linkHolds (linkedOf hostL clientL 288) (used 16)
-    (says (Read 3) (value 0x003C) ∷ says (Tick true) noEdge ∷ [])
+    (says (Read 3) (value 0x003C) ∷ says (Tick true false) noEdge ∷ [])
     (says (Read 3) (value 0x00A5) ∷ [])
     && linkHolds (linkedOf hostL clientL 289) (linkRefused 11) unreadHost unreadClient
 
@@ -63,7 +63,7 @@ linkLimits =
 abbrev pub linkNine : Bool
 linkNine =
     linkHolds (linkedOf (ready 0x0420 0x0001 9 0xA5C3) (ready 0x0400 0x0001 0 0) 288) (used 288)
-    (says (Tick true) noEdge ∷ [])
+    (says (Tick true false) noEdge ∷ [])
     (replicate 8 (says (Read 3) (value 0xA5C3)) ++ (says (Read 3) (refused 6) ∷ []))
 
 -- With the limit 0 nothing is used, and with 15 no word is finished.
@@ -98,5 +98,23 @@ linkRefusals =
     && linkHolds (linkedOf hostL (ready 0x0180 0x0000 1 0x003C) 16) (linkRefused 10) unreadHost unreadClient
     && linkHolds (linkedOf hostL (ready 0x0400 0x0000 1 0x003C) 16) (linkRefused 10) unreadHost unreadClient
 
+-- Document 02, Three: 7 for a framed host and for a framed client, be it a frame host or a frame client, also if the two are
+-- a frame's two ends; before 10 and after 2.
+abbrev pub framedHostL : Module
+framedHostL = ready 0x0020 0x8000 1 0x00A5
+
+abbrev pub framedClientL : Module
+framedClientL = ready 0x0000 0xC000 1 0x003C
+
+abbrev pub linkFramed : Bool
+linkFramed =
+    linkHolds (linkedOf framedHostL clientL 16) (linkRefused 7) unreadHost unreadClient
+    && linkHolds (linkedOf (ready 0x0020 0xC000 1 0x00A5) clientL 16) (linkRefused 7) unreadHost unreadClient
+    && linkHolds (linkedOf hostL framedClientL 16) (linkRefused 7) unreadHost unreadClient
+    && linkHolds (linkedOf hostL (ready 0x0000 0x8000 1 0x003C) 16) (linkRefused 7) unreadHost unreadClient
+    && linkHolds (linkedOf framedHostL framedClientL 16) (linkRefused 7) unreadHost unreadClient
+    && linkHolds (linkedOf framedHostL (ready 0x0040 0x0000 1 0x003C) 16) (linkRefused 7) unreadHost unreadClient
+    && linkHolds (linkedOf framedHostL poweredUp 16) (linkRefused 2) unreadHost []
+
 abbrev pub linkExamples : Bool
-linkExamples = linkLimits && (linkNine && (linkShort && (linkWires && linkRefusals)))
+linkExamples = linkLimits && (linkNine && (linkShort && (linkWires && (linkRefusals && linkFramed))))

@@ -94,7 +94,8 @@ shiftAt place =
     else Begun (progressAt place)
 
 abbrev pub pinsAt : (ℕ → ℕ) → Pins
-pinsAt place = record { sck = bitIn (place 69); ss = bitIn (place 70); sdo = bitIn (place 71) }
+pinsAt place =
+    record { sck = bitIn (place 69); ss = bitIn (place 70); sdo = bitIn (place 71); pulse = bitIn (place 74) }
 
 -- The transmit buffer from place 24, the receive buffer from place 44, the rest from place 64.
 abbrev pub engineAt : (ℕ → ℕ) → Engine

@@ -18,7 +18,7 @@ ghost use Prim.Native.Nat.{_+_, _≤_};
 ghost use mathlib.Core.Bool.{true};
 ghost use mathlib.Core.Path.{_≡_};
 ghost use lib.ListN.{length};
-ghost use Rattle.spi_rules.specs.Changes.{withTransmit, withReceive, withShift, withSck, withSs, withSdo, withSpirov, withInterrupt};
+ghost use Rattle.spi_rules.specs.Changes.{withTransmit, withReceive, withShift, withSck, withSs, withSdo, withPulse, withSpirov, withInterrupt};
 ghost use Rattle.spi_rules.specs.Registers.{con1From, con2From, isFree, statSettings};
 ghost use Rattle.spi_rules.specs.Loading.{isBegun};
 ghost use Rattle.spi_rules.specs.Calls.{poweredUp, withCon1, withCon2};
@@ -148,6 +148,7 @@ pub fn pins_in(w: &[u16; 96]) -> Pins
         sck: w[69] % 2 == 1,
         ss: w[70] % 2 == 1,
         sdo: w[71] % 2 == 1,
+        pulse: w[74] % 2 == 1,
     }
 }
 
@@ -354,6 +355,14 @@ pub fn store_sdo(w: &mut [u16; 96], sdo: bool)
     w[71] = number(sdo);
 }
 
+// Whether a frame pulse stands.
+pub fn store_pulse(w: &mut [u16; 96], pulse: bool)
+    ensures { λ _. ⌜ Steps (λ _. withPulse pulse) (now (w .entry)) (now (w .exit)) ⌝ }
+{
+    is_whole(w);
+    w[74] = number(pulse);
+}
+
 // SPIROV.
 pub fn store_spirov(w: &mut [u16; 96], spirov: bool)
     ensures { λ _. ⌜ Steps (λ _. withSpirov spirov) (now (w .entry)) (now (w .exit)) ⌝ }
@@ -409,6 +418,7 @@ fn store_engine(w: &mut [u16; 96], n: Engine)
     store_sck(w, n.pins.sck);
     store_ss(w, n.pins.ss);
     store_sdo(w, n.pins.sdo);
+    store_pulse(w, n.pins.pulse);
     store_spirov(w, n.spirov);
     store_interrupt(w, n.interrupt);
 }

@@ -8,7 +8,7 @@ use Rattle.spi_rules.specs.declared.Engine.{Engine}
 use Rattle.spi_rules.specs.declared.Answer.{Answer}
 use Rattle.spi_rules.specs.declared.Answer.the-variants.{Refused, Done, Value, NoEdge, Edge}
 use Rattle.spi_rules.specs.declared.Outcome.{Outcome}
-use Rattle.spi_rules.specs.Edge.{underWay, advancedIfBegun, clocked}
+use Rattle.spi_rules.specs.Edge.{underWay, advancedIfBegun, pulsed, clocked}
 use Rattle.spi_memory.specs.Memory.{moduleIn}
 
 -- An answer with the module that memory holds.
@@ -28,9 +28,13 @@ pub record Answers (o : Outcome) (a : Answer) (before after : List ℕ) : Type 0
   pub outcome : outcomeIn a after ≡ o
   pub untouched : untouching a ≡ true → after ≡ before
 
--- An edge to the level `sck` of a module that is not deselected, and to the other level of its own clock.
-unfoldable pub edgeCounted : Settings → Bool → Bool → Engine → Engine
-edgeCounted s sck sdi n = advancedIfBegun s sdi (underWay s sck n) (clocked sck n)
+-- An edge to the level `sck` of a module that is not deselected: before its pulse is decided, and whole.
+unfoldable pub edgeAdvanced : Settings → Bool → Bool → Engine → Engine
+edgeAdvanced s sck sdi n = advancedIfBegun s sdi (underWay s sck n) (clocked sck n)
 
+unfoldable pub edgeCounted : Settings → Bool → Bool → Engine → Engine
+edgeCounted s sck sdi n = pulsed s sck (edgeAdvanced s sck sdi n)
+
+-- An edge to the other level of its own clock.
 unfoldable pub turned : Settings → Bool → Engine → Engine
 turned s sdi n = edgeCounted s (not (n .pins .sck)) sdi n

@@ -2,21 +2,24 @@
 // tick that makes no edge, leave every number as it was.
 use spi_rules::Answer;
 use spi_rules::Call;
+use spi_rules::Output;
 use spi_rules::Progress;
 use spi_rules::Refusal;
-use spi_rules::Sdo;
+use spi_rules::Settings;
 use spi_rules::Shift;
-ghost use mathlib.Core.Bool.{true, false};
+ghost use mathlib.Core.Bool.{true, false, _||_, Bool·beq};
 ghost use mathlib.Core.Path.{_≡_};
-ghost use Rattle.spi_rules.specs.Settings.{ssenClient};
+ghost use Rattle.spi_rules.specs.Choice.{if_then_else_};
+ghost use Rattle.spi_rules.specs.Changes.{withPulse};
+ghost use Rattle.spi_rules.specs.Settings.{framed, frameClient, ckeOf, ssenClient};
 ghost use Rattle.spi_rules.specs.Registers.{con1From, con2From, statValue};
 ghost use Rattle.spi_rules.specs.Loading.{isBegun};
-ghost use Rattle.spi_rules.specs.Select.{deselected, selectSeen};
-ghost use Rattle.spi_rules.specs.Edge.{fresh, advanced, advancedIfBegun, levels, stepped};
-ghost use Rattle.spi_rules.specs.Calls.{readBuf, readOf, statWritten, writeStat, withCon1, withCon2, configured, writeBuf, writeOf, tickOf, pinsOf, clearOf, performOf, sdoOf};
+ghost use Rattle.spi_rules.specs.Select.{deselected, selectRemembered, selectSeen};
+ghost use Rattle.spi_rules.specs.Edge.{fresh, advanced, advancedIfBegun, awaitsPulse, pulseDue, pulseAfter, levels, stepped};
+ghost use Rattle.spi_rules.specs.Calls.{readBuf, readOf, statWritten, writeStat, withCon1, withCon2, configured, writeBuf, writeOf, tickOf, pinsOf, clearOf, performOf, sdoOf, ssOf};
 ghost use Rattle.spi_rules.specs.declared.Shift.the-variants.{Free, Loaded};
 ghost use Rattle.spi_memory.specs.Memory.{settingsIn, engineIn, moduleIn, Steps};
-ghost use Rattle.spi_module.specs.Answered.{Answers, edgeCounted, turned};
+ghost use Rattle.spi_module.specs.Answered.{Answers, edgeAdvanced, edgeCounted, turned};
 
 // The first edge of a word: it begins.
 fn begin(w: &mut [u16; 96], sdi: bool, filler: bool, word: u16)
@@ -38,16 +41,17 @@ fn begin(w: &mut [u16; 96], sdi: bool, filler: bool, word: u16)
     spi_memory::store_sdo(w, sdo);
 }
 
-// One edge of the word that is begun: it samples SDI or changes SDO, and the last one finishes the word.
-fn go_on(w: &mut [u16; 96], sdi: bool)
-    requires { ⌜ isBegun (engineIn (now w) .shift) ≡ true ⌝ }
+// One edge of the word that is begun, by CKE as the edge rules see it: it samples SDI or changes SDO, and the last one
+// finishes the word.
+fn go_on(w: &mut [u16; 96], sdi: bool, cke: bool)
+    requires { ⌜ (isBegun (engineIn (now w) .shift) ≡ true) × (cke ≡ ckeOf (settingsIn (now w))) ⌝ }
     ensures { λ _. ⌜ Steps (λ s n. advancedIfBegun s sdi (n .shift) n) (now (w .entry)) (now (w .exit)) ⌝ }
 {
     let s = spi_memory::settings_in(w);
     let p = spi_memory::progress_in(w);
     let edge = p.edges as u16 + 1;
     let last = 2 * spi_settings::width(s) as u16;
-    if spi_bits::is_sampling(s, edge) {
+    if spi_bits::is_sampling(cke, edge) {
         let received = spi_bits::shift_in(p.received, sdi);
         if edge < last {
             spi_memory::store_gone(w, edge as u8, received);
@@ -65,32 +69,42 @@ fn go_on(w: &mut [u16; 96], sdi: bool)
     }
 }
 
-// An edge to the level `sck` with a word loaded: an edge to the active level begins it.
-fn loaded_edge(w: &mut [u16; 96], sck: bool, sdi: bool, word: u16)
-    requires { ⌜ engineIn (now w) .shift ≡ Loaded word ⌝ }
-    ensures { λ _. ⌜ Steps (λ s. edgeCounted s sck sdi) (now (w .entry)) (now (w .exit)) ⌝ }
+// Whether an edge to the level `sck` begins no word: it goes to the idle level, or a frame pulse is awaited.
+fn begins_none(w: &[u16; 96], sck: bool) -> bool
+    ensures { λ r. ⌜ r ≡ (Bool·beq sck (settingsIn (now (w .entry)) .con1 .ckp) || awaitsPulse (settingsIn (now (w .entry))) (engineIn (now (w .entry)))) ⌝ }
 {
     let s = spi_memory::settings_in(w);
+    let pins = spi_memory::pins_in(w);
+    (sck == s.con1.ckp) | ((s.con2.frmen & (s.con2.spifsd | !s.con2.frmdly)) & !pins.pulse)
+}
+
+// An edge to the level `sck` with a word loaded: an edge to the active level begins it, if no pulse is awaited.
+fn loaded_edge(w: &mut [u16; 96], sck: bool, sdi: bool, word: u16)
+    requires { ⌜ engineIn (now w) .shift ≡ Loaded word ⌝ }
+    ensures { λ _. ⌜ Steps (λ s. edgeAdvanced s sck sdi) (now (w .entry)) (now (w .exit)) ⌝ }
+{
+    let none = begins_none(w, sck);
     spi_memory::store_sck(w, sck);
-    if sck == s.con1.ckp {
+    if none {
         return;
     }
     begin(w, sdi, false, word);
 }
 
-// An edge to the level `sck` with no word loaded: a client's edge to the active level begins the first waiting word with
-// SSEN, or a filler.
+// An edge to the level `sck` with no word loaded: where one may begin, a silent module begins nothing, an SSEN client the
+// first waiting word if there is one, and any other module a filler.
 fn free_edge(w: &mut [u16; 96], sck: bool, sdi: bool)
     requires { ⌜ engineIn (now w) .shift ≡ Free ⌝ }
-    ensures { λ _. ⌜ Steps (λ s. edgeCounted s sck sdi) (now (w .entry)) (now (w .exit)) ⌝ }
+    ensures { λ _. ⌜ Steps (λ s. edgeAdvanced s sck sdi) (now (w .entry)) (now (w .exit)) ⌝ }
 {
     let s = spi_memory::settings_in(w);
     let t = spi_memory::transmit_in(w);
+    let none = begins_none(w, sck);
     spi_memory::store_sck(w, sck);
-    if sck == s.con1.ckp {
+    if none {
         return;
     }
-    if s.con1.msten {
+    if spi_settings::is_silent(s) {
         return;
     }
     if spi_settings::ssen_client(s) & !(t.count == 0) {
@@ -103,7 +117,7 @@ fn free_edge(w: &mut [u16; 96], sck: bool, sdi: bool)
 // An edge to the level `sck` with no word begun before it.
 fn first_edge(w: &mut [u16; 96], sck: bool, sdi: bool)
     requires { ⌜ isBegun (engineIn (now w) .shift) ≡ false ⌝ }
-    ensures { λ _. ⌜ Steps (λ s. edgeCounted s sck sdi) (now (w .entry)) (now (w .exit)) ⌝ }
+    ensures { λ _. ⌜ Steps (λ s. edgeAdvanced s sck sdi) (now (w .entry)) (now (w .exit)) ⌝ }
 {
     let shift = spi_memory::shift_in(w);
     match shift {
@@ -113,15 +127,86 @@ fn first_edge(w: &mut [u16; 96], sck: bool, sdi: bool)
     }
 }
 
-// An edge to the level `sck` of a module that is not deselected.
-fn edge(w: &mut [u16; 96], sck: bool, sdi: bool)
+// Whether a frame host gives a pulse from a transmit edge on, by what is under way after it and how many words wait.
+fn pulse_due(s: Settings, count: u8, shift: Shift) -> bool
+    ensures { λ r. ⌜ r ≡ pulseDue s count shift ⌝ }
+{
+    match shift {
+        Shift::Free => false,
+        Shift::Loaded(_) => !s.con2.frmdly,
+        Shift::Begun(p) => {
+            if s.con2.frmdly {
+                p.edges == 1
+            } else {
+                (p.edges as u16 + 1 == 2 * spi_settings::width(s) as u16) & !(count == 0)
+            }
+        }
+    }
+}
+
+// Whether a pulse stands after an edge to the level `sck` of a framed module.
+fn pulse_after(w: &[u16; 96], sck: bool) -> bool
+    ensures { λ r. ⌜ r ≡ pulseAfter (settingsIn (now (w .entry))) sck (engineIn (now (w .entry))) ⌝ }
+{
+    let s = spi_memory::settings_in(w);
+    let pins = spi_memory::pins_in(w);
+    if sck == s.con1.ckp {
+        if s.con2.spifsd {
+            return (pins.ss == s.con2.frmpol) & !spi_memory::is_begun(w);
+        }
+        return pins.pulse;
+    }
+    let t = spi_memory::transmit_in(w);
+    let shift = spi_memory::shift_in(w);
+    !s.con2.spifsd & pulse_due(s, t.count, shift)
+}
+
+// The end of an edge to the level `sck` of a framed module: its pulse.
+fn pulse_edge(w: &mut [u16; 96], sck: bool)
+    ensures { λ _. ⌜ Steps (λ s n. withPulse (pulseAfter s sck n) n) (now (w .entry)) (now (w .exit)) ⌝ }
+{
+    let pulse = pulse_after(w, sck);
+    spi_memory::store_pulse(w, pulse);
+}
+
+// An edge to the level `sck` of a framed module: its pulse comes last.
+fn framed_edge(w: &mut [u16; 96], sck: bool, sdi: bool)
+    requires { ⌜ framed (settingsIn (now w)) ≡ true ⌝ }
     ensures { λ _. ⌜ Steps (λ s. edgeCounted s sck sdi) (now (w .entry)) (now (w .exit)) ⌝ }
 {
     if spi_memory::is_begun(w) {
         spi_memory::store_sck(w, sck);
-        go_on(w, sdi);
+        go_on(w, sdi, false);
+        pulse_edge(w, sck);
     } else {
         first_edge(w, sck, sdi);
+        pulse_edge(w, sck);
+    }
+}
+
+// An edge to the level `sck` of an unframed module that is not deselected.
+fn plain_edge(w: &mut [u16; 96], sck: bool, sdi: bool)
+    requires { ⌜ framed (settingsIn (now w)) ≡ false ⌝ }
+    ensures { λ _. ⌜ Steps (λ s. edgeCounted s sck sdi) (now (w .entry)) (now (w .exit)) ⌝ }
+{
+    if spi_memory::is_begun(w) {
+        let s = spi_memory::settings_in(w);
+        spi_memory::store_sck(w, sck);
+        go_on(w, sdi, s.con1.cke);
+    } else {
+        first_edge(w, sck, sdi);
+    }
+}
+
+// An edge to the level `sck` of a module that is not deselected.
+fn edge(w: &mut [u16; 96], sck: bool, sdi: bool)
+    ensures { λ _. ⌜ Steps (λ s. edgeCounted s sck sdi) (now (w .entry)) (now (w .exit)) ⌝ }
+{
+    let s = spi_memory::settings_in(w);
+    if spi_settings::is_framed(s) {
+        framed_edge(w, sck, sdi);
+    } else {
+        plain_edge(w, sck, sdi);
     }
 }
 
@@ -131,6 +216,15 @@ pub fn turn(w: &mut [u16; 96], sdi: bool)
 {
     let pins = spi_memory::pins_in(w);
     edge(w, !pins.sck, sdi);
+}
+
+// The same of an unframed module.
+fn plain_turn(w: &mut [u16; 96], sdi: bool)
+    requires { ⌜ framed (settingsIn (now w)) ≡ false ⌝ }
+    ensures { λ _. ⌜ Steps (λ s. turned s sdi) (now (w .entry)) (now (w .exit)) ⌝ }
+{
+    let pins = spi_memory::pins_in(w);
+    plain_edge(w, !pins.sck, sdi);
 }
 
 // An SSEN client sees its select level high, which aborts the begun word.
@@ -183,9 +277,19 @@ pub fn see(w: &mut [u16; 96], sck: bool, sdi: bool, ss: bool)
     }
 }
 
-// A tick of a host's own clock, with the SDI level: one edge, or none with no word loaded.
-pub fn tick(w: &mut [u16; 96], sdi: bool) -> Answer
-    ensures { λ r. ⌜ Answers (tickOf (moduleIn (now (w .entry))) sdi) r (now (w .entry)) (now (w .exit)) ⌝ }
+// The select level that a tick carries is remembered by a frame client alone.
+fn hear_select(w: &mut [u16; 96], ss: bool)
+    ensures { λ _. ⌜ Steps (λ s n. if frameClient s then selectRemembered ss n else n) (now (w .entry)) (now (w .exit)) ⌝ }
+{
+    let s = spi_memory::settings_in(w);
+    if spi_settings::is_frame_client(s) {
+        spi_memory::store_ss(w, ss);
+    }
+}
+
+// A tick of a host's own clock, with the levels SDI and SS: one edge, or none of an unframed host with no word loaded.
+pub fn tick(w: &mut [u16; 96], sdi: bool, ss: bool) -> Answer
+    ensures { λ r. ⌜ Answers (tickOf (moduleIn (now (w .entry))) sdi ss) r (now (w .entry)) (now (w .exit)) ⌝ }
 {
     let s = spi_memory::settings_in(w);
     if !s.spien {
@@ -194,10 +298,15 @@ pub fn tick(w: &mut [u16; 96], sdi: bool) -> Answer
     if !spi_settings::own_clock(s) {
         return Answer::Refused(Refusal::WrongClock);
     }
+    if spi_settings::is_framed(s) {
+        hear_select(w, ss);
+        turn(w, sdi);
+        return Answer::Edge;
+    }
     if spi_memory::is_free(w) {
         return Answer::NoEdge;
     }
-    turn(w, sdi);
+    plain_turn(w, sdi);
     Answer::Edge
 }
 
@@ -278,7 +387,7 @@ fn write_buf(w: &mut [u16; 96], v: u16) -> Answer
     Answer::Done
 }
 
-// What a write of STAT does to the engine: enabling sets the levels, disabling empties.
+// What a write of STAT does to the engine: enabling sets the levels and ends a pulse, disabling empties.
 fn stat_written(w: &mut [u16; 96], v: u16)
     ensures { λ _. ⌜ Steps (λ s. statWritten s v) (now (w .entry)) (now (w .exit)) ⌝ }
 {
@@ -290,6 +399,7 @@ fn stat_written(w: &mut [u16; 96], v: u16)
         spi_memory::store_sck(w, s.con1.ckp);
         spi_memory::store_ss(w, true);
         spi_memory::store_sdo(w, false);
+        spi_memory::store_pulse(w, false);
         return;
     }
     if s.spien & !on {
@@ -371,17 +481,26 @@ pub fn perform(w: &mut [u16; 96], c: Call) -> Answer
     match c {
         Call::Read(register) => read(w, register),
         Call::Write(register, v) => write(w, register, v),
-        Call::Tick(sdi) => tick(w, sdi),
+        Call::Tick(sdi, ss) => tick(w, sdi, ss),
         Call::Pin(sck, sdi, ss) => pins(w, sck, sdi, ss),
         Call::Clear => clear(w),
     }
 }
 
 // The SDO pin: its level, or undriven.
-pub fn sdo(w: &[u16; 96]) -> Sdo
+pub fn sdo(w: &[u16; 96]) -> Output
     ensures { λ r. ⌜ r ≡ sdoOf (moduleIn (now (w .entry))) ⌝ }
 {
     let s = spi_memory::settings_in(w);
     let pins = spi_memory::pins_in(w);
     spi_views::sdo_by(s, pins)
+}
+
+// The SS pin: the level at which a frame host drives it, or undriven.
+pub fn ss(w: &[u16; 96]) -> Output
+    ensures { λ r. ⌜ r ≡ ssOf (moduleIn (now (w .entry))) ⌝ }
+{
+    let s = spi_memory::settings_in(w);
+    let pins = spi_memory::pins_in(w);
+    spi_views::ss_by(s, pins)
 }

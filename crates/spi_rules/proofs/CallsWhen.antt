@@ -4,12 +4,14 @@
 --     tick-when, tick-is             a tick that makes an edge
 --     no-edge-when                   a tick that makes none
 --     pin-when, pin-is               a pin call that is done
---     own-edge                       the step of a tick: the clock of a host goes to its other level
+--     told-elsewhere                 only a frame client heeds the select level that a tick carries
+--     host-unframed, unframed-begins, unpulsed   an unframed module awaits no pulse and has none to decide
+--     told-edge, own-edge            the step of a tick: the clock of a host goes to its other level
 -- Assumes nothing.
 use Prim.Native.Nat.{ℕ}
-use mathlib.Core.Bool.{Bool, true, false, not, _&&_, Bool·beq}
+use mathlib.Core.Bool.{Bool, true, false, not, _&&_, _||_, Bool·beq}
 use mathlib.Core.Path.{_≡_, refl, sym, ap, _∙_}
-use borrow.Author.Tests.{not-false}
+use borrow.Author.Tests.{not-true, not-false}
 use Rattle.spi_rules.specs.declared.Settings.{Settings}
 use Rattle.spi_rules.specs.declared.Engine.{Engine}
 use Rattle.spi_rules.specs.declared.Module.{Module}
@@ -22,14 +24,15 @@ use Rattle.spi_rules.specs.declared.Refusal.{Refusal}
 use Rattle.spi_rules.specs.declared.Refusal.the-variants.{Disabled, TransmitFull, ReceiveEmpty, WrongClock}
 use Rattle.spi_rules.specs.declared.Call.the-variants.{Read, Write, Tick, Pin}
 use Rattle.spi_rules.specs.Choice.{if_then_else_}
-use Rattle.spi_rules.specs.Settings.{ssenClient, ownClock}
+use Rattle.spi_rules.specs.Changes.{withPulse}
+use Rattle.spi_rules.specs.Settings.{framed, frameClient, clockStops, ssenClient, ownClock, unframedHost}
 use Rattle.spi_rules.specs.Registers.{isFree, spitbf, lowBits}
 use Rattle.spi_rules.specs.Buffers.{empty, firstUnread}
 use Rattle.spi_rules.specs.Loading.{isBegun}
 use Rattle.spi_rules.specs.Select.{deselected, selectRemembered, selectSeen}
-use Rattle.spi_rules.specs.Edge.{advancedIfBegun, underWay, clocked, edged, levels, stepped}
-use Rattle.spi_rules.specs.Calls.{refuse, answering, wordTaken, readBuf, readOf, wordWritten, writeBuf, writeOf, tickOf, pinsOf, performOf}
-use Rattle.spi_rules.proofs.Keeps.{if-true, if-false, clash, and-left}
+use Rattle.spi_rules.specs.Edge.{advancedIfBegun, awaitsPulse, underWay, pulsed, clocked, edged, levels, stepped}
+use Rattle.spi_rules.specs.Calls.{refuse, answering, wordTaken, readBuf, readOf, wordWritten, writeBuf, writeOf, toldSelect, tickOf, pinsOf, performOf}
+use Rattle.spi_rules.proofs.Keeps.{if-true, if-false, clash, and-left, and-right}
 use Rattle.spi_rules.proofs.Parts.{accepts}
 
 -- A call that may be refused by a test and is not has passed the test.
@@ -96,47 +99,57 @@ module _ (m : Module) where
   unfolding performOf writeOf writeBuf if_then_else_
   buf-write-is v on room = if-false (not (m .settings .spien)) _ _ (ap not on) ∙ if-false (spitbf m) _ _ room
 
+  -- A tick makes no edge: the clock stops between words, and no word is loaded.
+  abbrev stands : Bool
+  stands = clockStops (m .settings) && isFree (m .engine .shift)
+
   -- A tick that is not refused is one of an enabled host with its own clock.
-  tick-answers : (sdi : Bool) (a : Answer) → accepts a ≡ true → performOf m (Tick sdi) .answer ≡ a →
+  tick-answers : (sdi ss : Bool) (a : Answer) → accepts a ≡ true → performOf m (Tick sdi ss) .answer ≡ a →
       (m .settings .spien ≡ true)
       × (ownClock (m .settings) ≡ true)
-      × ((isFree (m .engine .shift) ≡ true → NoEdge ≡ a) × (isFree (m .engine .shift) ≡ false → Edge ≡ a))
+      × ((stands ≡ true → NoEdge ≡ a) × (stands ≡ false → Edge ≡ a))
   unfolding performOf tickOf answering
-  tick-answers sdi a ok e =
+  tick-answers sdi ss a ok e =
       let p = passes m Disabled a ok (not (m .settings .spien)) _ e in
       let q = passes m WrongClock a ok (not (ownClock (m .settings))) _ (p .1) in (
         not-false (m .settings .spien) (p .0),
         not-false (ownClock (m .settings)) (q .0),
         (
-          (λ free. sym (ap (λ (o : Outcome). o .answer) (if-true (isFree (m .engine .shift)) _ _ free)) ∙ q .1),
-          (λ busy. sym (ap (λ (o : Outcome). o .answer) (if-false (isFree (m .engine .shift)) _ _ busy)) ∙ q .1),
+          (λ still. sym (ap (λ (o : Outcome). o .answer) (if-true stands _ _ still)) ∙ q .1),
+          (λ moves. sym (ap (λ (o : Outcome). o .answer) (if-false stands _ _ moves)) ∙ q .1),
         ),
       )
 
-  -- A tick answers "no edge" in an enabled host with its own clock whose shift register is free.
-  pub no-edge-when : (sdi : Bool) → performOf m (Tick sdi) .answer ≡ NoEdge →
-      (m .settings .spien ≡ true) × (ownClock (m .settings) ≡ true) × (m .engine .shift ≡ Free)
-  no-edge-when sdi e =
-      let w = tick-answers sdi NoEdge refl e in
-      (w .0, w .1, is-free (m .engine .shift) (true-unless (isFree (m .engine .shift)) (λ busy. let z = w .2 .1 busy in cc)))
+  -- A tick answers "no edge" in an enabled unframed host with its own clock whose shift register is free.
+  pub no-edge-when : (sdi ss : Bool) → performOf m (Tick sdi ss) .answer ≡ NoEdge →
+      (m .settings .spien ≡ true) × (unframedHost (m .settings) ≡ true) × (m .engine .shift ≡ Free)
+  no-edge-when sdi ss e =
+      let w = tick-answers sdi ss NoEdge refl e in
+      let still : stands ≡ true = true-unless stands (λ moves. let z = w .2 .1 moves in cc) in (
+        w .0,
+        ap (λ (b : Bool). b && clockStops (m .settings)) (w .1) ∙ and-left (clockStops (m .settings)) _ still,
+        is-free (m .engine .shift) (and-right (clockStops (m .settings)) _ still),
+      )
 
-  -- A tick makes an edge in an enabled host with its own clock whose shift register is not free.
-  pub tick-when : (sdi : Bool) → performOf m (Tick sdi) .answer ≡ Edge →
-      (m .settings .spien ≡ true) × (ownClock (m .settings) ≡ true) × (isFree (m .engine .shift) ≡ false)
-  tick-when sdi e =
-      let w = tick-answers sdi Edge refl e in
-      (w .0, w .1, false-when-not (isFree (m .engine .shift)) (λ free. let z = w .2 .0 free in cc))
+  -- A tick makes an edge in an enabled host with its own clock whose shift register is not free or whose clock runs on.
+  pub tick-when : (sdi ss : Bool) → performOf m (Tick sdi ss) .answer ≡ Edge →
+      (m .settings .spien ≡ true)
+      × (ownClock (m .settings) ≡ true)
+      × ((clockStops (m .settings) && isFree (m .engine .shift)) ≡ false)
+  tick-when sdi ss e =
+      let w = tick-answers sdi ss Edge refl e in
+      (w .0, w .1, false-when-not stands (λ still. let z = w .2 .0 still in cc))
 
   -- Such a tick takes the clock to its other level.
-  pub tick-is : (sdi : Bool) → m .settings .spien ≡ true → ownClock (m .settings) ≡ true →
-      isFree (m .engine .shift) ≡ false →
-      performOf m (Tick sdi)
-      ≡ answering m Edge (stepped (m .settings) (levels (not (m .engine .pins .sck)) sdi (m .engine .pins .ss)) (m .engine))
+  pub tick-is : (sdi ss : Bool) → m .settings .spien ≡ true → ownClock (m .settings) ≡ true →
+      (clockStops (m .settings) && isFree (m .engine .shift)) ≡ false →
+      performOf m (Tick sdi ss)
+      ≡ answering m Edge (stepped (m .settings) (levels (not (m .engine .pins .sck)) sdi (toldSelect m ss)) (m .engine))
   unfolding performOf tickOf
-  tick-is sdi on own busy =
+  tick-is sdi ss on own moves =
       if-false (not (m .settings .spien)) _ _ (ap not on)
       ∙ if-false (not (ownClock (m .settings))) _ _ (ap not own)
-      ∙ if-false (isFree (m .engine .shift)) _ _ busy
+      ∙ if-false stands _ _ moves
 
   -- A pin call is done if the module is enabled and clocked from its pin.
   pub pin-when : (sck sdi ss : Bool) → performOf m (Pin sck sdi ss) .answer ≡ Done →
@@ -154,19 +167,52 @@ module _ (m : Module) where
   pin-is sck sdi ss on pin =
       if-false (not (m .settings .spien)) _ _ (ap not on) ∙ if-false (ownClock (m .settings)) _ _ pin
 
+-- The select level that a tick carries counts for a frame client alone.
+pub told-elsewhere : (m : Module) (ss : Bool) → frameClient (m .settings) ≡ false → toldSelect m ss ≡ m .engine .pins .ss
+told-elsewhere m ss other = if-false (frameClient (m .settings)) _ _ other
+
+-- An unframed module is no frame client.
+pub unframed-told : (s : Settings) → framed s ≡ false → frameClient s ≡ false
+unframed-told s plain = ap (λ (b : Bool). b && s .con2 .spifsd) plain
+
+-- The edge rules of an unframed host: it is unframed, and awaits no pulse.
+pub host-unframed : (s : Settings) → unframedHost s ≡ true → framed s ≡ false
+host-unframed s host = not-true (framed s) (and-right (ownClock s) _ host)
+
+pub unframed-begins : (s : Settings) (n : Engine) → framed s ≡ false → awaitsPulse s n ≡ false
+unfolding awaitsPulse
+unframed-begins s n plain =
+    ap (λ (b : Bool). (b && (s .con2 .spifsd || not (s .con2 .frmdly))) && not (n .pins .pulse)) plain
+
+module _ (s : Settings) (sck : Bool) where
+  -- An unframed module has no pulse to decide.
+  pub unpulsed : (n : Engine) → framed s ≡ false → pulsed s sck n ≡ n
+  unfolding pulsed
+  unpulsed n plain = ap (λ (b : Bool). withPulse b n) (if-false (framed s) _ _ plain)
+
 module _ (s : Settings) (n : Engine) (own : ownClock s ≡ true) where
   -- Select does not count for a host with its own clock.
   own-selected : (ss : Bool) → deselected s ss ≡ false
   own-selected ss = rw (own-not-client s own)
 
-  -- A tick takes the clock of a host to its other level, and what is under way one edge further.
-  pub own-edge : (sdi : Bool) →
-      stepped s (levels (not (n .pins .sck)) sdi (n .pins .ss)) n
-      ≡ advancedIfBegun s sdi (underWay s (not (n .pins .sck)) n) (clocked (not (n .pins .sck)) n)
+  -- A tick takes the clock of a host to its other level, and what is under way one edge further, with the select level that it
+  -- was told.
+  pub told-edge : (sdi ss : Bool) →
+      stepped s (levels (not (n .pins .sck)) sdi ss) n
+      ≡ pulsed s (not (n .pins .sck))
+      (advancedIfBegun s sdi (underWay s (not (n .pins .sck)) (selectRemembered ss n)) (clocked (not (n .pins .sck)) (selectRemembered ss n)))
   unfolding stepped selectSeen selectRemembered edged
-  own-edge sdi =
-      let seen : selectSeen s (n .pins .ss) n ≡ n =
-      if-false (deselected s (n .pins .ss) && isBegun (n .shift)) _ _ (rw (own-selected (n .pins .ss))) in
+  told-edge sdi ss =
+      let seen : selectSeen s ss n ≡ selectRemembered ss n =
+      if-false (deselected s ss && isBegun (n .shift)) _ _ (rw (own-selected ss)) in
       if-false (Bool·beq (not (n .pins .sck)) (n .pins .sck)) _ _ (not-unlike (n .pins .sck))
       ∙ ap (edged s (not (n .pins .sck)) sdi) seen
-      ∙ if-false (deselected s (n .pins .ss)) _ _ (own-selected (n .pins .ss))
+      ∙ if-false (deselected s ss) _ _ (own-selected ss)
+
+  -- The same with the select level that was remembered.
+  pub own-edge : (sdi : Bool) →
+      stepped s (levels (not (n .pins .sck)) sdi (n .pins .ss)) n
+      ≡ pulsed s (not (n .pins .sck))
+      (advancedIfBegun s sdi (underWay s (not (n .pins .sck)) n) (clocked (not (n .pins .sck)) n))
+  unfolding selectRemembered
+  own-edge sdi = told-edge sdi (n .pins .ss)

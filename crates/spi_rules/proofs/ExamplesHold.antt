@@ -1,14 +1,15 @@
 -- The definitions are run on document 01's figures.
 --     examples-hold            its checked examples a to k and its worked script, as one list
 --     further-examples-hold    examples of rules that those do not touch
+--     frame-examples-hold      document 02, Three: frames
 -- Assumes nothing.
 use mathlib.Core.Bool.{true}
 use mathlib.Core.Path.{_≡_, refl}
 use Rattle.spi_rules.specs.Bits.{samples, shiftedIn, receivedAfter, shownBit, sdoAfter, progressed}
 use Rattle.spi_rules.specs.Buffers.{emptyTransmit, emptyReceive, firstWaiting, firstUnread, written, departed, appended, taken}
-use Rattle.spi_rules.specs.Calls.{refuse, answering, poweredUp, wordTaken, readBuf, readOf, turnsOn, turnsOff, statWritten, writeStat, withCon1, withCon2, configured, wordWritten, writeBuf, writeOf, tickOf, pinsOf, clearOf, performOf, interruptOf, sckOf, undriven, sdoOf}
+use Rattle.spi_rules.specs.Calls.{refuse, answering, poweredUp, wordTaken, readBuf, readOf, turnsOn, turnsOff, statWritten, writeStat, withCon1, withCon2, configured, wordWritten, writeBuf, writeOf, tickOf, pinsOf, clearOf, performOf, interruptOf, sckOf, undriven, sdoOf, ssOf}
 use Rattle.spi_rules.specs.Choice.{if_then_else_}
-use Rattle.spi_rules.specs.Edge.{wordEdges, begun, shifted, advanced, advancedIfBegun, underWay, clocked, edged, stepped}
+use Rattle.spi_rules.specs.Edge.{wordEdges, begun, shifted, advanced, advancedIfBegun, awaitsPulse, underWay, pulseDue, pulseAfter, pulsed, clocked, edged, stepped}
 use Rattle.spi_rules.specs.Finish.{overflowed, wordAppended, isLost, delivered, sentDropped, freed, finished}
 use Rattle.spi_rules.specs.Interrupts.{raises, noted}
 use Rattle.spi_rules.specs.Loading.{wordLeaves, moved, canLoad, loaded, nextTop, sdoAt, rested}
@@ -17,11 +18,11 @@ use Rattle.spi_rules.specs.Registers.{bitOf, weighed, con1From, con1Valu
 use Rattle.spi_rules.specs.Ring.{next}
 use Rattle.spi_rules.specs.Select.{selectRemembered, aborted, selectSeen}
 use Rattle.spi_rules.specs.Settings.{widthOf, depthOf}
-use Rattle.spi_rules.specs.Examples.{examples, furtherExamples}
+use Rattle.spi_rules.specs.Examples.{examples, furtherExamples, frameExamples}
 
-lists : (examples ≡ true) × (furtherExamples ≡ true)
-unfolding samples shiftedIn receivedAfter shownBit sdoAfter progressed emptyTransmit emptyReceive firstWaiting firstUnread written departed appended taken refuse answering poweredUp wordTaken readBuf readOf turnsOn turnsOff statWritten writeStat withCon1 withCon2 configured wordWritten writeBuf writeOf tickOf pinsOf clearOf performOf interruptOf sckOf undriven sdoOf if_then_else_ wordEdges begun shifted advanced advancedIfBegun underWay clocked edged stepped overflowed wordAppended isLost delivered sentDropped freed finished raises noted wordLeaves moved canLoad loaded nextTop sdoAt rested numberOf bitOf weighed con1From con1Value con2From con2Value lowBits spitbf spirbf srxmpt srmpt atMost7 spibec statValue statSettings spirovAfter statEngine enabledEngine disabledEngine next selectRemembered aborted selectSeen widthOf depthOf
-lists = (refl, refl)
+lists : (examples ≡ true) × (furtherExamples ≡ true) × (frameExamples ≡ true)
+unfolding samples shiftedIn receivedAfter shownBit sdoAfter progressed emptyTransmit emptyReceive firstWaiting firstUnread written departed appended taken refuse answering poweredUp wordTaken readBuf readOf turnsOn turnsOff statWritten writeStat withCon1 withCon2 configured wordWritten writeBuf writeOf tickOf pinsOf clearOf performOf interruptOf sckOf undriven sdoOf ssOf if_then_else_ wordEdges begun shifted advanced advancedIfBegun awaitsPulse underWay pulseDue pulseAfter pulsed clocked edged stepped overflowed wordAppended isLost delivered sentDropped freed finished raises noted wordLeaves moved canLoad loaded nextTop sdoAt rested numberOf bitOf weighed con1From con1Value con2From con2Value lowBits spitbf spirbf srxmpt srmpt atMost7 spibec statValue statSettings spirovAfter statEngine enabledEngine disabledEngine next selectRemembered aborted selectSeen widthOf depthOf
+lists = (refl, refl, refl)
 
 -- Examples a to k and the worked script.
 pub examples-hold : examples ≡ true
@@ -30,3 +31,7 @@ examples-hold = lists .0
 -- SPIROV, CKE 1, select, flag, filler, registers and clocks.
 pub further-examples-hold : furtherExamples ≡ true
 further-examples-hold = lists .1
+
+-- The framed pairings.
+pub frame-examples-hold : frameExamples ≡ true
+frame-examples-hold = lists .2

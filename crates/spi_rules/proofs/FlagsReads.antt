@@ -1,8 +1,8 @@
 -- What reads of STAT, CON1 and CON2 show, bit by bit, in the page's words (specs/Flags.antt).
 --     reads-show   after any calls
 -- Assumes nothing.
-use Prim.Native.Nat.{ℕ, zero, suc, _+_, _*_, _%_, _^_, _<_, _≤_}
-use mathlib.Core.Bool.{Bool, true, false, not, _&&_, _||_}
+use Prim.Native.Nat.{ℕ, zero, suc, _+_, _*_, _<_, _≤_}
+use mathlib.Core.Bool.{Bool, true, false, _&&_}
 use mathlib.Core.List.{List, [], _∷_, _++_}
 use mathlib.Core.Path.{_≡_, refl, sym, ap, ap₂, _∙_}
 use native.Mathlib.Nat.{mod-eq-of-lt}
@@ -19,17 +19,16 @@ use Rattle.spi_rules.specs.declared.Module.{Module}
 use Rattle.spi_rules.specs.declared.Shift.{Shift}
 use Rattle.spi_rules.specs.declared.Shift.the-variants.{Free, Loaded, Begun}
 use Rattle.spi_rules.specs.declared.Answer.the-variants.{Value}
-use Rattle.spi_rules.specs.declared.Call.the-variants.{Read}
 use Rattle.spi_rules.specs.Choice.{if_then_else_}
-use Rattle.spi_rules.specs.Settings.{depthOf, ssenClient}
+use Rattle.spi_rules.specs.Settings.{depthOf}
 use Rattle.spi_rules.specs.Registers.{bitOf, weighed, con1Value, con2Value, isFree, spitbf, spirbf, showsEnhanced, srxmpt, srmpt, atMost7, spibec, statValue}
 use Rattle.spi_rules.specs.Buffers.{full}
 use Rattle.spi_rules.specs.Words.{waitingIn, unreadIn, unfinished, leftBuffer}
 use Rattle.spi_rules.specs.Calls.{readOf, performOf}
 use Rattle.spi_rules.specs.Invariant.{ModuleHolds}
-use Rattle.spi_rules.specs.Ledger.{Wire, spelled}
+use Rattle.spi_rules.specs.Ledger.{Wire, spelled, isQuiet}
 use Rattle.spi_rules.specs.Watch.{Watched}
-use Rattle.spi_rules.specs.Flags.{bits, con1Named, con2Bits, isQuiet, shiftsNone, counts, statBits}
+use Rattle.spi_rules.specs.Flags.{bits, con1Named, con2Bits, shiftsNone, counts, statBits}
 use Rattle.spi_rules.specs.Demands.{wireOf, ReadsShow}
 use Rattle.spi_rules.proofs.Keeps.{if-keeps, if-true, if-false, if-ap, and-false, by-test}
 use Rattle.spi_rules.proofs.Sizes.{depth-most}

@@ -5,10 +5,10 @@
 use Prim.Native.Nat.{ℕ, _+_, _-_, _/_, _≤_, zero-le}
 use mathlib.Core.Bool.{Bool, true, false, not, _&&_, _||_, Bool·beq}
 use mathlib.Core.List.{List, [], _∷_, _++_}
-use mathlib.Core.Path.{_≡_, refl, sym, ap, ap₂, subst, _∙_}
+use mathlib.Core.Path.{_≡_, refl, sym, ap, ap₂, _∙_}
 use native.Mathlib.Omega.{arith}
 use borrow.Author.Tests.{eqb-true, eqb-false, not-true, not-false}
-use lib.Dec.{eqb, ltb}
+use lib.Dec.{ltb}
 use lib.ListN.{length, getD}
 use Rattle.spi_rules.specs.declared.Settings.{Settings}
 use Rattle.spi_rules.specs.declared.Engine.{Engine}
@@ -20,25 +20,25 @@ use Rattle.spi_rules.specs.declared.Shift.the-variants.{Free, Loaded, Be
 use Rattle.spi_rules.specs.declared.Answer.the-variants.{Done}
 use Rattle.spi_rules.specs.declared.Call.{Call}
 use Rattle.spi_rules.specs.declared.Call.the-variants.{Read, Write, Tick, Pin, Clear}
-use Rattle.spi_rules.specs.declared.Sdo.{Sdo}
-use Rattle.spi_rules.specs.declared.Sdo.the-variants.{Low, High, Undriven}
+use Rattle.spi_rules.specs.declared.Output.{Output}
+use Rattle.spi_rules.specs.declared.Output.the-variants.{Low, High, Undriven}
 use Rattle.spi_rules.specs.Choice.{if_then_else_}
-use Rattle.spi_rules.specs.Settings.{widthOf, depthOf, ckeOf, ssenClient}
+use Rattle.spi_rules.specs.Settings.{widthOf, depthOf, ckeOf, ssenClient, frameHost}
 use Rattle.spi_rules.specs.Registers.{bitOf, statSettings, statEngine, enabledEngine, disabledEngine}
-use Rattle.spi_rules.specs.Buffers.{empty, firstWaiting, departed, waiting}
+use Rattle.spi_rules.specs.Buffers.{empty, firstWaiting, waiting}
 use Rattle.spi_rules.specs.Interrupts.{noted}
 use Rattle.spi_rules.specs.Loading.{wordLeaves, moved, canLoad, loaded, nextTop, isBegun, sdoAt, rested}
 use Rattle.spi_rules.specs.Finish.{overflowed, wordAppended, isLost, delivered, sentDropped, freed, finished}
 use Rattle.spi_rules.specs.Select.{selectRemembered, aborted, deselected, selectSeen}
-use Rattle.spi_rules.specs.Edge.{wordEdges, shifted, advanced, advancedIfBegun, underWay, clocked, edged, levels, stepped}
+use Rattle.spi_rules.specs.Edge.{wordEdges, shifted, advanced, advancedIfBegun, underWay, pulsed, clocked, edged, levels, stepped}
 use Rattle.spi_rules.specs.Words.{unfinished}
-use Rattle.spi_rules.specs.Calls.{refuse, answering, wordTaken, wordWritten, readBuf, readOf, turnsOn, turnsOff, statWritten, writeStat, withCon1, withCon2, configured, writeBuf, writeOf, tickOf, pinsOf, clearOf, performOf, sckOf, undriven, sdoOf}
-use Rattle.spi_rules.specs.Invariant.{ProgressHolds, ShiftHolds, ModuleHolds}
+use Rattle.spi_rules.specs.Calls.{refuse, answering, wordTaken, wordWritten, readBuf, readOf, turnsOn, turnsOff, statWritten, writeStat, withCon1, withCon2, configured, writeBuf, writeOf, tickOf, pinsOf, clearOf, performOf, sckOf, undriven, sdoOf, ssBy, ssOf}
+use Rattle.spi_rules.specs.Invariant.{ShiftHolds, ModuleHolds}
 use Rattle.spi_rules.specs.Ledger.{Wire, Ledger, sent}
 use Rattle.spi_rules.specs.Watch.{Watched, watchedCall}
-use Rattle.spi_rules.specs.Flags.{firstUnsent, levelShown, sdoShown, pinShown}
+use Rattle.spi_rules.specs.Flags.{firstUnsent, levelShown, sdoShown}
 use Rattle.spi_rules.specs.Demands.{wireOf, PinsShow}
-use Rattle.spi_rules.proofs.Keeps.{if-keeps, if-true, if-false, and-left, and-right, and-rest, and-rest-first, by-test, clash}
+use Rattle.spi_rules.proofs.Keeps.{if-keeps, if-true, if-false, and-left, and-right, and-rest-first, by-test, clash}
 use Rattle.spi_rules.proofs.Parts.{BuffersHold, queued}
 use Rattle.spi_rules.proofs.Sizes.{depth-most, power-least, no-bit-above}
 use Rattle.spi_rules.proofs.BuffersOrder.{none-waiting, left-takes-first}
@@ -177,7 +177,7 @@ module _ (s : Settings) (cke : ckeOf s ≡ false) where
 
   stepped-sdo : (sck sdi ss : Bool) (n : Engine) → isBegun (stepped s (levels sck sdi ss) n .shift) ≡ false →
       stepped s (levels sck sdi ss) n .pins .sdo ≡ n .pins .sdo
-  unfolding stepped edged clocked
+  unfolding stepped edged clocked pulsed
   stepped-sdo sck sdi ss n =
       let x : Engine = selectSeen s ss n in
       let P : Engine → Type 0 = λ y. isBegun (y .shift) ≡ false → y .pins .sdo ≡ n .pins .sdo in
@@ -286,9 +286,9 @@ module _ (m : Module) where
       same-leaves _ refl (λ a cke d. written-sdo (m .settings) cke _ (m .engine))
       (λ off. clash (m .settings .spien) (not-false (m .settings .spien) on) off)))))))
 
-  tick-leaves : (sdi : Bool) → Leaves m (tickOf m sdi)
+  tick-leaves : (sdi ss : Bool) → Leaves m (tickOf m sdi ss)
   unfolding tickOf answering refuse
-  tick-leaves sdi =
+  tick-leaves sdi ss =
       let P = Leaves m in
       if-keeps P (not (m .settings .spien)) _ _ (λ e. stays-leaves _ refl)
       (λ on.
@@ -315,7 +315,7 @@ module _ (m : Module) where
   unfolding performOf clearOf answering
   call-leaves (Read register) = read-leaves register
   call-leaves (Write register v) = write-leaves register v
-  call-leaves (Tick sdi) = tick-leaves sdi
+  call-leaves (Tick sdi ss) = tick-leaves sdi ss
   call-leaves (Pin sck sdi ss) = pins-leave sck sdi ss
   call-leaves Clear = same-leaves _ refl (λ a b d. refl) (λ a. refl)
 
@@ -351,13 +351,13 @@ sdo-shown x c h was =
 -- The pins as others see them.
 pub pins-show : (x : Watched) → (x .now .settings .spien ≡ true → TiedNow (x .now .settings) (x .now .engine) (x .ledger)) →
     PinsShow x
-unfolding sdoOf undriven sckOf
+unfolding sdoOf undriven sckOf ssOf
 pins-show x was =
     let s : Settings = x .now .settings in
     let p : Pins = x .now .engine .pins in
-    let shown : Bool → Sdo =
+    let shown : Bool → Output =
     λ ss.
-    if not (s .spien) || (s .con1 .dissdo || ((not (s .con1 .msten) && s .con1 .ssen) && ss)) then Undriven
+    if not (s .spien) || (s .con1 .dissdo || ((not (s .con1 .msten) && (not (s .con2 .frmen) && s .con1 .ssen)) && ss)) then Undriven
     else if p .sdo then High
     else Low in
     record {
@@ -365,19 +365,25 @@ pins-show x was =
           by-test (s .spien)
           (λ on. ap shown (sym (was on .ss)))
           (λ off.
-          if-true (not (s .spien) || (s .con1 .dissdo || ((not (s .con1 .msten) && s .con1 .ssen) && p .ss))) _ _ (opens off (p .ss))
-          ∙ sym (if-true (not (s .spien) || (s .con1 .dissdo || ((not (s .con1 .msten) && s .con1 .ssen) && x .ledger .ss))) _ _
+          if-true (not (s .spien) || (s .con1 .dissdo || ((not (s .con1 .msten) && (not (s .con2 .frmen) && s .con1 .ssen)) && p .ss))) _ _ (opens off (p .ss))
+          ∙ sym (if-true (not (s .spien) || (s .con1 .dissdo || ((not (s .con1 .msten) && (not (s .con2 .frmen) && s .con1 .ssen)) && x .ledger .ss))) _ _
           (opens off (x .ledger .ss))));
       sck = λ on. sym (was on .sck);
+      ss =
+          by-test (s .spien)
+          (λ on. ap (λ (b : Bool). ssBy s (record { sck = p .sck; ss = p .ss; sdo = p .sdo; pulse = b })) (sym (was on .pulse)))
+          (λ off.
+          let none : not (s .spien && frameHost s) ≡ true = ap (λ (b : Bool). not (b && frameHost s)) off in
+          if-true (not (s .spien && frameHost s)) _ _ none ∙ sym (if-true (not (s .spien && frameHost s)) _ _ none));
     }
   where
     opens : x .now .settings .spien ≡ false → (ss : Bool) →
         (not (x .now .settings .spien)
-        || (x .now .settings .con1 .dissdo || ((not (x .now .settings .con1 .msten) && x .now .settings .con1 .ssen) && ss)))
+        || (x .now .settings .con1 .dissdo || ((not (x .now .settings .con1 .msten) && (not (x .now .settings .con2 .frmen) && x .now .settings .con1 .ssen)) && ss)))
         ≡ true
     opens off ss =
         ap
         (λ (b : Bool).
         not b
-        || (x .now .settings .con1 .dissdo || ((not (x .now .settings .con1 .msten) && x .now .settings .con1 .ssen) && ss)))
+        || (x .now .settings .con1 .dissdo || ((not (x .now .settings .con1 .msten) && (not (x .now .settings .con2 .frmen) && x .now .settings .con1 .ssen)) && ss)))
         off

@@ -30,7 +30,7 @@ unfolding wordTaken noted
 word-taken-holds s n h =
     record {
       buffers = record { transmit = h .buffers .transmit; receive = taken-keeps s (n .receive) (h .buffers .receive) };
-      shift = shift-same s n _ _ _ _ _ _ _ _ (λ on. on) (n .shift) (λ busy. refl) (h .shift);
+      shift = shift-same s n _ _ _ _ _ _ _ _ _ (λ on. on) (n .shift) (λ busy. refl) (h .shift);
       rest = h .rest;
     }
 
@@ -82,5 +82,5 @@ module _ (s : Settings) (on : s .spien ≡ true) (n : Engine) (h : EngineHolds s
       rested-holds s _
       (record {
         buffers = record { transmit = l .buffers .transmit; receive = l .buffers .receive };
-        shift = shift-same s (loaded s q) _ _ _ _ _ _ _ _ (λ e. e) (loaded s q .shift) (λ busy. refl) (l .shift);
+        shift = shift-same s (loaded s q) _ _ _ _ _ _ _ _ _ (λ e. e) (loaded s q .shift) (λ busy. refl) (l .shift);
       })

@@ -7,9 +7,10 @@
 --     selected-holds    select is seen, and an abort with it
 --     edged-holds       an edge to a level
 --     stepped-holds     the levels are seen
+--     awaits-framed, framed-not-host, pulsed-holds   frames: who awaits a pulse, and that it moves nothing else
 -- Assumes nothing.
 use Prim.Native.Nat.{ℕ, _+_, _-_, _*_, _/_, _%_, _^_, _<_}
-use mathlib.Core.Bool.{Bool, true, false, not, _&&_, Bool·beq}
+use mathlib.Core.Bool.{Bool, true, false, not, _&&_, _||_, Bool·beq}
 use mathlib.Core.Path.{_≡_, refl, sym, ap, _∙_}
 use native.Mathlib.Omega.{arith}
 use borrow.Author.Tests.{ltb-true, ltb-false, eq-eqb, eqb-false, not-true}
@@ -20,20 +21,20 @@ use Rattle.spi_rules.specs.declared.Progress.{Progress}
 use Rattle.spi_rules.specs.declared.Shift.{Shift}
 use Rattle.spi_rules.specs.declared.Shift.the-variants.{Free, Loaded, Begun}
 use Rattle.spi_rules.specs.Choice.{if_then_else_}
-use Rattle.spi_rules.specs.Settings.{widthOf, ssenClient, ownClock}
+use Rattle.spi_rules.specs.Settings.{widthOf, framed, ckeOf, silent, ssenClient, ownClock, unframedHost}
 use Rattle.spi_rules.specs.Registers.{bitOf, isFree}
 use Rattle.spi_rules.specs.Buffers.{empty, firstWaiting}
 use Rattle.spi_rules.specs.Bits.{samples, receivedAfter, shownBit, sdoAfter, progressed}
 use Rattle.spi_rules.specs.Loading.{nextTop, isBegun, rested, sdoAt}
 use Rattle.spi_rules.specs.Select.{selectRemembered, aborted, deselected, selectSeen}
-use Rattle.spi_rules.specs.Edge.{wordEdges, fresh, begun, shifted, advanced, advancedIfBegun, underWay, clocked, edged, levels, stepped}
+use Rattle.spi_rules.specs.Edge.{wordEdges, fresh, begun, shifted, advanced, advancedIfBegun, awaitsPulse, underWay, pulsed, clocked, edged, levels, stepped}
 use Rattle.spi_rules.specs.Invariant.{ProgressHolds, ShiftHolds}
 use Rattle.spi_rules.proofs.Keeps.{if-keeps, clash, and-left, and-right, and-rest, and-rest-first, like, unlike}
 use Rattle.spi_rules.proofs.Parts.{TransmitHolds, BuffersHold, WordHolds, EdgeHolds, EngineHolds, EdgedHolds}
 use Rattle.spi_rules.proofs.Sizes.{width-least, power-least, no-bit-above}
 use Rattle.spi_rules.proofs.Sampling.{sampled-none, sampled-all, shown-sampled, shown-kept, shown-changed, received-fits, turned, beq-high, beq-low}
 use Rattle.spi_rules.proofs.BuffersKept.{first-waiting-fits}
-use Rattle.spi_rules.proofs.InvariantShift.{shift-is}
+use Rattle.spi_rules.proofs.InvariantShift.{shift-is, shift-same}
 use Rattle.spi_rules.proofs.InvariantFinish.{rested-holds, finished-holds}
 
 -- An SSEN client has no clock of its own.
@@ -43,14 +44,36 @@ client-not-own s c own =
     let client : s .con1 .msten ≡ false = not-true (s .con1 .msten) (and-left (not (s .con1 .msten)) _ c) in
     clash (s .con1 .msten) host client
 
+client-not-host : {A : Type 0} (s : Settings) → ssenClient s ≡ true → unframedHost s ≡ true → A
+client-not-host s c own = client-not-own s c (and-left (ownClock s) _ own)
+
+-- Only a framed module awaits a pulse.
+pub awaits-framed : (s : Settings) (n : Engine) → awaitsPulse s n ≡ true → framed s ≡ true
+unfolding awaitsPulse
+awaits-framed s n e = and-left (framed s) _ (and-left (framed s && (s .con2 .spifsd || not (s .con2 .frmdly))) _ e)
+
+-- The clock of an unframed host stops.
+pub framed-not-host : {A : Type 0} (s : Settings) → framed s ≡ true → unframedHost s ≡ true → A
+framed-not-host s f own = clash (framed s) f (not-true (framed s) (and-right (ownClock s) _ own))
+
+-- The pulse is decided at the end of an edge, and moves nothing else.
+pub pulsed-holds : (s : Settings) (sck : Bool) (n : Engine) → EngineHolds s n → EngineHolds s (pulsed s sck n)
+unfolding pulsed
+pulsed-holds s sck n h =
+    record {
+      buffers = record { transmit = h .buffers .transmit; receive = h .buffers .receive };
+      shift = shift-same s n _ _ _ _ _ _ _ _ _ (λ on. on) (n .shift) (λ busy. refl) (h .shift);
+      rest = h .rest;
+    }
+
 module _ (s : Settings) (sdi : Bool) (p : Progress) (n : Engine) (h : EdgeHolds s n p) where
   -- SDO after an edge short of 2w.
   shifted-shows : sdoAfter s (p .word) (p .edges + 1) (n .pins .sdo)
       ≡ bitOf (p .word)
-      (widthOf s - 1 - (if s .con1 .cke then p .edges + 1 else p .edges + 1 - 1) / 2)
+      (widthOf s - 1 - (if ckeOf s then p .edges + 1 else p .edges + 1 - 1) / 2)
   unfolding sdoAfter shownBit
   shifted-shows =
-      let cke : Bool = s .con1 .cke in
+      let cke : Bool = ckeOf s in
       let at : ℕ → Bool = λ k. bitOf (p .word) (widthOf s - 1 - k) in
       if-keeps (λ (b : Bool). b ≡ at ((if cke then p .edges + 1 else p .edges + 1 - 1) / 2)) (samples cke (p .edges + 1)) _ _
       (λ e. h .shows e ∙ ap at (sym (shown-sampled cke (p .edges))))
@@ -97,7 +120,7 @@ module _ (s : Settings) (sdi : Bool) (p : Progress) (n : Engine) (h : EdgeHolds 
   -- The word received at edge 2w fits the width.
   pub last-fits : p .edges + 1 ≡ 2 * widthOf s → receivedAfter s (p .edges + 1) sdi (p .received) < 2 ^ widthOf s
   last-fits e =
-      rw (sampled-all (s .con1 .cke) (p .edges + 1) (widthOf s) e)
+      rw (sampled-all (ckeOf s) (p .edges + 1) (widthOf s) e)
       at (received-fits s (p .edges) sdi (p .received) (h .received))
 
   -- The engine after an edge of a begun word.
@@ -136,14 +159,14 @@ module _ (s : Settings) (sck : Bool) (n : Engine) where
         received = h .received;
         clock = edge ∙ ap not (h .clock) ∙ turned (s .con1 .ckp) (p .edges);
         shows = λ e.
-            h .shows ∙ ap (λ (k : ℕ). bitOf (p .word) (widthOf s - 1 - k)) (shown-kept (s .con1 .cke) (p .edges) e);
+            h .shows ∙ ap (λ (k : ℕ). bitOf (p .word) (widthOf s - 1 - k)) (shown-kept (ckeOf s) (p .edges) e);
         sent =
             record { fits = h .word; zeros = h .zeros; host = h .host; selected = h .selected; first = h .first };
       }
 
   -- A fresh word is given its first edge. With CKE 1 SDO shows its top bit before it.
   pub fresh-edge : {filler : Bool} {word : ℕ} → Bool·beq sck (s .con1 .ckp) ≡ false →
-      (s .con1 .cke ≡ true → n .pins .sdo ≡ bitOf word (widthOf s - 1)) → WordHolds s n filler word →
+      (ckeOf s ≡ true → n .pins .sdo ≡ bitOf word (widthOf s - 1)) → WordHolds s n filler word →
       EdgeHolds s (clocked sck n) (fresh filler word)
   unfolding clocked wordEdges samples
   fresh-edge {word = word} away top h =
@@ -152,15 +175,15 @@ module _ (s : Settings) (sck : Bool) (n : Engine) where
         received = power-least _;
         clock = unlike sck (s .con1 .ckp) away ∙ sym (beq-low (s .con1 .ckp));
         shows = λ e.
-            top (sym (beq-high (s .con1 .cke)) ∙ e)
-            ∙ ap (bitOf word) (omega (arith, sampled-none (s .con1 .cke)));
+            top (sym (beq-high (ckeOf s)) ∙ e)
+            ∙ ap (bitOf word) (omega (arith, sampled-none (ckeOf s)));
         sent =
             record { fits = h .fits; zeros = h .zeros; host = h .host; selected = h .selected; first = h .first };
       }
 
   -- A fresh word begins.
   begins : (sdi : Bool) {filler : Bool} {word : ℕ} → BuffersHold s n → Bool·beq sck (s .con1 .ckp) ≡ false →
-      (s .con1 .cke ≡ true → n .pins .sdo ≡ bitOf word (widthOf s - 1)) → WordHolds s n filler word →
+      (ckeOf s ≡ true → n .pins .sdo ≡ bitOf word (widthOf s - 1)) → WordHolds s n filler word →
       EdgedHolds s sck sdi n (Begun (fresh filler word))
   unfolding advancedIfBegun
   begins sdi b away top h = advanced-holds s sdi _ (clocked sck n) (fresh-edge away top h) (clocked-buffers b)
@@ -190,25 +213,25 @@ module _ (s : Settings) (n : Engine) where
         first = λ c f. (omega arith, refl);
       }
 
-  -- A filler can be sent by a client that is not deselected.
-  pub filler-word : s .con1 .msten ≡ false → deselected s (n .pins .ss) ≡ false → WordHolds s n true 0
+  -- A filler can be sent by a module that is not silent and not deselected.
+  pub filler-word : silent s ≡ false → deselected s (n .pins .ss) ≡ false → WordHolds s n true 0
   filler-word client d =
       record {
         fits = power-least (widthOf s);
         zeros = λ f. refl;
-        host = λ m. clash (s .con1 .msten) m client;
+        host = λ m. clash (silent s) m client;
         selected = and-rest (ssenClient s) (n .pins .ss) d;
         first = λ c f. clash true refl f;
       }
 
 module _ (s : Settings) (on : s .spien ≡ true) (n : Engine) (h : EngineHolds s n) where
   -- With CKE 1 SDO shows the top bit of a loaded word.
-  pub loaded-top : (word : ℕ) → n .shift ≡ Loaded word → s .con1 .cke ≡ true → n .pins .sdo ≡ bitOf word (widthOf s - 1)
+  pub loaded-top : (word : ℕ) → n .shift ≡ Loaded word → ckeOf s ≡ true → n .pins .sdo ≡ bitOf word (widthOf s - 1)
   unfolding nextTop
   loaded-top word e cke = h .rest on cke (ap isBegun e) ∙ ap (nextTop s (n .transmit)) e
 
   -- With CKE 1 and the shift register free SDO shows the top bit of the first waiting word of an SSEN client.
-  pub first-top : n .shift ≡ Free → (ssenClient s && not (empty (n .transmit .count))) ≡ true → s .con1 .cke ≡ true →
+  pub first-top : n .shift ≡ Free → (ssenClient s && not (empty (n .transmit .count))) ≡ true → ckeOf s ≡ true →
       n .pins .sdo ≡ bitOf (firstWaiting (n .transmit)) (widthOf s - 1)
   unfolding nextTop
   first-top e c cke =
@@ -216,7 +239,7 @@ module _ (s : Settings) (on : s .spien ≡ true) (n : Engine) (h : EngineHolds s
       ∙ ap (λ (b : Bool). b && bitOf (firstWaiting (n .transmit)) (widthOf s - 1)) c
 
   -- With CKE 1 and nothing to send SDO is low.
-  pub filler-top : n .shift ≡ Free → (ssenClient s && not (empty (n .transmit .count))) ≡ false → s .con1 .cke ≡ true →
+  pub filler-top : n .shift ≡ Free → (ssenClient s && not (empty (n .transmit .count))) ≡ false → ckeOf s ≡ true →
       n .pins .sdo ≡ bitOf 0 (widthOf s - 1)
   unfolding nextTop
   filler-top e c cke =
@@ -225,12 +248,12 @@ module _ (s : Settings) (on : s .spien ≡ true) (n : Engine) (h : EngineHolds s
       ∙ sym (no-bit-above 0 0 (widthOf s - 1) (power-least 0) (omega arith))
 
 module _ (s : Settings) (on : s .spien ≡ true) (sck sdi : Bool) (n : Engine) (h : EngineHolds s n)
-    (edge : sck ≡ not (n .pins .sck)) (busy : ownClock s ≡ true → isFree (n .shift) ≡ false) where
+    (edge : sck ≡ not (n .pins .sck)) (busy : unframedHost s ≡ true → isFree (n .shift) ≡ false) where
   -- An edge to a level while deselected.
   deselected-holds : deselected s (n .pins .ss) ≡ true → (sh : Shift) → n .shift ≡ sh → ShiftHolds s n sh →
       EngineHolds s (clocked sck n)
   unfolding clocked
-  deselected-holds d Free e k = stays s sck n Free h e (k .0, λ f. client-not-own s (and-left (ssenClient s) _ d))
+  deselected-holds d Free e k = stays s sck n Free h e (k .0, λ f. client-not-host s (and-left (ssenClient s) _ d))
   deselected-holds d (Loaded word) e k = clash (ssenClient s) (and-left (ssenClient s) _ d) (k .0)
   deselected-holds d (Begun p) e k =
       clash (n .pins .ss) (and-right (ssenClient s) _ d) (k .selected (and-left (ssenClient s) _ d))
@@ -240,7 +263,7 @@ module _ (s : Settings) (on : s .spien ≡ true) (sck sdi : Bool) (n : Engine) (
       Bool·beq sck (s .con1 .ckp) ≡ false → EdgedHolds s sck sdi n (begun s n Free)
   unfolding begun advancedIfBegun clocked
   begun-holds d e k away =
-      if-keeps (EdgedHolds s sck sdi n) (s .con1 .msten) _ _
+      if-keeps (EdgedHolds s sck sdi n) (silent s) _ _
       (λ host. stays s sck n Free h e (k .0, λ f own. clash true refl (sym (ap isFree e) ∙ busy own)))
       (λ client.
       if-keeps (EdgedHolds s sck sdi n) (ssenClient s && not (empty (n .transmit .count))) _ _
@@ -252,20 +275,27 @@ module _ (s : Settings) (on : s .spien ≡ true) (sck sdi : Bool) (n : Engine) (
 
   -- What is under way at an edge to a level while not deselected.
   under-way-holds : deselected s (n .pins .ss) ≡ false → (sh : Shift) → n .shift ≡ sh → ShiftHolds s n sh →
-      EdgedHolds s sck sdi n (if Bool·beq sck (s .con1 .ckp) then sh else begun s n sh)
+      EdgedHolds s sck sdi n (if Bool·beq sck (s .con1 .ckp) then sh else if awaitsPulse s n then sh else begun s n sh)
   unfolding begun advancedIfBegun clocked
   under-way-holds d Free e k =
       if-keeps (EdgedHolds s sck sdi n) (Bool·beq sck (s .con1 .ckp)) _ _
       (λ to-idle. stays s sck n Free h e (k .0, λ f own. like sck (s .con1 .ckp) to-idle))
-      (begun-holds d e k)
+      (λ away.
+      if-keeps (EdgedHolds s sck sdi n) (awaitsPulse s n) _ _
+      (λ awaits. stays s sck n Free h e (k .0, λ f. framed-not-host s (awaits-framed s n awaits)))
+      (λ starts. begun-holds d e k away))
   under-way-holds d (Loaded word) e k =
       if-keeps (EdgedHolds s sck sdi n) (Bool·beq sck (s .con1 .ckp)) _ _
       (λ to-idle. stays s sck n (Loaded word) h e (k .0, k .1, λ own. like sck (s .con1 .ckp) to-idle))
-      (λ away. begins s sck n sdi (h .buffers) away (loaded-top s on n h word e) (loaded-word s n word k))
+      (λ away.
+      if-keeps (EdgedHolds s sck sdi n) (awaitsPulse s n) _ _
+      (λ awaits. stays s sck n (Loaded word) h e (k .0, k .1, framed-not-host s (awaits-framed s n awaits)))
+      (λ starts. begins s sck n sdi (h .buffers) away (loaded-top s on n h word e) (loaded-word s n word k)))
   under-way-holds d (Begun p) e k =
       let further : EdgedHolds s sck sdi n (Begun p) =
       advanced-holds s sdi p (clocked sck n) (progress-edge s sck n p edge k) (clocked-buffers s sck n (h .buffers)) in
-      if-keeps (EdgedHolds s sck sdi n) (Bool·beq sck (s .con1 .ckp)) _ _ (λ to-idle. further) (λ away. further)
+      if-keeps (EdgedHolds s sck sdi n) (Bool·beq sck (s .con1 .ckp)) _ _ (λ to-idle. further)
+      (λ away. if-keeps (EdgedHolds s sck sdi n) (awaitsPulse s n) _ _ (λ awaits. further) (λ starts. further))
 
   -- An edge to a level.
   pub edged-holds : EngineHolds s (edged s sck sdi n)
@@ -273,7 +303,7 @@ module _ (s : Settings) (on : s .spien ≡ true) (sck sdi : Bool) (n : Engine) (
   edged-holds =
       if-keeps (EngineHolds s) (deselected s (n .pins .ss)) _ _
       (λ d. deselected-holds d (n .shift) refl (h .shift))
-      (λ d. under-way-holds d (n .shift) refl (h .shift))
+      (λ d. pulsed-holds s sck _ (under-way-holds d (n .shift) refl (h .shift)))
 
 module _ (s : Settings) (ss : Bool) (n : Engine) (h : EngineHolds s n) where
   -- Select high takes the begun word back.
@@ -283,7 +313,7 @@ module _ (s : Settings) (ss : Bool) (n : Engine) (h : EngineHolds s n) where
       rested-holds s _
       (record {
         buffers = record { transmit = h .buffers .transmit; receive = h .buffers .receive };
-        shift = (λ out. clash (ssenClient s) c out, λ on. client-not-own s c);
+        shift = (λ out. clash (ssenClient s) c out, λ on. client-not-host s c);
       })
 
   -- The shift register when select is remembered and aborts nothing.
@@ -341,9 +371,9 @@ selected-shift s ss n own =
     (λ e. client-not-own s (and-left (ssenClient s) ss (and-left (deselected s ss) _ e)) own)
     (λ e. refl)
 
--- The levels are seen. A host with its own clock makes an edge only while its shift register is not free.
+-- The levels are seen. An unframed host with its own clock makes an edge only while its shift register is not free.
 pub stepped-holds : (s : Settings) → s .spien ≡ true → (sck sdi ss : Bool) (n : Engine) →
-    (ownClock s ≡ true → isFree (n .shift) ≡ false) → EngineHolds s n → EngineHolds s (stepped s (levels sck sdi ss) n)
+    (unframedHost s ≡ true → isFree (n .shift) ≡ false) → EngineHolds s n → EngineHolds s (stepped s (levels sck sdi ss) n)
 unfolding stepped
 stepped-holds s on sck sdi ss n busy h =
     if-keeps (EngineHolds s) (Bool·beq sck (n .pins .sck)) _ _
@@ -351,4 +381,4 @@ stepped-holds s on sck sdi ss n busy h =
     (λ e.
     edged-holds s on sck sdi (selectSeen s ss n) (selected-holds s ss n h)
     (unlike sck (n .pins .sck) e ∙ ap not (sym (selected-sck s ss n)))
-    (λ own. ap isFree (selected-shift s ss n own) ∙ busy own))
+    (λ own. ap isFree (selected-shift s ss n (and-left (ownClock s) _ own)) ∙ busy own))

@@ -13,7 +13,7 @@ use Rattle.spi_rules.specs.declared.Engine.{Engine}
 use Rattle.spi_rules.specs.declared.Shift.{Shift}
 use Rattle.spi_rules.specs.declared.Shift.the-variants.{Free, Loaded, Begun}
 use Rattle.spi_rules.specs.declared.Event.{Event}
-use Rattle.spi_rules.specs.Settings.{widthOf, ssenClient}
+use Rattle.spi_rules.specs.Settings.{widthOf, ckeOf, ssenClient}
 use Rattle.spi_rules.specs.Registers.{isFree}
 use Rattle.spi_rules.specs.Buffers.{empty}
 use Rattle.spi_rules.specs.Interrupts.{noted}
@@ -111,16 +111,16 @@ module _ (s : Settings) where
   pub rested-holds : (n : Engine) → LoadHolds s n → EngineHolds s (rested s n)
   unfolding rested sdoAt
   rested-holds n h =
-      let follows : Bool = s .con1 .cke && not (isBegun (n .shift)) in
+      let follows : Bool = ckeOf s && not (isBegun (n .shift)) in
       record {
         buffers = record { transmit = h .buffers .transmit; receive = h .buffers .receive };
         shift =
-            shift-same s n _ _ _ _ _ _ _ _ (λ on. on) (n .shift) (λ busy. if-false follows _ _ (stands busy)) (h .shift);
-        rest = λ on cke between. if-true follows _ _ (and-both (s .con1 .cke) _ cke (ap not between));
+            shift-same s n _ _ _ _ _ _ _ _ _ (λ on. on) (n .shift) (λ busy. if-false follows _ _ (stands busy)) (h .shift);
+        rest = λ on cke between. if-true follows _ _ (and-both (ckeOf s) _ cke (ap not between));
       }
     where
-      stands : isBegun (n .shift) ≡ true → (s .con1 .cke && not (isBegun (n .shift))) ≡ false
-      stands busy = rw busy (and-false (s .con1 .cke))
+      stands : isBegun (n .shift) ≡ true → (ckeOf s && not (isBegun (n .shift))) ≡ false
+      stands busy = rw busy (and-false (ckeOf s))
 
   -- After a finish the engine holds.
   pub finished-holds : (filler : Bool) (word : ℕ) (n : Engine) → word < 2 ^ widthOf s → FinishHolds s n →

@@ -5,7 +5,7 @@
 --     reached-holds      every list of calls from power-up gives it
 -- Assumes nothing.
 use Prim.Native.Nat.{ℕ}
-use mathlib.Core.Bool.{Bool, true, false, not}
+use mathlib.Core.Bool.{Bool, true, false, not, _&&_}
 use mathlib.Core.List.{List, [], _∷_}
 use mathlib.Core.Path.{_≡_, refl}
 use native.Mathlib.Omega.{arith}
@@ -20,12 +20,12 @@ use Rattle.spi_rules.specs.declared.Refusal.the-variants.{NoSuchRegister
 use Rattle.spi_rules.specs.declared.Call.{Call}
 use Rattle.spi_rules.specs.declared.Call.the-variants.{Read, Write, Tick, Pin, Clear}
 use Rattle.spi_rules.specs.Choice.{if_then_else_}
-use Rattle.spi_rules.specs.Settings.{ownClock}
+use Rattle.spi_rules.specs.Settings.{clockStops, ownClock}
 use Rattle.spi_rules.specs.Registers.{isFree, spitbf, con1From, con2From, lowBits}
 use Rattle.spi_rules.specs.Buffers.{empty}
 use Rattle.spi_rules.specs.Calls.{afterCalls, answering, poweredUp, readBuf, readOf, withCon1, withCon2, writeBuf, writeOf, tickOf, pinsOf, clearOf, performOf}
 use Rattle.spi_rules.specs.Invariant.{Emptied, ModuleHolds}
-use Rattle.spi_rules.proofs.Keeps.{if-keeps, clash}
+use Rattle.spi_rules.proofs.Keeps.{if-keeps, clash, and-left, and-right, and-rest}
 use Rattle.spi_rules.proofs.Parts.{HoldsAfter, BuffersHold, EngineHolds}
 use Rattle.spi_rules.proofs.Sizes.{low-bits-fit}
 use Rattle.spi_rules.proofs.InvariantShift.{shift-same}
@@ -96,19 +96,19 @@ write-keeps m register v h =
     (write-buf-keeps m v h))))
 
 -- A tick keeps the invariant.
-tick-keeps : (m : Module) (sdi : Bool) → ModuleHolds m → HoldsAfter (tickOf m sdi)
+tick-keeps : (m : Module) (sdi ss : Bool) → ModuleHolds m → HoldsAfter (tickOf m sdi ss)
 unfolding tickOf
-tick-keeps m sdi h =
+tick-keeps m sdi ss h =
     if-keeps HoldsAfter (not (m .settings .spien)) _ _
     (λ off. refuse-holds m Disabled h)
     (λ on.
     let s : Settings = m .settings in
     either-keeps (not (ownClock s)) _ _ (refuse-holds m WrongClock h)
-    (if-keeps HoldsAfter (isFree (m .engine .shift)) _ _
+    (if-keeps HoldsAfter (clockStops s && isFree (m .engine .shift)) _ _
     (λ free. h)
     (λ busy.
     let enabled : s .spien ≡ true = not-false (s .spien) on in
-    moves-holds m _ _ enabled h (stepped-holds s enabled _ sdi _ (m .engine) (λ own. busy) (engine-of m h)))))
+    moves-holds m _ _ enabled h (stepped-holds s enabled _ sdi _ (m .engine) (λ own. and-rest (clockStops s) _ busy (and-right (ownClock s) _ own)) (engine-of m h)))))
 
 -- A pin call keeps the invariant.
 pins-keeps : (m : Module) (sck sdi ss : Bool) → ModuleHolds m → HoldsAfter (pinsOf m sck sdi ss)
@@ -123,7 +123,7 @@ pins-keeps m sck sdi ss h =
     (λ pin.
     let enabled : s .spien ≡ true = not-false (s .spien) on in
     moves-holds m _ _ enabled h
-    (stepped-holds s enabled sck sdi ss (m .engine) (λ own. clash (ownClock s) own pin) (engine-of m h))))
+    (stepped-holds s enabled sck sdi ss (m .engine) (λ own. clash (ownClock s) (and-left (ownClock s) _ own) pin) (engine-of m h))))
 
 -- The clear call keeps the invariant.
 clear-keeps : (m : Module) → ModuleHolds m → HoldsAfter (clearOf m)
@@ -133,7 +133,7 @@ clear-keeps m h =
     reached _ (h .settings)
     (record {
       buffers = record { transmit = b .transmit; receive = b .receive };
-      shift = shift-same (m .settings) (m .engine) _ _ _ _ _ _ _ _ (λ on. on) (m .engine .shift) (λ busy. refl) (h .shift);
+      shift = shift-same (m .settings) (m .engine) _ _ _ _ _ _ _ _ _ (λ on. on) (m .engine .shift) (λ busy. refl) (h .shift);
       rest = h .rest;
     })
     (λ off.
@@ -145,7 +145,7 @@ pub call-keeps : (m : Module) (c : Call) → ModuleHolds m → ModuleHolds (perf
 unfolding performOf
 call-keeps m (Read register) h = read-keeps m register h
 call-keeps m (Write register v) h = write-keeps m register v h
-call-keeps m (Tick sdi) h = tick-keeps m sdi h
+call-keeps m (Tick sdi ss) h = tick-keeps m sdi ss h
 call-keeps m (Pin sck sdi ss) h = pins-keeps m sck sdi ss h
 call-keeps m Clear h = clear-keeps m h
 

@@ -83,7 +83,7 @@ module _ (s : Settings) (n : Engine) (v : ℕ) (h : ModuleHolds (record { settin
       reached _ (stat-settings-hold (λ on. h .settings .allowed (was-on on)))
       (record {
         buffers = record { transmit = b .transmit; receive = b .receive };
-        shift = shift-same s n _ _ _ _ _ _ _ _ was-on (n .shift) (λ busy. refl) (h .shift);
+        shift = shift-same s n _ _ _ _ _ _ _ _ _ was-on (n .shift) (λ busy. refl) (h .shift);
         rest = λ on cke between. h .rest (was-on on) cke between ∙ next-top-stat v s (n .transmit) (n .shift);
       })
       (λ off.

@@ -23,10 +23,10 @@ pub shift-is : (s : Settings) (n : Engine) (sh : Shift) → n .shift ≡ sh → 
 shift-is s n sh e h = subst (λ (x : Shift). ShiftHolds s n x) (sym e) h
 
 module _ (s : Settings) (n : Engine) (spien spisidl : Bool) (sisel : ℕ) (receive : Receive) (shift : Shift)
-    (sdo spirov interrupt : Bool) where
+    (sdo pulse spirov interrupt : Bool) where
   -- A begun word, under changes of what it does not look at.
   pub progress-same : (p : Progress) → sdo ≡ n .pins .sdo → ProgressHolds s n p →
-      ProgressHolds (restat s spien spisidl sisel) (elsewhere n receive shift sdo spirov interrupt) p
+      ProgressHolds (restat s spien spisidl sisel) (elsewhere n receive shift sdo pulse spirov interrupt) p
   unfolding wordEdges widthOf
   progress-same p stands h =
       record {
@@ -45,7 +45,7 @@ module _ (s : Settings) (n : Engine) (spien spisidl : Bool) (sisel : ℕ) (recei
   -- The shift register, under changes of what it does not look at.
   pub shift-same : (spien ≡ true → s .spien ≡ true) → (sh : Shift) → (isBegun sh ≡ true → sdo ≡ n .pins .sdo) →
       ShiftHolds s n sh →
-      ShiftHolds (restat s spien spisidl sisel) (elsewhere n receive shift sdo spirov interrupt) sh
+      ShiftHolds (restat s spien spisidl sisel) (elsewhere n receive shift sdo pulse spirov interrupt) sh
   unfolding widthOf
   shift-same on Free stands h = (h .0, λ e. h .1 (on e))
   shift-same on (Loaded word) stands h = h

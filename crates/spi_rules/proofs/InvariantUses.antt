@@ -1,5 +1,5 @@
 -- What the invariant of specs/Invariant.antt is good for: for each clause a fact about every module that calls reach.
---     settings    sisel-shown-whole, spre-shown-whole, ppre-shown-whole, enabled-unframed, enabled-divided,
+--     settings    sisel-shown-whole, spre-shown-whole, ppre-shown-whole, enabled-divided,
 --                 enabled-samples-in-time, enabled-client-selects
 --     rings       transmit-positions-name-cells, receive-positions-name-cells, transmit-full-at-depth,
 --                 receive-full-at-depth
@@ -31,18 +31,18 @@ use Rattle.spi_rules.specs.declared.Shift.{Shift}
 use Rattle.spi_rules.specs.declared.Shift.the-variants.{Free, Loaded, Begun}
 use Rattle.spi_rules.specs.declared.Answer.the-variants.{Value, NoEdge}
 use Rattle.spi_rules.specs.declared.Call.the-variants.{Read, Tick, Pin}
-use Rattle.spi_rules.specs.declared.Sdo.the-variants.{Low, High}
+use Rattle.spi_rules.specs.declared.Output.the-variants.{Low, High}
 use Rattle.spi_rules.specs.Choice.{if_then_else_}
 use Rattle.spi_rules.specs.Ring.{capacity}
-use Rattle.spi_rules.specs.Settings.{widthOf, depthOf, ssenClient, ownClock}
-use Rattle.spi_rules.specs.Refusals.{framing, undivided, lateSampling, unselectedCke}
+use Rattle.spi_rules.specs.Settings.{widthOf, depthOf, framed, ckeOf, clockStops, silent, ssenClient, ownClock, unframedHost}
+use Rattle.spi_rules.specs.Refusals.{undivided, lateSampling, unselectedCke}
 use Rattle.spi_rules.specs.Registers.{bitOf, isFree, spitbf, spirbf, lowBits}
 use Rattle.spi_rules.specs.Buffers.{emptyTransmit, emptyReceive, firstWaiting, firstUnread}
 use Rattle.spi_rules.specs.Loading.{isBegun, nextTop, rested, sdoAt}
 use Rattle.spi_rules.specs.Bits.{receivedAfter, shownBit, progressed}
 use Rattle.spi_rules.specs.Finish.{finished}
 use Rattle.spi_rules.specs.Select.{deselected, selectRemembered, aborted, selectSeen}
-use Rattle.spi_rules.specs.Edge.{wordEdges, fresh, begun, shifted, advanced, advancedIfBegun, underWay, clocked, edged, levels, stepped}
+use Rattle.spi_rules.specs.Edge.{wordEdges, fresh, begun, shifted, advanced, advancedIfBegun, awaitsPulse, underWay, pulsed, clocked, edged, levels, stepped}
 use Rattle.spi_rules.specs.Calls.{answering, performOf, undriven, sdoOf}
 use Rattle.spi_rules.specs.Invariant.{ProgressHolds, ShiftHolds, ModuleHolds}
 use Rattle.spi_rules.proofs.Keeps.{if-keeps, if-true, if-false, clash, and-left, and-both, and-rest, or-left, or-right}
@@ -50,7 +50,7 @@ use Rattle.spi_rules.proofs.BuffersPositions.{write-within}
 use Rattle.spi_rules.proofs.Sizes.{width-least, depth-most, low-bits-of-fit}
 use Rattle.spi_rules.proofs.BuffersKept.{first-waiting-fits, first-unread-fits}
 use Rattle.spi_rules.proofs.Sampling.{sampled-all, received-fits, beq-high, beq-low}
-use Rattle.spi_rules.proofs.CallsWhen.{own-not-client, not-unlike, buf-read-when, buf-read-is, no-edge-when, tick-is, pin-is, own-edge}
+use Rattle.spi_rules.proofs.CallsWhen.{own-not-client, not-unlike, buf-read-when, buf-read-is, no-edge-when, tick-is, pin-is, told-elsewhere, unframed-told, host-unframed, unframed-begins, own-edge}
 use Rattle.spi_rules.proofs.InvariantParts.{engine-of}
 
 -- A conjunction is false if its first part makes its second false.
@@ -96,34 +96,27 @@ module _ (m : Module) (h : ModuleHolds m) where
   ppre-shown-whole = mod-eq-of-lt (h .settings .ppre)
 
   module _ (on : m .settings .spien ≡ true) where
-    -- An enabled module is unframed.
-    pub enabled-unframed : m .settings .con2 .frmen ≡ false
-    enabled-unframed = or-left (framing (m .settings)) _ (h .settings .allowed on)
-
-    -- The causes of refusal 4 after the first are out.
-    second-cause : (undivided (m .settings) || (lateSampling (m .settings) || unselectedCke (m .settings))) ≡ false
-    second-cause = or-right (framing (m .settings)) _ (h .settings .allowed on)
-
-    -- The causes of refusal 4 after the second are out.
-    third-cause : (lateSampling (m .settings) || unselectedCke (m .settings)) ≡ false
-    third-cause = or-right (undivided (m .settings)) _ second-cause
+    -- The causes of a refused enabling after the first are out.
+    later-causes : (lateSampling (m .settings) || unselectedCke (m .settings)) ≡ false
+    later-causes = or-right (undivided (m .settings)) _ (h .settings .allowed on)
 
     -- An enabled host with its own clock divides it: not both prescalers are 1:1.
     pub enabled-divided : ownClock (m .settings) ≡ true → m .settings .con1 .ppre ≡ 3 → m .settings .con1 .spre ≡ 7 → ⊥
     enabled-divided own p q =
         clash _ (and-both _ _ (eq-eqb (m .settings .con1 .ppre) 3 p) (eq-eqb (m .settings .con1 .spre) 7 q))
-        (and-rest (ownClock (m .settings)) _ (or-left (undivided (m .settings)) _ second-cause) own)
+        (and-rest (ownClock (m .settings)) _ (or-left (undivided (m .settings)) _ (h .settings .allowed on)) own)
 
     -- An enabled module samples in the middle of a bit.
     pub enabled-samples-in-time : m .settings .con1 .smp ≡ false
-    enabled-samples-in-time = or-left (lateSampling (m .settings)) _ third-cause
+    enabled-samples-in-time = or-left (lateSampling (m .settings)) _ later-causes
 
-    -- An enabled client with CKE watches its select pin.
-    pub enabled-client-selects : m .settings .con1 .msten ≡ false → m .settings .con1 .cke ≡ true →
+    -- An enabled unframed client with CKE watches its select pin.
+    pub enabled-client-selects : framed (m .settings) ≡ false → m .settings .con1 .msten ≡ false → m .settings .con1 .cke ≡ true →
         m .settings .con1 .ssen ≡ true
-    enabled-client-selects client cke =
+    enabled-client-selects plain client cke =
         let asked : (m .settings .con1 .cke && not (m .settings .con1 .ssen)) ≡ false =
-        and-rest (not (m .settings .con1 .msten)) _ (or-right (lateSampling (m .settings)) _ third-cause)
+        and-rest (not (m .settings .con1 .msten)) _
+        (and-rest (not (framed (m .settings))) _ (or-right (lateSampling (m .settings)) _ later-causes) (ap not plain))
         (ap not client) in
         not-false (m .settings .con1 .ssen) (and-rest (m .settings .con1 .cke) _ asked cke)
 
@@ -178,16 +171,16 @@ module _ (m : Module) (h : ModuleHolds m) where
   shift-known sh e = subst (λ (x : Shift). ShiftHolds (m .settings) (m .engine) x) e (h .shift)
 
   -- A tick that answers "no edge" has nothing waiting.
-  pub no-edge-nothing-waits : (sdi : Bool) → performOf m (Tick sdi) .answer ≡ NoEdge → m .engine .transmit .count ≡ 0
-  no-edge-nothing-waits sdi e =
-      let w = no-edge-when m sdi e in
-      shift-known Free (w .2) .0 (own-not-client (m .settings) (w .1))
+  pub no-edge-nothing-waits : (sdi ss : Bool) → performOf m (Tick sdi ss) .answer ≡ NoEdge → m .engine .transmit .count ≡ 0
+  no-edge-nothing-waits sdi ss e =
+      let w = no-edge-when m sdi ss e in
+      shift-known Free (w .2) .0 (own-not-client (m .settings) (and-left (ownClock (m .settings)) _ (w .1)))
 
   -- A tick that answers "no edge" finds the clock idle.
-  pub no-edge-clock-idle : (sdi : Bool) → performOf m (Tick sdi) .answer ≡ NoEdge →
+  pub no-edge-clock-idle : (sdi ss : Bool) → performOf m (Tick sdi ss) .answer ≡ NoEdge →
       m .engine .pins .sck ≡ m .settings .con1 .ckp
-  no-edge-clock-idle sdi e =
-      let w = no-edge-when m sdi e in
+  no-edge-clock-idle sdi ss e =
+      let w = no-edge-when m sdi ss e in
       shift-known Free (w .2) .1 (w .0) (w .1)
 
   module _ (word : ℕ) (e : m .engine .shift ≡ Loaded word) where
@@ -199,21 +192,26 @@ module _ (m : Module) (h : ModuleHolds m) where
     pub loaded-word-fits : word < 2 ^ widthOf (m .settings)
     loaded-word-fits = shift-known (Loaded word) e .1
 
-    -- A tick after a word has loaded begins it.
-    pub tick-begins-loaded-word : (sdi : Bool) → m .settings .spien ≡ true → ownClock (m .settings) ≡ true →
-        performOf m (Tick sdi) .after .engine .shift ≡ Begun (progressed (m .settings) sdi (fresh false word))
-    unfolding answering advancedIfBegun underWay begun advanced shifted wordEdges
-    tick-begins-loaded-word sdi on own =
+    -- A tick of an unframed host after a word has loaded begins it.
+    pub tick-begins-loaded-word : (sdi ss : Bool) → m .settings .spien ≡ true → unframedHost (m .settings) ≡ true →
+        performOf m (Tick sdi ss) .after .engine .shift ≡ Begun (progressed (m .settings) sdi (fresh false word))
+    unfolding answering advancedIfBegun underWay begun advanced shifted wordEdges pulsed
+    tick-begins-loaded-word sdi ss on host =
         let s : Settings = m .settings in
         let n : Engine = m .engine in
         let sck : Bool = not (n .pins .sck) in
+        let own : ownClock s ≡ true = and-left (ownClock s) _ host in
+        let plain : framed s ≡ false = host-unframed s host in
         let away : Bool·beq sck (s .con1 .ckp) ≡ false =
-        ap (Bool·beq sck) (sym (shift-known (Loaded word) e .2 own)) ∙ not-unlike (n .pins .sck) in
+        ap (Bool·beq sck) (sym (shift-known (Loaded word) e .2 host)) ∙ not-unlike (n .pins .sck) in
         let goes-on : ltb (0 + 1) (2 * widthOf s) ≡ true = lt-ltb (0 + 1) (2 * widthOf s) (omega (arith, width-least s)) in
-        ap (λ (o : Outcome). o .after .engine .shift) (tick-is m sdi on own (ap isFree e))
+        ap (λ (o : Outcome). o .after .engine .shift) (tick-is m sdi ss on own (rw (ap isFree e) (and-none (clockStops s) false (λ _. refl))))
+        ∙ ap (λ (x : Bool). stepped s (levels sck sdi x) n .shift) (told-elsewhere m ss (unframed-told s plain))
         ∙ ap (λ (x : Engine). x .shift) (own-edge s n own sdi)
         ∙ ap (λ (x : Shift). advancedIfBegun s sdi x (clocked sck n) .shift)
-        (if-false (Bool·beq sck (s .con1 .ckp)) _ _ away ∙ ap (begun s n) e)
+        (if-false (Bool·beq sck (s .con1 .ckp)) _ _ away
+        ∙ if-false (awaitsPulse s n) _ _ (unframed-begins s n plain)
+        ∙ ap (begun s n) e)
         ∙ ap (λ (x : Engine). x .shift) (if-true (ltb (0 + 1) (2 * widthOf s)) _ _ goes-on)
 
   module _ (p : Progress) (e : m .engine .shift ≡ Begun p) where
@@ -251,7 +249,7 @@ module _ (m : Module) (h : ModuleHolds m) where
         receivedAfter (m .settings) (p .edges + 1) sdi (p .received) < 2 ^ widthOf (m .settings)
     unfolding wordEdges
     received-word-fits sdi last =
-        rw (sampled-all (m .settings .con1 .cke) (p .edges + 1) (widthOf (m .settings)) last)
+        rw (sampled-all (ckeOf (m .settings)) (p .edges + 1) (widthOf (m .settings)) last)
         at (received-fits (m .settings) (p .edges) sdi (p .received) (progress .received))
 
     -- An odd edge leaves the clock at the active level.
@@ -273,8 +271,8 @@ module _ (m : Module) (h : ModuleHolds m) where
     unfolding shownBit bitOf
     filler-shows-zeros edge f = rw (progress .zeros f, zero-div (2 ^ (widthOf (m .settings) - 1 - edge / 2)))
 
-    -- A host sends no filler.
-    pub host-sends-no-filler : m .settings .con1 .msten ≡ true → p .filler ≡ false
+    -- A silent module sends no filler.
+    pub host-sends-no-filler : silent (m .settings) ≡ true → p .filler ≡ false
     host-sends-no-filler host = progress .host host
 
     -- A module with a begun word is enabled.
@@ -298,7 +296,7 @@ module _ (m : Module) (h : ModuleHolds m) where
     pub begun-shows-bit : m .settings .con1 .dissdo ≡ false →
         sdoOf m
         ≡ (if bitOf (p .word)
-        (widthOf (m .settings) - 1 - (if m .settings .con1 .cke then p .edges else p .edges - 1) / 2)
+        (widthOf (m .settings) - 1 - (if ckeOf (m .settings) then p .edges else p .edges - 1) / 2)
         then High else Low)
     unfolding sdoOf
     begun-shows-bit driven =
@@ -347,7 +345,7 @@ module _ (m : Module) (h : ModuleHolds m) where
     disabled-nothing-loaded = h .emptied off .shift
 
   -- With CKE 1 and no word begun a driven SDO shows the top bit of the word to be sent next.
-  pub sdo-shows-next-word : m .settings .con1 .cke ≡ true → isBegun (m .engine .shift) ≡ false → undriven m ≡ false →
+  pub sdo-shows-next-word : ckeOf (m .settings) ≡ true → isBegun (m .engine .shift) ≡ false → undriven m ≡ false →
       sdoOf m ≡ (if nextTop (m .settings) (m .engine .transmit) (m .engine .shift) then High else Low)
   unfolding sdoOf undriven
   sdo-shows-next-word cke between driven =

@@ -23,6 +23,7 @@ pub mod InvariantParts
 pub mod InvariantSettings
 pub mod InvariantHolds
 pub mod CallsWhen
+pub mod InvariantPulse
 pub mod InvariantUses
 pub mod InvariantWords
 -- Order: a module and its ledger stay tied, whatever the calls:
@@ -31,6 +32,7 @@ pub mod OrderLosses
 pub mod OrderTied
 pub mod OrderFinish
 pub mod OrderEdge
+pub mod OrderPulse
 pub mod OrderBegin
 pub mod OrderStep
 pub mod OrderBuf
@@ -51,4 +53,8 @@ pub mod OwedHold
 pub mod ExamplesHold
 -- The demands on one module, all of them:
 pub mod LivesHold
+-- Frames, by the SS pin, the calls and the ledger:
+pub mod FramesSeen
+pub mod FramesCalls
+pub mod FramesHold
 pub mod DemandsHold

@@ -1,28 +1,28 @@
 -- What is true of a module and its ledger after any calls, from any beginning (specs/Demands.antt).
---     life-holds     the invariant, and that an enabled module is tied to its ledger
+--     life-holds, lives-on   the invariant, and that an enabled module is tied to its ledger
 --     call-changes   what a call changes
 --     word-order     word order of an enabled module
 -- Assumes nothing.
 use Prim.Native.Nat.{ℕ}
-use mathlib.Core.Bool.{Bool, true, false, not, _&&_, _||_}
+use mathlib.Core.Bool.{true, false}
 use mathlib.Core.List.{List, [], _∷_}
 use mathlib.Core.Path.{_≡_, refl, sym, ap, _∙_}
 use lib.Dec.{leb}
-use lib.ListN.{length}
 use Rattle.spi_rules.specs.declared.Module.{Module}
 use Rattle.spi_rules.specs.declared.Call.{Call}
 use Rattle.spi_rules.specs.Choice.{if_then_else_}
 use Rattle.spi_rules.specs.Settings.{depthOf}
 use Rattle.spi_rules.specs.Words.{unreadIn}
 use Rattle.spi_rules.specs.Calls.{poweredUp, performOf, interruptOf}
-use Rattle.spi_rules.specs.Invariant.{ModuleHolds}
+use Rattle.spi_rules.specs.Invariant.{Reached}
 use Rattle.spi_rules.specs.Ledger.{unmarked}
 use Rattle.spi_rules.specs.Watch.{Watched, watchedCall}
 use Rattle.spi_rules.specs.Demands.{allUnmarked, resumed, Beginning, powerUp, midLife, begins, life, CallChanges, WordOrder}
 use Rattle.spi_rules.proofs.Keeps.{clash}
 use Rattle.spi_rules.proofs.BuffersOrder.{unread-length}
 use Rattle.spi_rules.proofs.RefusalsKinds.{Fitting, call-fits}
-use Rattle.spi_rules.proofs.InvariantHolds.{powered-up-holds, call-keeps}
+use Rattle.spi_rules.proofs.InvariantHolds.{call-keeps}
+use Rattle.spi_rules.proofs.InvariantPulse.{powered-up-reached, unframed-pulse, call-reaches}
 use Rattle.spi_rules.proofs.OrderTied.{TiedNow, Follows}
 use Rattle.spi_rules.proofs.OrderKept.{call-follows, calls-follow}
 use Rattle.spi_rules.proofs.FlagsSdo.{sdo-shown}
@@ -36,7 +36,7 @@ unmarked-all (word ∷ words) = ap (λ (q : List ℕ). word ∷ q) (unmarked-all
 -- A module is tied to the ledger that opens with what it holds.
 resumed-tied : (m : Module) → TiedNow (m .settings) (m .engine) (resumed m)
 resumed-tied m =
-    record { sck = refl; ss = refl; carries = refl; sending = refl; receiving = unmarked-all (unreadIn m) }
+    record { sck = refl; ss = refl; carries = refl; sending = refl; receiving = unmarked-all (unreadIn m); pulse = refl }
 
 -- Power-up leaves the module disabled.
 power-up-off : poweredUp .settings .spien ≡ false
@@ -45,13 +45,13 @@ power-up-off = refl
 
 -- What a watched module and its ledger have: the invariant, and that they are tied while the module is enabled.
 pub record Lives (x : Watched) : Type 0 where
-  pub holds : ModuleHolds (x .now)
+  pub holds : Reached (x .now)
   pub tied : x .now .settings .spien ≡ true → TiedNow (x .now .settings) (x .now .engine) (x .ledger)
 
 -- They have it at each beginning, and after any calls.
 begins-lives : (b : Beginning) → Lives (begins b)
 begins-lives powerUp =
-    record { holds = powered-up-holds; tied = λ on. clash (poweredUp .settings .spien) on power-up-off }
+    record { holds = powered-up-reached; tied = λ on. clash (poweredUp .settings .spien) on power-up-off }
 begins-lives (midLife m holds enabled) = record { holds = holds; tied = λ on. resumed-tied m }
 
 pub life-holds : (b : Beginning) (cs : List Call) → Lives (life b cs)
@@ -59,9 +59,17 @@ life-holds b cs =
     let all = calls-follow cs (begins b) (begins-lives b .holds) (begins-lives b .tied) in
     record { holds = all .0; tied = all .1 }
 
+-- They have it after one call more.
+pub lives-on : (x : Watched) (c : Call) → Lives x → Lives (watchedCall x c)
+lives-on x c v =
+    record {
+      holds = call-reaches (x .now) c (v .holds);
+      tied = call-follows (x .now) (x .ledger) (v .holds .holds) (v .tied) (unframed-pulse (x .now) (v .holds)) c .tied;
+    }
+
 module _ (x : Watched) (v : Lives x) where
   followed : (c : Call) → Follows (x .now) (x .ledger) c (performOf (x .now) c)
-  followed = call-follows (x .now) (x .ledger) (v .holds) (v .tied)
+  followed = call-follows (x .now) (x .ledger) (v .holds .holds) (v .tied) (unframed-pulse (x .now) (v .holds))
 
   -- What a call changes.
   pub call-changes : (c : Call) → CallChanges x c
@@ -74,7 +82,7 @@ module _ (x : Watched) (v : Lives x) where
         con2 = fits .con2;
         flag = followed c .flag;
         spirov = followed c .spirov;
-        sdo = sdo-shown x c (call-keeps (x .now) c (v .holds)) (followed c .tied);
+        sdo = sdo-shown x c (call-keeps (x .now) c (v .holds .holds)) (followed c .tied);
       }
 
   -- Word order.

@@ -63,6 +63,7 @@ module _ (s : Settings) (n : Engine) (l : Ledger) (t : TiedNow s n l) (b : Buffe
             (taken-takes-first (depthOf s) (n .receive) (depth-most s) (b .receive .cells) (b .receive .ring) some
             ∙ ap (λ (x : ℕ). x ∷ rest) (sym first))
             ∙ sym (append-assoc (l .read) (word ∷ []) rest);
+        pulse = t .pulse;
       }
 
   -- A word that fits is written into a transmit buffer that is not full.
@@ -89,6 +90,7 @@ module _ (s : Settings) (n : Engine) (l : Ledger) (t : TiedNow s n l) (b : Buffe
             ∙ sym (loaded-order s q (unfinished s) refl (λ w. refl)
             (record { transmit = written-keeps s (n .transmit) (b .transmit) word fits; receive = b .receive })));
         receiving = t .receiving ∙ ap (λ (r : Receive). l .read ++ unread (depthOf s) r) (sym (spared .receive));
+        pulse = t .pulse ∙ sym (spared .pulse);
       }
 
 module _ (s : Settings) (on : s .spien ≡ true) (n : Engine) (l : Ledger) (t : TiedNow s n l) (b : BuffersHold s n) where

@@ -17,7 +17,7 @@ use Rattle.spi_rules.specs.declared.Engine.{Engine}
 use Rattle.spi_rules.specs.declared.Progress.{Progress}
 use Rattle.spi_rules.specs.declared.Shift.the-variants.{Begun}
 use Rattle.spi_rules.specs.Choice.{if_then_else_}
-use Rattle.spi_rules.specs.Settings.{widthOf, depthOf, ssenClient}
+use Rattle.spi_rules.specs.Settings.{widthOf, depthOf, ckeOf, ssenClient}
 use Rattle.spi_rules.specs.Buffers.{waiting, unread}
 use Rattle.spi_rules.specs.Bits.{samples, shiftedIn, receivedAfter, progressed}
 use Rattle.spi_rules.specs.Finish.{isLost, delivered, sentDropped, finished}
@@ -52,7 +52,7 @@ pub counted-is : (s : Settings) (sdo sdi : Bool) (p : Progress) (n : Engine) →
     counted (terms s) sdo sdi (onWireOf s p) ≡ onWireOf s (progressed s sdi p)
 unfolding counted progressed receivedAfter wordEdges
 counted-is s sdo sdi p n h same =
-    let cke : Bool = s .con1 .cke in
+    let cke : Bool = ckeOf s in
     let bits : ℕ = sampled cke (p .edges) in
     let later : ℕ = sampled cke (p .edges + 1) in
     let word : List Bool → List Bool → OnWire =
@@ -230,6 +230,7 @@ module _ (s : Settings) (on : s .spien ≡ true) (n : Engine) (l : Ledger) (p : 
                 carries = finished-wire s (p .filler) word n;
                 sending = sending-after;
                 receiving = receiving-after;
+                pulse = t .pulse ∙ sym (spared .pulse ∙ ap (λ q. q .pulse) (delivered-elsewhere s n word .1));
               };
           arrival = λ a e.
               sym (ap (λ (q : Passed). q .marked) (last-same (l .arrivals) _ a e)) ∙ noted-lost ∙ lost-is-full s n;
@@ -261,6 +262,7 @@ module _ (s : Settings) (on : s .spien ≡ true) (n : Engine) (l : Ledger) (p : 
         carries = ap busy (counted-is s sdo sdi p n h same);
         sending = t .sending;
         receiving = t .receiving;
+        pulse = t .pulse;
       })
 
   -- Edge 2w.
@@ -272,8 +274,8 @@ module _ (s : Settings) (on : s .spien ≡ true) (n : Engine) (l : Ledger) (p : 
   last-after sdo sdi same last =
       let word : ℕ = receivedAfter s (p .edges + 1) sdi (p .received) in
       let fits : word < 2 ^ widthOf s = last-fits s sdi p n h last in
-      let all : sampled (s .con1 .cke) (p .edges + 1) ≡ widthOf s =
-      sampled-all (s .con1 .cke) (p .edges + 1) (widthOf s) last in
+      let all : sampled (ckeOf s) (p .edges + 1) ≡ widthOf s =
+      sampled-all (ckeOf s) (p .edges + 1) (widthOf s) last in
       subst (λ (w : OnWire). After s (stood n l) (finished s (p .filler) word n) (closed (terms s) w l))
       (sym (counted-is s sdo sdi p n h same))
       (closed-after (p .edges + 1) word _ _ fits (last-idle s sdi p n h last)

@@ -9,7 +9,7 @@
 -- Assumes nothing.
 use Prim.Native.Nat.{ℕ, _^_, _<_}
 use mathlib.Core.Bool.{Bool, true, false, not, _&&_, _||_}
-use mathlib.Core.List.{List, [], _∷_, _++_, append-assoc, append-nil}
+use mathlib.Core.List.{List, [], _∷_, _++_, append-nil}
 use mathlib.Core.Path.{_≡_, refl, sym, ap, _∙_}
 use Rattle.spi_rules.specs.declared.Settings.{Settings}
 use Rattle.spi_rules.specs.declared.Engine.{Engine}
@@ -27,7 +27,7 @@ use Rattle.spi_rules.specs.Ledger.{Passed, quiet, unmarked}
 use Rattle.spi_rules.specs.Words.{unfinished}
 use Rattle.spi_rules.specs.Demands.{wireOf}
 use Rattle.spi_rules.proofs.Choices.{so, not-so}
-use Rattle.spi_rules.proofs.Keeps.{if-keeps, if-true, if-ap, and-left}
+use Rattle.spi_rules.proofs.Keeps.{if-keeps, if-ap, and-left}
 use Rattle.spi_rules.proofs.Parts.{TransmitHolds, BuffersHold, FinishHolds, WordHolds}
 use Rattle.spi_rules.proofs.Sizes.{depth-most}
 use Rattle.spi_rules.proofs.BuffersOrder.{left-takes-first, appended-appends}
@@ -76,16 +76,16 @@ module _ (s : Settings) (n : Engine) where
   unfolding sentDropped wordLeaves noted
   sent-dropped-spares filler =
       if-keeps (Spared n) (ssenClient s && not filler) _ _
-      (λ e. record { receive = refl; sck = refl; ss = refl; spirov = refl })
-      (λ e. record { receive = refl; sck = refl; ss = refl; spirov = refl })
+      (λ e. record { receive = refl; sck = refl; ss = refl; pulse = refl; spirov = refl })
+      (λ e. record { receive = refl; sck = refl; ss = refl; pulse = refl; spirov = refl })
 
   -- Loading leaves them too.
   pub loaded-spares : Spared n (loaded s n)
   unfolding loaded moved wordLeaves noted
   loaded-spares =
       if-keeps (Spared n) (canLoad s n) _ _
-      (λ e. record { receive = refl; sck = refl; ss = refl; spirov = refl })
-      (λ e. record { receive = refl; sck = refl; ss = refl; spirov = refl })
+      (λ e. record { receive = refl; sck = refl; ss = refl; pulse = refl; spirov = refl })
+      (λ e. record { receive = refl; sck = refl; ss = refl; pulse = refl; spirov = refl })
 
 module _ (s : Settings) (n : Engine) where
   -- A received word leaves the transmit buffer as it was, and the levels SCK and SS.
@@ -165,5 +165,6 @@ finished-spares s filler word n =
       receive = b .receive ∙ a .receive;
       sck = b .sck ∙ a .sck;
       ss = b .ss ∙ a .ss;
+      pulse = b .pulse ∙ a .pulse;
       spirov = b .spirov ∙ a .spirov;
     }

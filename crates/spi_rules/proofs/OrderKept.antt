@@ -19,24 +19,25 @@ use Rattle.spi_rules.specs.declared.Refusal.the-variants.{NoSuchRegister
 use Rattle.spi_rules.specs.declared.Call.{Call}
 use Rattle.spi_rules.specs.declared.Call.the-variants.{Read, Write, Tick, Pin, Clear}
 use Rattle.spi_rules.specs.Choice.{if_then_else_}
-use Rattle.spi_rules.specs.Settings.{depthOf, ownClock}
+use Rattle.spi_rules.specs.Settings.{depthOf, ownClock, framed, frameClient, clockStops}
 use Rattle.spi_rules.specs.Refusals.{isDone}
 use Rattle.spi_rules.specs.RefusalTable.{writes, isClear}
 use Rattle.spi_rules.specs.Flags.{seesRaised}
 use Rattle.spi_rules.specs.Registers.{isFree, spitbf, lowBits}
 use Rattle.spi_rules.specs.Buffers.{empty, firstUnread}
 use Rattle.spi_rules.specs.Edge.{levels, stepped}
-use Rattle.spi_rules.specs.Calls.{answering, wordTaken, readBuf, readOf, withCon1, withCon2, wordWritten, writeBuf, writeOf, tickOf, pinsOf, clearOf, performOf}
-use Rattle.spi_rules.specs.Invariant.{ModuleHolds}
+use Rattle.spi_rules.specs.Calls.{answering, wordTaken, readBuf, readOf, withCon1, withCon2, wordWritten, writeBuf, writeOf, tickOf, pinsOf, clearOf, performOf, toldSelect}
+use Rattle.spi_rules.specs.Invariant.{ModuleHolds, Reached}
 use Rattle.spi_rules.specs.Ledger.{Ledger, readNoted, acceptedNoted}
-use Rattle.spi_rules.specs.Watch.{terms, levelsNoted, entered, Watched, watchedCall, watchedCalls}
+use Rattle.spi_rules.specs.Watch.{terms, levelsNoted, entered, Watched, watchedCall, watchedCalls, showsPulse}
 use Rattle.spi_rules.proofs.Keeps.{if-keeps, if-true, if-false}
 use Rattle.spi_rules.proofs.Sizes.{low-bits-fit}
 use Rattle.spi_rules.proofs.InvariantParts.{engine-of}
-use Rattle.spi_rules.proofs.InvariantHolds.{call-keeps}
 use Rattle.spi_rules.proofs.InvariantUses.{first-unread-whole}
 use Rattle.spi_rules.proofs.OrderTied.{TiedNow, stood, After, Followed, Follows}
 use Rattle.spi_rules.proofs.FlagsSeen.{no-longer, not-set, loses-none}
+use Rattle.spi_rules.proofs.InvariantPulse.{unframed-pulse, call-reaches}
+use Rattle.spi_rules.proofs.OrderPulse.{shows-pulse}
 use Rattle.spi_rules.proofs.OrderStep.{stepped-after}
 use Rattle.spi_rules.proofs.OrderBuf.{word-taken-after, word-written-after}
 use Rattle.spi_rules.proofs.OrderStat.{stays-followed, refuse-follows, stat-follows, configured-follows}
@@ -62,7 +63,8 @@ last-register register small a b c =
     eq-eqb register 3 (omega arith)
 
 module _ (m : Module) (l : Ledger) (h : ModuleHolds m)
-    (was : m .settings .spien ≡ true → TiedNow (m .settings) (m .engine) l) where
+    (was : m .settings .spien ≡ true → TiedNow (m .settings) (m .engine) l)
+    (plain : m .settings .spien ≡ true → framed (m .settings) ≡ false → m .engine .pins .pulse ≡ false) where
   -- The module's engine and the ledger after a step of an enabled module.
   after-follows : (c : Call) (a : Answer) (n : Engine) (later : Ledger) → isClear c ≡ false →
       (isDone a && writes 0 c) ≡ false → After (m .settings) (stood (m .engine) l) n later →
@@ -164,29 +166,32 @@ module _ (m : Module) (l : Ledger) (h : ModuleHolds m)
       (λ c. write-buf-follows register v (last-register register small a b c)))))
 
   -- A tick.
-  tick-follows : (sdi : Bool) → Follows m l (Tick sdi) (tickOf m sdi)
+  tick-follows : (sdi ss : Bool) → Follows m l (Tick sdi ss) (tickOf m sdi ss)
   unfolding tickOf entered answering if_then_else_
-  tick-follows sdi =
+  tick-follows sdi ss =
       let s : Settings = m .settings in
       let n : Engine = m .engine in
-      if-keeps (Follows m l (Tick sdi)) (not (s .spien)) _ _
-      (λ off. refuse-follows m l (Tick sdi) Disabled refl was)
+      if-keeps (Follows m l (Tick sdi ss)) (not (s .spien)) _ _
+      (λ off. refuse-follows m l (Tick sdi ss) Disabled refl was)
       (λ on.
       let enabled : s .spien ≡ true = not-false (s .spien) on in
       let t : TiedNow s n l = was enabled in
-      if-keeps (Follows m l (Tick sdi)) (not (ownClock s)) _ _
-      (λ pin. refuse-follows m l (Tick sdi) WrongClock refl was)
+      if-keeps (Follows m l (Tick sdi ss)) (not (ownClock s)) _ _
+      (λ pin. refuse-follows m l (Tick sdi ss) WrongClock refl was)
       (λ own.
-      if-keeps (Follows m l (Tick sdi)) (isFree (n .shift)) _ _
-      (λ free. stays-followed m l (Tick sdi) NoEdge refl refl was)
+      if-keeps (Follows m l (Tick sdi ss)) (clockStops s && isFree (n .shift)) _ _
+      (λ free. stays-followed m l (Tick sdi ss) NoEdge refl refl was)
       (λ busy.
-      after-follows (Tick sdi) Edge _ _ refl refl
+      let after : Engine = stepped s (levels (not (n .pins .sck)) sdi (toldSelect m ss)) n in
+      let shown : Bool = showsPulse (record { settings = s; engine = after }) in
+      after-follows (Tick sdi ss) Edge _ _ refl refl
       (subst₂
-      (λ (sck ss : Bool).
-      After s (stood n l) (stepped s (levels (not (n .pins .sck)) sdi (n .pins .ss)) n)
-      (levelsNoted (terms s) (n .pins .sdo) (levels (not sck) sdi ss) l))
+      (λ (sck x : Bool).
+      After s (stood n l) after
+      (levelsNoted (terms s) (n .pins .sdo) shown (levels (not sck) sdi (if frameClient s then ss else x)) l))
       (sym (t .sck)) (sym (t .ss))
-      (stepped-after s enabled (not (n .pins .sck)) sdi (n .pins .ss) n l (engine-of m h) t)))))
+      (stepped-after s enabled shown (not (n .pins .sck)) sdi (toldSelect m ss) n l (engine-of m h) t
+      (shows-pulse (record { settings = s; engine = after }) enabled) (plain enabled))))))
 
   -- A pin call.
   pins-follows : (sck sdi ss : Bool) → Follows m l (Pin sck sdi ss) (pinsOf m sck sdi ss)
@@ -200,7 +205,10 @@ module _ (m : Module) (l : Ledger) (h : ModuleHolds m)
       (λ own. refuse-follows m l (Pin sck sdi ss) WrongClock refl was)
       (λ pin.
       let enabled : s .spien ≡ true = not-false (s .spien) on in
-      after-follows (Pin sck sdi ss) Done _ _ refl refl (stepped-after s enabled sck sdi ss (m .engine) l (engine-of m h) (was enabled))))
+      let after : Engine = stepped s (levels sck sdi ss) (m .engine) in
+      after-follows (Pin sck sdi ss) Done _ _ refl refl
+      (stepped-after s enabled _ sck sdi ss (m .engine) l (engine-of m h) (was enabled)
+      (shows-pulse (record { settings = s; engine = after }) enabled) (plain enabled))))
 
   -- The clear call.
   clear-follows : Follows m l Clear (clearOf m)
@@ -209,7 +217,7 @@ module _ (m : Module) (l : Ledger) (h : ModuleHolds m)
       record {
         tied = λ on.
             let t : TiedNow (m .settings) (m .engine) l = was on in
-            record { sck = t .sck; ss = t .ss; carries = t .carries; sending = t .sending; receiving = t .receiving };
+            record { sck = t .sck; ss = t .ss; carries = t .carries; sending = t .sending; receiving = t .receiving; pulse = t .pulse };
         arrival = λ on a longer. no-longer (l .arrivals) a longer;
         spirov = not-set (m .engine .spirov) _
             (loses-none (record { now = m; ledger = l }) (record { now = clearOf m .after; ledger = l }) (le-refl _));
@@ -221,16 +229,17 @@ module _ (m : Module) (l : Ledger) (h : ModuleHolds m)
   unfolding performOf
   call-follows (Read register) = read-follows register
   call-follows (Write register v) = write-follows register v
-  call-follows (Tick sdi) = tick-follows sdi
+  call-follows (Tick sdi ss) = tick-follows sdi ss
   call-follows (Pin sck sdi ss) = pins-follows sck sdi ss
   call-follows Clear = clear-follows
 
 -- Every list of calls keeps the invariant, and keeps module and ledger tied whenever the module is enabled.
-pub calls-follow : (cs : List Call) (x : Watched) → ModuleHolds (x .now) →
+pub calls-follow : (cs : List Call) (x : Watched) → Reached (x .now) →
     (x .now .settings .spien ≡ true → TiedNow (x .now .settings) (x .now .engine) (x .ledger)) →
-    ModuleHolds (watchedCalls x cs .now)
+    Reached (watchedCalls x cs .now)
     × (watchedCalls x cs .now .settings .spien ≡ true →
     TiedNow (watchedCalls x cs .now .settings) (watchedCalls x cs .now .engine) (watchedCalls x cs .ledger))
 calls-follow [] x h was = (h, was)
 calls-follow (c ∷ cs) x h was =
-    calls-follow cs (watchedCall x c) (call-keeps (x .now) c h) (call-follows (x .now) (x .ledger) h was c .tied)
+    calls-follow cs (watchedCall x c) (call-reaches (x .now) c h)
+    (call-follows (x .now) (x .ledger) (h .holds) was (unframed-pulse (x .now) h) c .tied)

@@ -15,7 +15,7 @@ use Rattle.spi_rules.specs.Interrupts.{noted}
 use Rattle.spi_rules.specs.Loading.{wordLeaves, moved, canLoad, loaded, isBegun, sdoAt, rested}
 use Rattle.spi_rules.specs.Finish.{overflowed, wordAppended, isLost, delivered, sentDropped, freed, finished}
 use Rattle.spi_rules.specs.Select.{selectRemembered, aborted, deselected, selectSeen}
-use Rattle.spi_rules.specs.Edge.{wordEdges, shifted, advanced, advancedIfBegun, underWay, clocked, edged, levels, stepped}
+use Rattle.spi_rules.specs.Edge.{wordEdges, shifted, advanced, advancedIfBegun, underWay, pulsed, clocked, edged, levels, stepped}
 use Rattle.spi_rules.proofs.Keeps.{if-keeps}
 
 -- An engine remembers this select level.
@@ -42,7 +42,7 @@ module _ (s : Settings) (ss : Bool) where
 
   -- An edge leaves the select level.
   edged-select : (sck sdi : Bool) (n : Engine) → Shows ss n → Shows ss (edged s sck sdi n)
-  unfolding edged clocked
+  unfolding edged clocked pulsed
   edged-select sck sdi n h =
       if-keeps (Shows ss) (deselected s (n .pins .ss)) _ _ (λ e. h)
       (λ e. advanced-select sdi (underWay s sck n) (clocked sck n) h)

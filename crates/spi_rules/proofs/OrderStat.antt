@@ -78,7 +78,7 @@ pub refuse-follows : (m : Module) (l : Ledger) (c : Call) (r : Refusal) → isCl
 unfolding refuse entered if_then_else_
 refuse-follows m l (Read register) r other was = stays-followed m l (Read register) (Refused r) refl refl was
 refuse-follows m l (Write register v) r other was = stays-followed m l (Write register v) (Refused r) refl refl was
-refuse-follows m l (Tick sdi) r other was = stays-followed m l (Tick sdi) (Refused r) refl refl was
+refuse-follows m l (Tick sdi ss) r other was = stays-followed m l (Tick sdi ss) (Refused r) refl refl was
 refuse-follows m l (Pin sck sdi ss) r other was = stays-followed m l (Pin sck sdi ss) (Refused r) refl refl was
 refuse-follows m l Clear r other was = clash true refl other
 
@@ -109,6 +109,7 @@ module _ (v : ℕ) (s : Settings) where
             t .sending
             ∙ ap (λ (q : List ℕ). sent l ++ (q ++ waiting (depthOf s) (n .transmit))) (unfinished-stat (n .shift));
         receiving = t .receiving;
+        pulse = t .pulse;
       }
 
   -- A STAT write that enables: the module is empty, and the ledger opens.
@@ -126,6 +127,7 @@ module _ (v : ℕ) (s : Settings) where
             sym (ap (λ (x : Shift). unfinished (statSettings v s) x ++ waiting (depthOf s) (n .transmit)) free
             ∙ disabled-waiting-none m h off);
         receiving = sym (disabled-unread-none m h off);
+        pulse = refl;
       }
 
 module _ (m : Module) (l : Ledger) (h : ModuleHolds m)

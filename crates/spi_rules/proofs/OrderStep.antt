@@ -10,7 +10,7 @@ use Rattle.spi_rules.specs.declared.Settings.{Settings}
 use Rattle.spi_rules.specs.declared.Engine.{Engine}
 use Rattle.spi_rules.specs.declared.Shift.{Shift}
 use Rattle.spi_rules.specs.declared.Shift.the-variants.{Free, Loaded, Begun}
-use Rattle.spi_rules.specs.Settings.{depthOf, ssenClient}
+use Rattle.spi_rules.specs.Settings.{depthOf, framed, frameHost, ssenClient}
 use Rattle.spi_rules.specs.Buffers.{waiting}
 use Rattle.spi_rules.specs.Loading.{isBegun, rested, sdoAt}
 use Rattle.spi_rules.specs.Select.{selectRemembered, aborted, deselected, selectSeen}
@@ -49,6 +49,14 @@ module _ (s : Settings) (ss : Bool) (n : Engine) where
       (λ e. (refl, refl))
       (λ e. (refl, refl))
 
+  -- Select leaves the pulse.
+  selected-pulse : selectSeen s ss n .pins .pulse ≡ n .pins .pulse
+  unfolding selectSeen aborted rested sdoAt selectRemembered
+  selected-pulse =
+      if-keeps (λ (x : Engine). x .pins .pulse ≡ n .pins .pulse) (deselected s ss && isBegun (n .shift)) _ _
+      (λ e. refl)
+      (λ e. refl)
+
   -- Unless it deselects, select leaves SDO.
   selected-sdo : deselected s ss ≡ false → selectSeen s ss n .pins .sdo ≡ n .pins .sdo
   unfolding selectSeen selectRemembered
@@ -72,6 +80,7 @@ module _ (s : Settings) (ss : Bool) (n : Engine) where
             ∙ ap (λ (q : List ℕ). sent l ++ (q ++ waiting (depthOf s) (n .transmit)))
             (client-unfinished s (and-left (ssenClient s) ss d) (n .shift) (and-right (deselected s ss) _ e));
         receiving = t .receiving;
+        pulse = t .pulse;
       })
       (λ e.
       record {
@@ -83,14 +92,16 @@ module _ (s : Settings) (ss : Bool) (n : Engine) where
             (λ d. t .carries);
         sending = t .sending;
         receiving = t .receiving;
+        pulse = t .pulse;
       })
 
 -- The levels are seen.
-pub stepped-after : (s : Settings) → s .spien ≡ true → (sck sdi ss : Bool) (n : Engine) (l : Ledger) → EngineHolds s n →
-    TiedNow s n l →
-    After s (stood n l) (stepped s (levels sck sdi ss) n) (levelsNoted (terms s) (n .pins .sdo) (levels sck sdi ss) l)
+pub stepped-after : (s : Settings) → s .spien ≡ true → (shown sck sdi ss : Bool) (n : Engine) (l : Ledger) → EngineHolds s n →
+    TiedNow s n l → (frameHost s ≡ true → shown ≡ stepped s (levels sck sdi ss) n .pins .pulse) →
+    (framed s ≡ false → n .pins .pulse ≡ false) →
+    After s (stood n l) (stepped s (levels sck sdi ss) n) (levelsNoted (terms s) (n .pins .sdo) shown (levels sck sdi ss) l)
 unfolding stepped levelsNoted selectNoted
-stepped-after s on sck sdi ss n l h t =
+stepped-after s on shown sck sdi ss n l h t seen plain =
     let x : Engine = selectSeen s ss n in
     let k : Ledger = selectNoted (terms s) ss l in
     let sdo : Bool = n .pins .sdo in
@@ -99,7 +110,9 @@ stepped-after s on sck sdi ss n l h t =
     (ap (Bool·beq sck) (t .sck))
     (λ e. subst (λ (b : Stood). After s b x k) same (same-after s x k (select-tied s ss n l t)))
     (λ e.
-    subst (λ (b : Stood). After s b (edged s sck sdi x) (edgeNoted (terms s) sdo sck sdi k)) same
-    (edged-after s on sdo sck sdi x k (selected-holds s ss n h) (select-tied s ss n l t)
+    subst (λ (b : Stood). After s b (edged s sck sdi x) (edgeNoted (terms s) sdo shown sck sdi k)) same
+    (edged-after s on sdo shown sck sdi x k (selected-holds s ss n h) (select-tied s ss n l t)
     (unlike sck (n .pins .sck) e ∙ ap not (sym (selected-sck s ss n)))
-    (λ d. sym (selected-sdo s ss n (ap (deselected s) (sym (selected-elsewhere s ss n l .0)) ∙ d)))))
+    (λ d. sym (selected-sdo s ss n (ap (deselected s) (sym (selected-elsewhere s ss n l .0)) ∙ d)))
+    (λ host. seen host ∙ ap (λ (y : Engine). y .pins .pulse) (if-false (Bool·beq sck (n .pins .sck)) _ _ e))
+    (λ f. selected-pulse s ss n ∙ plain f)))

@@ -8,7 +8,7 @@
 --     EdgedAfter   the same after an edge, for what is under way at that edge
 --     Followed     a module and its ledger after a call
 --     Follows      an outcome of a call after which the module and the ledger's entry of the call are so
---     Spared       an engine with the same receive buffer, SCK, SS and SPIROV as another
+--     Spared       an engine with the same receive buffer, SCK, SS, pulse and SPIROV as another
 use mathlib.Core.Bool.{Bool, true, not, _&&_, _||_}
 use mathlib.Core.List.{List, [], _∷_, _++_}
 use mathlib.Core.Path.{_≡_}
@@ -27,12 +27,12 @@ use Rattle.spi_rules.specs.Choice.{if_then_else_}
 use Rattle.spi_rules.specs.Refusals.{isDone}
 use Rattle.spi_rules.specs.Registers.{bitOf}
 use Rattle.spi_rules.specs.RefusalTable.{asks, writes, isClear}
-use Rattle.spi_rules.specs.Settings.{widthOf, depthOf}
+use Rattle.spi_rules.specs.Settings.{widthOf, depthOf, ckeOf}
 use Rattle.spi_rules.specs.Buffers.{full, waiting, unread}
 use Rattle.spi_rules.specs.Edge.{advancedIfBegun, clocked}
 use Rattle.spi_rules.specs.Invariant.{sampled}
 use Rattle.spi_rules.specs.Ledger.{OnWire, Wire, Passed, Ledger, undropped, given, clockedTo, sent}
-use Rattle.spi_rules.specs.Watch.{terms, entered, Watched}
+use Rattle.spi_rules.specs.Watch.{terms, entered, Watched, showsPulse}
 use Rattle.spi_rules.specs.Flags.{seesLost, seesRaised}
 use Rattle.spi_rules.specs.Words.{unfinished}
 use Rattle.spi_rules.specs.Demands.{topBits, wireOf}
@@ -41,7 +41,7 @@ use Rattle.spi_rules.specs.Demands.{topBits, wireOf}
 -- those received.
 abbrev pub onWireOf : Settings → Progress → OnWire
 onWireOf s p =
-    let bits : ℕ = sampled (s .con1 .cke) (p .edges) in
+    let bits : ℕ = sampled (ckeOf s) (p .edges) in
     record {
       filler = p .filler;
       edges = p .edges;
@@ -49,7 +49,7 @@ onWireOf s p =
       seen = topBits bits bits (p .received);
     }
 
--- An engine with `sh` under way, and a ledger whose wire carries `wire`: the same levels, the same word under way, the
+-- An engine with `sh` under way, and a ledger whose wire carries `wire`: the same levels and pulse, the same word under way, the
 -- accepted words are those sent and those that the engine still has, and the undropped ones are those read and unread.
 pub record Tied (s : Settings) (n : Engine) (sh : Shift) (l : Ledger) (wire : Wire) : Type 0 where
   pub sck : l .sck ≡ n .pins .sck
@@ -57,6 +57,7 @@ pub record Tied (s : Settings) (n : Engine) (sh : Shift) (l : Ledger) (wire : Wi
   pub carries : wire ≡ wireOf s sh
   pub sending : l .accepted ≡ sent l ++ (unfinished s sh ++ waiting (depthOf s) (n .transmit))
   pub receiving : undropped l ≡ l .read ++ unread (depthOf s) (n .receive)
+  pub pulse : l .pulse ≡ n .pins .pulse
 
 -- Between calls what is under way stands in the shift register, and what the wire carries in the ledger.
 abbrev pub TiedNow : Settings → Engine → Ledger → Type 0
@@ -107,6 +108,7 @@ standing s b n l =
       wire = l .wire;
       sck = l .sck;
       ss = l .ss;
+      pulse = l .pulse;
     })
 
 -- What a received word that is new in the ledger says: it was dropped exactly if the buffer was full.
@@ -142,11 +144,12 @@ pub record Followed (m : Module) (l : Ledger) (c : Call) (a : Answer) (after : M
 -- An outcome after which the module and the ledger with its entry are so.
 abbrev pub Follows : Module → Ledger → Call → Outcome → Type 0
 Follows m l c o =
-    Followed m l c (o .answer) (o .after) (entered (m .settings) (m .engine .pins .sdo) c (o .answer) l)
+    Followed m l c (o .answer) (o .after) (entered (m .settings) (m .engine .pins .sdo) (showsPulse (o .after)) c (o .answer) l)
 
 -- An engine that differs from another at most in its transmit buffer, its shift register, SDO and the interrupt flag.
 pub record Spared (n x : Engine) : Type 0 where
   pub receive : x .receive ≡ n .receive
   pub sck : x .pins .sck ≡ n .pins .sck
   pub ss : x .pins .ss ≡ n .pins .ss
+  pub pulse : x .pins .pulse ≡ n .pins .pulse
   pub spirov : x .spirov ≡ n .spirov

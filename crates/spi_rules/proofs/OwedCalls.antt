@@ -1,22 +1,21 @@
--- The edges owed by an enabled host with its own clock, over all lists of calls that leave it undisturbed.
+-- The edges owed by an enabled unframed host with its own clock, over all lists of calls that leave it undisturbed.
 --     call-pays, calls-pay   undisturbed calls make as many edges as what is owed falls by
 --     none-owed-idle         a host that owes nothing is idle
 --     some-owed-not-idle     a host that owes an edge makes one at a tick
 --     no-edge-owes-none      a tick that makes no edge finds none owed
---     calls-leave            undisturbed calls leave the module enabled, with its own clock
+--     calls-leave            undisturbed calls leave the module enabled, an unframed host
 --     ticks-make             ticks make an edge each as long as edges are owed
 -- What one edge does is in proofs/OwedEdge.antt.
 -- Assumes nothing.
-use Prim.Native.Nat.{ℕ, suc, _+_, _<_, _≤_, zero-le, suc-le-suc}
+use Prim.Native.Nat.{ℕ, suc, _+_, _≤_, zero-le, suc-le-suc}
 use mathlib.Core.Bool.{Bool, true, false, not, _&&_}
 use mathlib.Core.List.{List, [], _∷_}
 use mathlib.Core.Path.{_≡_, refl, sym, ap, subst, _∙_}
-use native.Mathlib.Nat.{le-of-eq, le-trans, zero-add}
+use native.Mathlib.Nat.{le-trans, zero-add}
 use native.Mathlib.Omega.{arith}
-use borrow.Author.Tests.{ltb-false, eqb-false, eq-eqb, not-true}
+use borrow.Author.Tests.{ltb-false, eqb-false, eq-eqb}
 use lib.Dec.{eqb, ltb}
 use lib.ListN.{length}
-use Rattle.spi_rules.specs.declared.Con1.{Con1}
 use Rattle.spi_rules.specs.declared.Settings.{Settings}
 use Rattle.spi_rules.specs.declared.Engine.{Engine}
 use Rattle.spi_rules.specs.declared.Module.{Module}
@@ -29,30 +28,30 @@ use Rattle.spi_rules.specs.declared.Answer.the-variants.{Refused, Done, 
 use Rattle.spi_rules.specs.declared.Call.{Call}
 use Rattle.spi_rules.specs.declared.Call.the-variants.{Read, Write, Tick, Pin, Clear}
 use Rattle.spi_rules.specs.Choice.{if_then_else_}
-use Rattle.spi_rules.specs.Settings.{widthOf, depthOf, ownClock}
+use Rattle.spi_rules.specs.Settings.{widthOf, depthOf, ownClock, clockStops, unframedHost}
 use Rattle.spi_rules.specs.Refusals.{isDone, badSettings}
 use Rattle.spi_rules.specs.Registers.{bitOf, isFree, spitbf, statSettings, statEngine}
 use Rattle.spi_rules.specs.Buffers.{empty}
 use Rattle.spi_rules.specs.Interrupts.{noted}
 use Rattle.spi_rules.specs.Edge.{levels, stepped}
-use Rattle.spi_rules.specs.Calls.{afterCalls, refuse, answering, wordTaken, readBuf, readOf, turnsOn, turnsOff, statWritten, writeStat, configured, writeBuf, writeOf, tickOf, pinsOf, clearOf, performOf}
+use Rattle.spi_rules.specs.Calls.{afterCalls, refuse, answering, wordTaken, readBuf, readOf, turnsOn, turnsOff, statWritten, writeStat, configured, writeBuf, writeOf, tickOf, pinsOf, clearOf, performOf, toldSelect}
 use Rattle.spi_rules.specs.Invariant.{ShiftHolds, ModuleHolds}
 use Rattle.spi_rules.specs.Demands.{edgesMade, IsIdle, IsBusy, onlyTicks}
-use Rattle.spi_rules.proofs.Keeps.{if-keeps, if-true, if-false, and-false, clash}
+use Rattle.spi_rules.proofs.Keeps.{if-keeps, if-true, if-false, and-false, clash, and-left, and-right, and-both, and-rest}
 use Rattle.spi_rules.proofs.BuffersOrder.{none-waiting}
-use Rattle.spi_rules.proofs.CallsWhen.{own-not-client, is-free, no-edge-when, tick-is}
+use Rattle.spi_rules.proofs.CallsWhen.{own-not-client, is-free, no-edge-when, tick-is, told-elsewhere, unframed-told, host-unframed}
 use Rattle.spi_rules.proofs.InvariantHolds.{call-keeps}
-use Rattle.spi_rules.proofs.OwedParts.{owedIn, edgesIn, AllUndisturbing, Pays}
+use Rattle.spi_rules.proofs.OwedParts.{owedIn, edgesIn, AllUndisturbing, Pays, owingIn}
 use Rattle.spi_rules.proofs.OwedEdge.{owed-is, stat-owes, edge-owes, busy-owes, idle-owes}
 
-module _ (m : Module) (h : ModuleHolds m) (on : m .settings .spien ≡ true) (own : ownClock (m .settings) ≡ true) where
-  -- A call that makes no edge and leaves what is owed and CON1 pays.
-  same-pays : (c : Call) (a : Answer) (x : Module) → edgesIn a ≡ 0 → owedIn x ≡ owedIn m → x .settings .con1 ≡ m .settings .con1 →
+module _ (m : Module) (h : ModuleHolds m) (on : m .settings .spien ≡ true) (own : unframedHost (m .settings) ≡ true) where
+  -- A call that makes no edge and leaves what is owed and the settings pays.
+  same-pays : (c : Call) (a : Answer) (x : Module) → edgesIn a ≡ 0 → owedIn x ≡ owedIn m → unframedHost (x .settings) ≡ unframedHost (m .settings) →
       Pays m c (record { answer = a; after = x })
   same-pays c a x none same con1 =
       record {
         edges = λ enabled taken. ap (λ (k : ℕ). k + owedIn x) none ∙ zero-add (owedIn x) ∙ same;
-        clock = ap (λ (y : Con1). y .msten && not (y .dissck)) con1 ∙ own;
+        clock = con1 ∙ own;
       }
 
   -- A refused call pays.
@@ -141,7 +140,7 @@ module _ (m : Module) (h : ModuleHolds m) (on : m .settings .spien ≡ true) (ow
       either-pays c (not (m .settings .spien)) _ _ (refuse-pays c Disabled)
       (if-keeps (Pays m c) (ownClock (m .settings)) _ _
       (λ e. refuse-pays c WrongClock)
-      (λ e. clash (ownClock (m .settings)) own e))
+      (λ e. clash (ownClock (m .settings)) (and-left (ownClock (m .settings)) _ own) e))
 
   -- The clear call pays.
   clear-pays : Pays m Clear (clearOf m)
@@ -149,20 +148,23 @@ module _ (m : Module) (h : ModuleHolds m) (on : m .settings .spien ≡ true) (ow
   clear-pays = same-pays Clear Done _ refl refl refl
 
   -- A tick pays: an edge lowers what is owed by one, and no edge leaves it.
-  tick-pays : (sdi : Bool) → Pays m (Tick sdi) (tickOf m sdi)
+  tick-pays : (sdi ss : Bool) → Pays m (Tick sdi ss) (tickOf m sdi ss)
   unfolding tickOf answering
-  tick-pays sdi =
-      let c : Call = Tick sdi in
+  tick-pays sdi ss =
+      let c : Call = Tick sdi ss in
       either-pays c (not (m .settings .spien)) _ _ (refuse-pays c Disabled)
       (either-pays c (not (ownClock (m .settings))) _ _ (refuse-pays c WrongClock)
-      (if-keeps (Pays m c) (isFree (m .engine .shift)) _ _
+      (if-keeps (Pays m c) (clockStops (m .settings) && isFree (m .engine .shift)) _ _
       (λ free. same-pays c NoEdge m refl refl refl)
       (λ busy.
       record {
         edges = λ enabled taken.
             ap (λ (k : ℕ). 1 + k)
-            (owed-is (record { settings = m .settings; engine = stepped (m .settings) (levels (not (m .engine .pins .sck)) sdi (m .engine .pins .ss)) (m .engine) }))
-            ∙ edge-owes (m .settings) own sdi (m .engine) (m .engine .shift) refl (h .shift) busy
+            (owed-is (record { settings = m .settings; engine = stepped (m .settings) (levels (not (m .engine .pins .sck)) sdi (toldSelect m ss)) (m .engine) }))
+            ∙ ap (λ (b : Bool). 1 + owingIn (m .settings) (stepped (m .settings) (levels (not (m .engine .pins .sck)) sdi b) (m .engine)))
+            (told-elsewhere m ss (unframed-told (m .settings) (host-unframed (m .settings) own)))
+            ∙ edge-owes (m .settings) own sdi (m .engine) (m .engine .shift) refl (h .shift)
+            (and-rest (clockStops (m .settings)) _ busy (and-right (ownClock (m .settings)) _ own))
             ∙ sym (owed-is m);
         clock = own;
       })))
@@ -172,7 +174,7 @@ module _ (m : Module) (h : ModuleHolds m) (on : m .settings .spien ≡ true) (ow
   unfolding performOf
   call-pays (Read register) = read-pays register
   call-pays (Write register v) = write-pays register v
-  call-pays (Tick sdi) = tick-pays sdi
+  call-pays (Tick sdi ss) = tick-pays sdi ss
   call-pays (Pin sck sdi ss) = pins-pays sck sdi ss
   call-pays Clear = clear-pays
 
@@ -193,7 +195,7 @@ falls : (a b c d e : ℕ) → b + c ≡ d → a + d ≡ e → (a + b) + c ≡ e
 falls a b c d e h k = omega arith
 
 -- Undisturbed calls make as many edges as what is owed falls by.
-pub calls-pay : (cs : List Call) (m : Module) → ModuleHolds m → m .settings .spien ≡ true → ownClock (m .settings) ≡ true →
+pub calls-pay : (cs : List Call) (m : Module) → ModuleHolds m → m .settings .spien ≡ true → unframedHost (m .settings) ≡ true →
     AllUndisturbing m cs → edgesMade m cs + owedIn (afterCalls m cs) ≡ owedIn m
 calls-pay [] m h on own u = zero-add (owedIn m)
 calls-pay (c ∷ cs) m h on own u =
@@ -203,22 +205,25 @@ calls-pay (c ∷ cs) m h on own u =
     (p .edges (u .0 .enabled) (u .0 .noWord))
 
 -- A tick of an enabled host with a word loaded or begun makes an edge.
-tick-answers-edge : (m : Module) (sdi : Bool) → m .settings .spien ≡ true → ownClock (m .settings) ≡ true →
-    isFree (m .engine .shift) ≡ false → performOf m (Tick sdi) .answer ≡ Edge
+tick-answers-edge : (m : Module) (sdi ss : Bool) → m .settings .spien ≡ true → unframedHost (m .settings) ≡ true →
+    isFree (m .engine .shift) ≡ false → performOf m (Tick sdi ss) .answer ≡ Edge
 unfolding answering
-tick-answers-edge m sdi on own busy = ap (λ (o : Outcome). o .answer) (tick-is m sdi on own busy)
+tick-answers-edge m sdi ss on own busy =
+    ap (λ (o : Outcome). o .answer)
+    (tick-is m sdi ss on (and-left (ownClock (m .settings)) _ own) (and-false (clockStops (m .settings)) _ busy))
 
 -- A tick of an enabled host with its shift register free makes none.
-tick-answers-none : (m : Module) (sdi : Bool) → m .settings .spien ≡ true → ownClock (m .settings) ≡ true →
-    isFree (m .engine .shift) ≡ true → performOf m (Tick sdi) .answer ≡ NoEdge
+tick-answers-none : (m : Module) (sdi ss : Bool) → m .settings .spien ≡ true → unframedHost (m .settings) ≡ true →
+    isFree (m .engine .shift) ≡ true → performOf m (Tick sdi ss) .answer ≡ NoEdge
 unfolding performOf tickOf
-tick-answers-none m sdi on own free =
+tick-answers-none m sdi ss on own free =
     ap (λ (o : Outcome). o .answer)
     (if-false (not (m .settings .spien)) _ _ (ap not on)
-    ∙ if-false (not (ownClock (m .settings))) _ _ (ap not own)
-    ∙ if-true (isFree (m .engine .shift)) _ _ free)
+    ∙ if-false (not (ownClock (m .settings))) _ _ (ap not (and-left (ownClock (m .settings)) _ own))
+    ∙ if-true (clockStops (m .settings) && isFree (m .engine .shift)) _ _
+    (and-both (clockStops (m .settings)) _ (and-right (ownClock (m .settings)) _ own) free))
 
-module _ (m : Module) (h : ModuleHolds m) (on : m .settings .spien ≡ true) (own : ownClock (m .settings) ≡ true) where
+module _ (m : Module) (h : ModuleHolds m) (on : m .settings .spien ≡ true) (own : unframedHost (m .settings) ≡ true) where
   -- A host whose shift register is free owes nothing.
   free-owes-none : m .engine .shift ≡ Free → owedIn m ≡ 0
   free-owes-none free =
@@ -247,40 +252,42 @@ module _ (m : Module) (h : ModuleHolds m) (on : m .settings .spien ≡ true) (ow
         free = free;
         noneWaits =
             none-waiting (depthOf (m .settings)) (m .engine .transmit)
-            (subst (ShiftHolds (m .settings) (m .engine)) free (h .shift) .0 (own-not-client (m .settings) own));
-        noEdge = λ sdi. tick-answers-none m sdi on own (ap isFree free);
+            (subst (ShiftHolds (m .settings) (m .engine)) free (h .shift) .0 (own-not-client (m .settings) (and-left (ownClock (m .settings)) _ own)));
+        noEdge = λ sdi ss. tick-answers-none m sdi ss on own (ap isFree free);
       }
 
   -- A host that owes an edge is not idle.
   pub some-owed-not-idle : 1 ≤ owedIn m → IsBusy m
-  some-owed-not-idle k sdi = tick-answers-edge m sdi on own (some-owed-busy k)
+  some-owed-not-idle k sdi ss = tick-answers-edge m sdi ss on own (some-owed-busy k)
 
 -- A tick that makes no edge finds none owed.
-pub no-edge-owes-none : (m : Module) → ModuleHolds m → m .settings .spien ≡ true → ownClock (m .settings) ≡ true →
-    (sdi : Bool) → performOf m (Tick sdi) .answer ≡ NoEdge → owedIn m ≡ 0
-no-edge-owes-none m h on own sdi e = free-owes-none m h on own (no-edge-when m sdi e .2)
+pub no-edge-owes-none : (m : Module) → ModuleHolds m → m .settings .spien ≡ true → unframedHost (m .settings) ≡ true →
+    (sdi ss : Bool) → performOf m (Tick sdi ss) .answer ≡ NoEdge → owedIn m ≡ 0
+no-edge-owes-none m h on own sdi ss e = free-owes-none m h on own (no-edge-when m sdi ss e .2)
 
 -- Undisturbed calls keep the invariant and leave the module enabled, with its own clock.
-pub calls-leave : (cs : List Call) (m : Module) → ModuleHolds m → m .settings .spien ≡ true → ownClock (m .settings) ≡ true →
+pub calls-leave : (cs : List Call) (m : Module) → ModuleHolds m → m .settings .spien ≡ true → unframedHost (m .settings) ≡ true →
     AllUndisturbing m cs →
     ModuleHolds (afterCalls m cs)
     × (afterCalls m cs .settings .spien ≡ true)
-    × (ownClock (afterCalls m cs .settings) ≡ true)
+    × (unframedHost (afterCalls m cs .settings) ≡ true)
 calls-leave [] m h on own u = (h, on, own)
 calls-leave (c ∷ cs) m h on own u =
     calls-leave cs (performOf m c .after) (call-keeps m c h) (u .0 .enabled) (call-pays m h on own c .clock) (u .1)
 
 -- Ticks make an edge each as long as edges are owed, and leave the module undisturbed.
-pub ticks-make : (sdis : List Bool) (m : Module) → ModuleHolds m → m .settings .spien ≡ true → ownClock (m .settings) ≡ true →
-    length sdis ≤ owedIn m → AllUndisturbing m (onlyTicks sdis) × (edgesMade m (onlyTicks sdis) ≡ length sdis)
+pub ticks-make : (ss : Bool) (sdis : List Bool) (m : Module) → ModuleHolds m → m .settings .spien ≡ true →
+    unframedHost (m .settings) ≡ true → length sdis ≤ owedIn m →
+    AllUndisturbing m (onlyTicks ss sdis) × (edgesMade m (onlyTicks ss sdis) ≡ length sdis)
 unfolding answering
-ticks-make [] m h on own k = (tt, refl)
-ticks-make (sdi ∷ rest) m h on own k =
-    let after : Module = performOf m (Tick sdi) .after in
+ticks-make ss [] m h on own k = (tt, refl)
+ticks-make ss (sdi ∷ rest) m h on own k =
+    let after : Module = performOf m (Tick sdi ss) .after in
     let busy : isFree (m .engine .shift) ≡ false = some-owed-busy m h on own (le-trans (suc-le-suc zero-le) k) in
-    let one : edgesIn (performOf m (Tick sdi) .answer) ≡ 1 = ap edgesIn (tick-answers-edge m sdi on own busy) in
+    let one : edgesIn (performOf m (Tick sdi ss) .answer) ≡ 1 = ap edgesIn (tick-answers-edge m sdi ss on own busy) in
     let enabled : after .settings .spien ≡ true =
-    ap (λ (o : Outcome). o .after .settings .spien) (tick-is m sdi on own busy) ∙ on in
-    let p : Pays m (Tick sdi) (performOf m (Tick sdi)) = call-pays m h on own (Tick sdi) in
-    let t = ticks-make rest after (call-keeps m (Tick sdi) h) enabled (p .clock) (one-fewer _ _ _ _ one (p .edges enabled (and-false (isDone (performOf m (Tick sdi) .answer)) false refl)) k) in
-    ((record { enabled = enabled; noWord = and-false (isDone (performOf m (Tick sdi) .answer)) false refl }, t .0), one-on-top _ _ _ one (t .1))
+    ap (λ (o : Outcome). o .after .settings .spien)
+    (tick-is m sdi ss on (and-left (ownClock (m .settings)) _ own) (and-false (clockStops (m .settings)) _ busy)) ∙ on in
+    let p : Pays m (Tick sdi ss) (performOf m (Tick sdi ss)) = call-pays m h on own (Tick sdi ss) in
+    let t = ticks-make ss rest after (call-keeps m (Tick sdi ss) h) enabled (p .clock) (one-fewer _ _ _ _ one (p .edges enabled (and-false (isDone (performOf m (Tick sdi ss) .answer)) false refl)) k) in
+    ((record { enabled = enabled; noWord = and-false (isDone (performOf m (Tick sdi ss) .answer)) false refl }, t .0), one-on-top _ _ _ one (t .1))

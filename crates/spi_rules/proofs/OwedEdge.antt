@@ -1,4 +1,4 @@
--- What a host with its own clock owes, and what an edge does to it: 2w edges for each unfinished word, less those given to
+-- What an unframed host with its own clock owes, and what an edge does to it: 2w edges for each unfinished word, less those given to
 -- the current one.
 --     owed-is                             what a module owes, by the number of words that its transmit buffer counts
 --     begun-owes, loaded-owes, free-owes  what is owed with a word begun, loaded, or none
@@ -23,20 +23,20 @@ use Rattle.spi_rules.specs.declared.Module.{Module}
 use Rattle.spi_rules.specs.declared.Progress.{Progress}
 use Rattle.spi_rules.specs.declared.Shift.{Shift}
 use Rattle.spi_rules.specs.declared.Shift.the-variants.{Free, Loaded, Begun}
-use Rattle.spi_rules.specs.Settings.{widthOf, depthOf, ssenClient, ownClock}
+use Rattle.spi_rules.specs.Settings.{widthOf, depthOf, ssenClient, ownClock, framed, silent, unframedHost}
 use Rattle.spi_rules.specs.Registers.{isFree, statSettings, statEngine}
 use Rattle.spi_rules.specs.Buffers.{empty, firstWaiting, departed}
 use Rattle.spi_rules.specs.Interrupts.{noted}
 use Rattle.spi_rules.specs.Bits.{progressed}
 use Rattle.spi_rules.specs.Loading.{wordLeaves, moved, canLoad, loaded, rested, sdoAt}
 use Rattle.spi_rules.specs.Finish.{overflowed, wordAppended, isLost, delivered, sentDropped, freed, finished}
-use Rattle.spi_rules.specs.Edge.{wordEdges, fresh, begun, shifted, advanced, advancedIfBegun, underWay, clocked, levels, stepped}
+use Rattle.spi_rules.specs.Edge.{wordEdges, fresh, begun, shifted, advanced, advancedIfBegun, underWay, clocked, levels, stepped, awaitsPulse, pulsed}
 use Rattle.spi_rules.specs.Invariant.{ShiftHolds}
 use Rattle.spi_rules.specs.Words.{unfinished, waitingIn, leftBuffer}
 use Rattle.spi_rules.proofs.Keeps.{if-keeps, if-false, clash, and-left}
 use Rattle.spi_rules.proofs.Sizes.{width-least}
 use Rattle.spi_rules.proofs.BuffersOrder.{waiting-length}
-use Rattle.spi_rules.proofs.CallsWhen.{own-not-client, not-unlike, own-edge}
+use Rattle.spi_rules.proofs.CallsWhen.{own-not-client, not-unlike, own-edge, host-unframed, unframed-begins}
 use Rattle.spi_rules.proofs.OwedParts.{givenIn, owing, owingIn, owedIn}
 
 -- One word more owes 2w edges more.
@@ -64,11 +64,21 @@ stat-owes v m =
     ap (λ (l : List ℕ). 2 * widthOf (m .settings) * (length l + length (waitingIn m)) - givenIn (m .engine .shift))
     (stat-unfinished v (m .settings) (m .engine .shift))
 
-module _ (s : Settings) (own : ownClock s ≡ true) where
+module _ (s : Settings) (own : unframedHost s ≡ true) where
+  -- It has its own clock, is unframed, and sends no filler.
+  clock : ownClock s ≡ true
+  clock = and-left (ownClock s) _ own
+
+  plain : framed s ≡ false
+  plain = host-unframed s own
+
+  quietly : silent s ≡ true
+  quietly = if-false (framed s) _ _ plain ∙ and-left (s .con1 .msten) _ clock
+
   -- A host owes 2w edges for a begun word and for each that waits, less those given.
   begun-owes : (p : Progress) (k : ℕ) → p .filler ≡ false → owing s (Begun p) k ≡ 2 * widthOf s * k + 2 * widthOf s - p .edges
   begun-owes p k host =
-      let sent : (p .filler || ssenClient s) ≡ false = cc (own-not-client s own) in
+      let sent : (p .filler || ssenClient s) ≡ false = cc (own-not-client s clock) in
       ap (λ (l : List ℕ). 2 * widthOf s * (length l + k) - p .edges) (if-false (p .filler || ssenClient s) [] (p .word ∷ []) sent)
       ∙ ap (λ (x : ℕ). x - p .edges) (one-more (2 * widthOf s) k)
 
@@ -84,7 +94,7 @@ module _ (s : Settings) (own : ownClock s ≡ true) where
   ended-transmit : (filler : Bool) (word : ℕ) (n : Engine) → sentDropped s filler (delivered s word n) .transmit ≡ n .transmit
   unfolding sentDropped delivered overflowed wordAppended noted
   ended-transmit filler word n =
-      let no-client : (ssenClient s && not filler) ≡ false = rw (own-not-client s own) in
+      let no-client : (ssenClient s && not filler) ≡ false = rw (own-not-client s clock) in
       ap (λ (x : Engine). x .transmit) (if-false (ssenClient s && not filler) _ _ no-client)
       ∙ if-keeps (λ (x : Engine). x .transmit ≡ n .transmit) (isLost s n) _ _ (λ e. refl) (λ e. refl)
 
@@ -96,7 +106,7 @@ module _ (s : Settings) (own : ownClock s ≡ true) where
   -- A word loads into the free shift register of a host exactly if one waits.
   loads : (n : Engine) → n .shift ≡ Free → canLoad s n ≡ not (empty (n .transmit .count))
   unfolding canLoad
-  loads n free = rw (ap isFree free, own-not-client s own)
+  loads n free = rw (ap isFree free, own-not-client s clock)
 
   -- Once the next word has loaded into a free shift register, 2w edges are owed for each word that waited.
   loaded-owes-waiting : (n : Engine) → n .shift ≡ Free → owingIn s (loaded s n) ≡ 2 * widthOf s * n .transmit .count
@@ -154,22 +164,25 @@ module _ (s : Settings) (own : ownClock s ≡ true) where
   -- An edge lowers by one what a host owes that has a word loaded or begun.
   pub edge-owes : (sdi : Bool) (n : Engine) (sh : Shift) → n .shift ≡ sh → ShiftHolds s n sh → isFree sh ≡ false →
       1 + owingIn s (stepped s (levels (not (n .pins .sck)) sdi (n .pins .ss)) n) ≡ owing s sh (n .transmit .count)
-  unfolding advancedIfBegun underWay begun clocked wordEdges
+  unfolding advancedIfBegun underWay begun clocked wordEdges pulsed
   edge-owes sdi n Free e h busy = clash true refl busy
   edge-owes sdi n (Loaded word) e h busy =
       let sck : Bool = not (n .pins .sck) in
       let away : Bool·beq sck (s .con1 .ckp) ≡ false = ap (Bool·beq sck) (sym (h .2 own)) ∙ not-unlike (n .pins .sck) in
-      ap (λ (x : Engine). 1 + owingIn s x) (own-edge s n own sdi)
+      ap (λ (x : Engine). 1 + owingIn s x) (own-edge s n clock sdi)
       ∙ ap (λ (x : Shift). 1 + owingIn s (advancedIfBegun s sdi x (clocked sck n)))
-      (if-false (Bool·beq sck (s .con1 .ckp)) _ _ away ∙ ap (begun s n) e)
+      (if-false (Bool·beq sck (s .con1 .ckp)) _ _ away
+      ∙ if-false (awaitsPulse s n) _ _ (unframed-begins s n plain)
+      ∙ ap (begun s n) e)
       ∙ advanced-owes sdi (fresh false word) (clocked sck n) refl (omega (arith, width-least s))
       ∙ sym (loaded-owes word (n .transmit .count))
   edge-owes sdi n (Begun p) e h busy =
       let sck : Bool = not (n .pins .sck) in
-      let host : p .filler ≡ false = h .host (and-left (s .con1 .msten) _ own) in
-      ap (λ (x : Engine). 1 + owingIn s x) (own-edge s n own sdi)
+      let host : p .filler ≡ false = h .host quietly in
+      ap (λ (x : Engine). 1 + owingIn s x) (own-edge s n clock sdi)
       ∙ ap (λ (x : Shift). 1 + owingIn s (advancedIfBegun s sdi x (clocked sck n)))
-      (if-keeps (λ (x : Shift). x ≡ Begun p) (Bool·beq sck (s .con1 .ckp)) _ _ (λ i. e) (λ a. ap (begun s n) e))
+      (if-keeps (λ (x : Shift). x ≡ Begun p) (Bool·beq sck (s .con1 .ckp)) _ _ (λ i. e)
+      (λ a. if-keeps (λ (x : Shift). x ≡ Begun p) (awaitsPulse s n) _ _ (λ w. e) (λ w. ap (begun s n) e)))
       ∙ advanced-owes sdi p (clocked sck n) host (h .short)
       ∙ sym (begun-owes p (n .transmit .count) host)
 
@@ -179,12 +192,12 @@ module _ (s : Settings) (own : ownClock s ≡ true) where
   busy-owes n Free h k e = refl
   busy-owes n (Loaded word) h k e = absurd (omega (arith, width-least s, loaded-owes word k))
   busy-owes n (Begun p) h k e =
-      let host : p .filler ≡ false = h .host (and-left (s .con1 .msten) _ own) in
+      let host : p .filler ≡ false = h .host quietly in
       absurd (omega (arith, h .short, begun-owes p k host))
 
   -- A host whose shift register is free owes none.
   pub idle-owes : (n : Engine) → n .shift ≡ Free → ShiftHolds s n Free → owingIn s n ≡ 0
   idle-owes n free h =
       ap (λ (sh : Shift). owing s sh (n .transmit .count)) free
-      ∙ ap (owing s Free) (h .0 (own-not-client s own))
+      ∙ ap (owing s Free) (h .0 (own-not-client s clock))
       ∙ free-owes

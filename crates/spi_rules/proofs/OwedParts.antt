@@ -16,7 +16,7 @@ use Rattle.spi_rules.specs.declared.Shift.{Shift}
 use Rattle.spi_rules.specs.declared.Shift.the-variants.{Free, Loaded, Begun}
 use Rattle.spi_rules.specs.declared.Answer.{Answer}
 use Rattle.spi_rules.specs.declared.Call.{Call}
-use Rattle.spi_rules.specs.Settings.{widthOf, ownClock}
+use Rattle.spi_rules.specs.Settings.{widthOf, unframedHost}
 use Rattle.spi_rules.specs.Refusals.{saidOf, isDone}
 use Rattle.spi_rules.specs.RefusalTable.{writes}
 use Rattle.spi_rules.specs.Words.{waitingIn, unfinished, leftBuffer}
@@ -54,8 +54,8 @@ AllUndisturbing m [] = Unit {0}
 AllUndisturbing m (c ∷ cs) = Undisturbing m c × AllUndisturbing (performOf m c .after) cs
 
 -- An outcome that leaves the module enabled and accepts no word makes as many edges as what is owed falls by. The module
--- keeps its own clock.
+-- stays an unframed host with its own clock.
 pub record Pays (m : Module) (c : Call) (o : Outcome) : Type 0 where
   pub edges : o .after .settings .spien ≡ true → (isDone (o .answer) && writes 3 c) ≡ false →
       edgesIn (o .answer) + owedIn (o .after) ≡ owedIn m
-  pub clock : ownClock (o .after .settings) ≡ true
+  pub clock : unframedHost (o .after .settings) ≡ true

@@ -8,7 +8,7 @@
 --     restat, elsewhere     settings and an engine changed where the shift register does not look
 --     BufferHolds           one buffer of a given depth and width
 --     TransmitHolds, ReceiveHolds, BuffersHold   the buffers of an engine
---     Idle                  the clock of a host with its own clock is idle
+--     Idle                  the clock of an unframed host with its own clock is idle
 --     FinishHolds           an engine in the middle of a finish, before the next word loads
 --     LoadHolds             an engine once a word has loaded, before SDO shows it
 --     WordHolds             the word that is being sent
@@ -34,7 +34,7 @@ use Rattle.spi_rules.specs.declared.Refusal.{Refusal}
 use Rattle.spi_rules.specs.declared.Answer.{Answer}
 use Rattle.spi_rules.specs.declared.Answer.the-variants.{Refused, Done, Value, NoEdge, Edge}
 use Rattle.spi_rules.specs.Ring.{capacity}
-use Rattle.spi_rules.specs.Settings.{widthOf, depthOf, ssenClient, ownClock}
+use Rattle.spi_rules.specs.Settings.{widthOf, depthOf, ssenClient, ckeOf, silent, unframedHost}
 use Rattle.spi_rules.specs.Registers.{bitOf}
 use Rattle.spi_rules.specs.Buffers.{firstWaiting, written, waiting}
 use Rattle.spi_rules.specs.Bits.{samples}
@@ -85,13 +85,13 @@ restat s spien spisidl sisel =
     record { spien = spien; spisidl = spisidl; sisel = sisel; con1 = s .con1; con2 = s .con2 }
 
 -- An engine with other parts than the transmit buffer and the levels SCK and SS.
-abbrev pub elsewhere : Engine → Receive → Shift → Bool → Bool → Bool → Engine
-elsewhere n receive shift sdo spirov interrupt =
+abbrev pub elsewhere : Engine → Receive → Shift → Bool → Bool → Bool → Bool → Engine
+elsewhere n receive shift sdo pulse spirov interrupt =
     record {
       transmit = n .transmit;
       receive = receive;
       shift = shift;
-      pins = record { sck = n .pins .sck; ss = n .pins .ss; sdo = sdo };
+      pins = record { sck = n .pins .sck; ss = n .pins .ss; sdo = sdo; pulse = pulse };
       spirov = spirov;
       interrupt = interrupt;
     }
@@ -115,21 +115,21 @@ pub record BuffersHold (s : Settings) (n : Engine) : Type 0 where
   pub transmit : TransmitHolds s (n .transmit)
   pub receive : ReceiveHolds s (n .receive)
 
--- The clock of a host with its own clock is idle.
+-- The clock of an unframed host with its own clock is idle.
 abbrev pub Idle : Settings → Engine → Type 0
-Idle s n = ownClock s ≡ true → n .pins .sck ≡ s .con1 .ckp
+Idle s n = unframedHost s ≡ true → n .pins .sck ≡ s .con1 .ckp
 
 -- An engine in the middle of a finish: its buffers hold and its clock is idle, whatever the shift register has.
 pub record FinishHolds (s : Settings) (n : Engine) : Type 0 where
   pub buffers : BuffersHold s n
   pub idle : Idle s n
 
--- The word that is being sent: it fits the width, a filler is made of zeros and no host sends one, and an SSEN client is
+-- The word that is being sent: it fits the width, a filler is made of zeros and no silent module sends one, and an SSEN client is
 -- selected and has its word still waiting as the first.
 pub record WordHolds (s : Settings) (n : Engine) (filler : Bool) (word : ℕ) : Type 0 where
   pub fits : word < 2 ^ widthOf s
   pub zeros : filler ≡ true → word ≡ 0
-  pub host : s .con1 .msten ≡ true → filler ≡ false
+  pub host : silent s ≡ true → filler ≡ false
   pub selected : ssenClient s ≡ true → n .pins .ss ≡ false
   pub first : ssenClient s ≡ true → filler ≡ false → (1 ≤ n .transmit .count) × (word ≡ firstWaiting (n .transmit))
 
@@ -137,10 +137,10 @@ pub record WordHolds (s : Settings) (n : Engine) (filler : Bool) (word : ℕ) : 
 -- samples finds SDO at the bit that it samples.
 pub record EdgeHolds (s : Settings) (n : Engine) (p : Progress) : Type 0 where
   pub short : p .edges < wordEdges s
-  pub received : p .received < 2 ^ sampled (s .con1 .cke) (p .edges)
+  pub received : p .received < 2 ^ sampled (ckeOf s) (p .edges)
   pub clock : n .pins .sck ≡ Bool·beq (s .con1 .ckp) (eqb ((p .edges + 1) % 2) 0)
-  pub shows : samples (s .con1 .cke) (p .edges + 1) ≡ true →
-      n .pins .sdo ≡ bitOf (p .word) (widthOf s - 1 - sampled (s .con1 .cke) (p .edges))
+  pub shows : samples (ckeOf s) (p .edges + 1) ≡ true →
+      n .pins .sdo ≡ bitOf (p .word) (widthOf s - 1 - sampled (ckeOf s) (p .edges))
   pub sent : WordHolds s n (p .filler) (p .word)
 
 -- An engine once a word has loaded, if it can: its buffers and its shift register.

@@ -1,26 +1,25 @@
 -- A call is refused exactly when a row of the table of document 01 applies, with the first that does in the order of the
 -- tests, whatever the module.
 --     refused-exactly   the demand of specs/Demands.antt
---     never-four        no refusal has the number 4
+--     never-given        no refusal has the number 4
 --     refused-by        a test that refuses by its row: what comes after it is asked only if it fails
 --     by-spien          a call is refused exactly if it is so in every enabled and in every disabled module
 -- Assumes nothing.
 use Prim.Native.Nat.{ℕ, zero, suc}
 use mathlib.Core.Bool.{Bool, true, false, not, _&&_, _||_, or-false}
-use mathlib.Core.Path.{_≡_, refl, sym, ap, _∙_}
+use mathlib.Core.Path.{_≡_, refl, ap, _∙_}
 use native.Mathlib.Omega.{arith}
 use borrow.Author.Tests.{lt-ltb}
 use lib.Dec.{eqb, ltb, leb}
-use Rattle.spi_rules.specs.declared.Settings.{Settings}
 use Rattle.spi_rules.specs.declared.Module.{Module}
 use Rattle.spi_rules.specs.declared.Outcome.{Outcome}
 use Rattle.spi_rules.specs.declared.Refusal.{Refusal}
-use Rattle.spi_rules.specs.declared.Refusal.the-variants.{NoSuchRegister, Disabled, Enabled, TransmitFull, ReceiveEmpty, WrongClock, NoRate, UnreadableLine, DifferentModes, TooManyEdges, Framed, Undivided, LateSampling, UnselectedCke}
+use Rattle.spi_rules.specs.declared.Refusal.the-variants.{NoSuchRegister, Disabled, Enabled, TransmitFull, ReceiveEmpty, WrongClock, NoRate, UnreadableLine, DifferentModes, TooManyEdges, Undivided, LateSampling, UnselectedCke}
 use Rattle.spi_rules.specs.declared.Call.{Call}
 use Rattle.spi_rules.specs.declared.Call.the-variants.{Read, Write, Tick, Pin, Clear}
 use Rattle.spi_rules.specs.Choice.{if_then_else_}
-use Rattle.spi_rules.specs.Settings.{depthOf, ownClock}
-use Rattle.spi_rules.specs.Refusals.{numberOf, saidOf, framing, undivided, lateSampling, unselectedCke, causes, badSettings, firstGiven}
+use Rattle.spi_rules.specs.Settings.{depthOf, clockStops, ownClock}
+use Rattle.spi_rules.specs.Refusals.{numberOf, saidOf, undivided, lateSampling, unselectedCke, causes, badSettings, firstGiven}
 use Rattle.spi_rules.specs.Registers.{bitOf, isFree, spitbf}
 use Rattle.spi_rules.specs.Buffers.{full, empty}
 use Rattle.spi_rules.specs.Calls.{refuse, answering, turnsOn, readBuf, readOf, writeStat, configured, writeBuf, writeOf, tickOf, pinsOf, clearOf, performOf}
@@ -48,45 +47,41 @@ by-spien : (c : Call) →
     (m : Module) → told (performOf m c) ≡ firstNumber (rows m c)
 by-spien c h m = h (m .settings .spien) m
 
--- The first of four causes that is given, and its number.
-first-cause : (up a b c d : Bool) (p q r s k : ℕ) →
-    (if up && (a || (b || (c || d))) then (if a then p else if b then q else if c then r else s) else k)
-    ≡ (if up && a then p else if up && b then q else if up && c then r else if up && d then s else k)
+-- The first of three causes that is given, and its number.
+first-cause : (up a b c : Bool) (p q r k : ℕ) →
+    (if up && (a || (b || c)) then (if a then p else if b then q else r) else k)
+    ≡ (if up && a then p else if up && b then q else if up && c then r else k)
 unfolding if_then_else_
-first-cause true true b c d p q r s k = refl
-first-cause true false true c d p q r s k = refl
-first-cause true false false true d p q r s k = refl
-first-cause true false false false true p q r s k = refl
-first-cause true false false false false p q r s k = refl
-first-cause false a b c d p q r s k = refl
+first-cause true true b c p q r k = refl
+first-cause true false true c p q r k = refl
+first-cause true false false true p q r k = refl
+first-cause true false false false p q r k = refl
+first-cause false a b c p q r k = refl
 
 -- The number of the first cause.
-cause-number : (a b c : Bool) →
-    numberOf (if a then Framed else if b then Undivided else if c then LateSampling else UnselectedCke)
-    ≡ (if a then 12 else if b then 13 else if c then 14 else 15)
+cause-number : (a b : Bool) →
+    numberOf (if a then Undivided else if b then LateSampling else UnselectedCke) ≡ (if a then 13 else if b then 14 else 15)
 unfolding if_then_else_ numberOf
-cause-number true b c = refl
-cause-number false true c = refl
-cause-number false false true = refl
-cause-number false false false = refl
+cause-number true b = refl
+cause-number false true = refl
+cause-number false false = refl
 
--- No refusal has the number 4.
-pub never-four : (r : Refusal) → numberOf r ≡ 4 → ⊥
+-- No refusal has the number 4, and none has 12.
+pub never-given : (r : Refusal) → (numberOf r ≡ 4 → ⊥) × (numberOf r ≡ 12 → ⊥)
 unfolding numberOf
-never-four NoSuchRegister e = omega (arith, e)
-never-four Disabled e = omega (arith, e)
-never-four Enabled e = omega (arith, e)
-never-four TransmitFull e = omega (arith, e)
-never-four ReceiveEmpty e = omega (arith, e)
-never-four WrongClock e = omega (arith, e)
-never-four NoRate e = omega (arith, e)
-never-four UnreadableLine e = omega (arith, e)
-never-four DifferentModes e = omega (arith, e)
-never-four TooManyEdges e = omega (arith, e)
-never-four Framed e = omega (arith, e)
-never-four Undivided e = omega (arith, e)
-never-four LateSampling e = omega (arith, e)
-never-four UnselectedCke e = omega (arith, e)
+never-given NoSuchRegister = ((λ e. omega (arith, e)), (λ e. omega (arith, e)))
+never-given Disabled = ((λ e. omega (arith, e)), (λ e. omega (arith, e)))
+never-given Enabled = ((λ e. omega (arith, e)), (λ e. omega (arith, e)))
+never-given TransmitFull = ((λ e. omega (arith, e)), (λ e. omega (arith, e)))
+never-given ReceiveEmpty = ((λ e. omega (arith, e)), (λ e. omega (arith, e)))
+never-given WrongClock = ((λ e. omega (arith, e)), (λ e. omega (arith, e)))
+never-given NoRate = ((λ e. omega (arith, e)), (λ e. omega (arith, e)))
+never-given UnreadableLine = ((λ e. omega (arith, e)), (λ e. omega (arith, e)))
+never-given DifferentModes = ((λ e. omega (arith, e)), (λ e. omega (arith, e)))
+never-given TooManyEdges = ((λ e. omega (arith, e)), (λ e. omega (arith, e)))
+never-given Undivided = ((λ e. omega (arith, e)), (λ e. omega (arith, e)))
+never-given LateSampling = ((λ e. omega (arith, e)), (λ e. omega (arith, e)))
+never-given UnselectedCke = ((λ e. omega (arith, e)), (λ e. omega (arith, e)))
 
 -- A register number is one of the four, or above 3.
 register-cases : (P : ℕ → Type 0) → P 0 → P 1 → P 2 → P 3 → ((k : ℕ) → ltb 3 k ≡ true → P k) → (register : ℕ) → P register
@@ -115,7 +110,7 @@ read-refused m =
     m)
     (λ k above. rw above)
 
--- A STAT write is refused exactly by row 4, a CON1 or CON2 write by row 3, and a BUF write by rows 2 and 5.
+-- A STAT write is refused exactly by rows 13 to 15, a CON1 or CON2 write by row 3, and a BUF write by rows 2 and 5.
 write-refused : (m : Module) (v register : ℕ) →
     told (performOf m (Write register v)) ≡ firstNumber (rows m (Write register v))
 unfolding performOf writeOf writeStat turnsOn configured writeBuf spitbf depthOf if_then_else_ refuse answering numberOf
@@ -128,8 +123,8 @@ write-refused m v =
           let s = m .settings in
           refused-by _ (firstGiven (causes s)) (bitOf v 15 && badSettings s) (bitOf v 15 && badSettings s) _ 0 refl (λ good. refl)
           ∙ ap (λ (k : ℕ). if bitOf v 15 && badSettings s then k else 0)
-          (cause-number (framing s) (undivided s) (lateSampling s))
-          ∙ first-cause (bitOf v 15) (framing s) (undivided s) (lateSampling s) (unselectedCke s) 12 13 14 15 0
+          (cause-number (undivided s) (lateSampling s))
+          ∙ first-cause (bitOf v 15) (undivided s) (lateSampling s) (unselectedCke s) 13 14 15 0
     ])
     m)
     (by-spien (Write 1 v) (elim [ true ↦ λ m. refl | false ↦ λ m. refl ]) m)
@@ -145,15 +140,15 @@ write-refused m v =
     (λ k above. rw above)
 
 -- A tick is refused exactly by its row.
-tick-refused : (sdi : Bool) (m : Module) → told (performOf m (Tick sdi)) ≡ firstNumber (rows m (Tick sdi))
+tick-refused : (sdi ss : Bool) (m : Module) → told (performOf m (Tick sdi ss)) ≡ firstNumber (rows m (Tick sdi ss))
 unfolding performOf tickOf if_then_else_ refuse answering numberOf
-tick-refused sdi =
-    by-spien (Tick sdi)
+tick-refused sdi ss =
+    by-spien (Tick sdi ss)
     (elim [
       | true ↦ λ m.
           refused-by _ WrongClock (not (ownClock (m .settings))) _ _ 0 (or-false _)
           (λ own.
-          if-keeps (λ (o : Outcome). told o ≡ 0) (isFree (m .engine .shift)) _ _ (λ e. refl) (λ e. refl))
+          if-keeps (λ (o : Outcome). told o ≡ 0) (clockStops (m .settings) && isFree (m .engine .shift)) _ _ (λ e. refl) (λ e. refl))
       | false ↦ λ m. refl
     ])
 
@@ -177,6 +172,6 @@ clear-refused = by-spien Clear (elim [ true ↦ λ m. refl | false ↦ λ m. ref
 pub refused-exactly : (m : Module) (c : Call) → told (performOf m c) ≡ firstNumber (rows m c)
 refused-exactly m (Read register) = read-refused m register
 refused-exactly m (Write register v) = write-refused m v register
-refused-exactly m (Tick sdi) = tick-refused sdi m
+refused-exactly m (Tick sdi ss) = tick-refused sdi ss m
 refused-exactly m (Pin sck sdi ss) = pin-refused sck sdi ss m
 refused-exactly m Clear = clear-refused m

@@ -171,16 +171,16 @@ module _ (m : Module) where
         con2 = sym (if-false (eqb register 2) _ _ e2);
       }))))))
 
-  tick-fits : (sdi : Bool) → Fitting (m .settings) (Tick sdi) (tickOf m sdi)
+  tick-fits : (sdi ss : Bool) → Fitting (m .settings) (Tick sdi ss) (tickOf m sdi ss)
   unfolding tickOf answering
-  tick-fits sdi =
-      let P = Fitting (m .settings) (Tick sdi) in
-      if-keeps P _ _ _ (λ e. refusal-fits (Tick sdi) _)
+  tick-fits sdi ss =
+      let P = Fitting (m .settings) (Tick sdi ss) in
+      if-keeps P _ _ _ (λ e. refusal-fits (Tick sdi ss) _)
       (λ e.
-      if-keeps P _ _ _ (λ e. refusal-fits (Tick sdi) _)
+      if-keeps P _ _ _ (λ e. refusal-fits (Tick sdi ss) _)
       (λ e.
-      if-keeps P _ _ _ (λ e. same-fits (Tick sdi) NoEdge _ refl refl refl refl refl)
-      (λ e. same-fits (Tick sdi) Edge _ refl refl refl refl refl)))
+      if-keeps P _ _ _ (λ e. same-fits (Tick sdi ss) NoEdge _ refl refl refl refl refl)
+      (λ e. same-fits (Tick sdi ss) Edge _ refl refl refl refl refl)))
 
   pins-fit : (sck sdi ss : Bool) → Fitting (m .settings) (Pin sck sdi ss) (pinsOf m sck sdi ss)
   unfolding pinsOf answering
@@ -196,6 +196,6 @@ module _ (m : Module) where
   unfolding performOf clearOf answering
   call-fits (Read register) = read-fits register
   call-fits (Write register v) = write-fits register v
-  call-fits (Tick sdi) = tick-fits sdi
+  call-fits (Tick sdi ss) = tick-fits sdi ss
   call-fits (Pin sck sdi ss) = pins-fit sck sdi ss
   call-fits Clear = same-fits Clear Done _ refl refl refl refl refl

@@ -16,7 +16,7 @@ use Rattle.spi_rules.specs.declared.Answer.the-variants.{Refused, Done, 
 use Rattle.spi_rules.specs.declared.Call.{Call}
 use Rattle.spi_rules.specs.declared.Call.the-variants.{Read, Write, Tick, Pin, Clear}
 use Rattle.spi_rules.specs.Choice.{if_then_else_}
-use Rattle.spi_rules.specs.Settings.{ownClock}
+use Rattle.spi_rules.specs.Settings.{clockStops, ownClock}
 use Rattle.spi_rules.specs.Refusals.{causes, badSettings, firstGiven}
 use Rattle.spi_rules.specs.Registers.{isFree, spitbf}
 use Rattle.spi_rules.specs.Buffers.{empty}
@@ -78,12 +78,12 @@ write-unmoved m register v =
     (either-unmoved m (spitbf m) _ _ (refuse-unmoved m TransmitFull) (done-unmoved m _))))))
 
 -- A tick keeps the module unless it makes an edge.
-tick-unmoved : (m : Module) (sdi : Bool) → Unmoved m (tickOf m sdi)
+tick-unmoved : (m : Module) (sdi ss : Bool) → Unmoved m (tickOf m sdi ss)
 unfolding tickOf answering
-tick-unmoved m sdi =
+tick-unmoved m sdi ss =
     either-unmoved m (not (m .settings .spien)) _ _ (refuse-unmoved m Disabled)
     (either-unmoved m (not (ownClock (m .settings))) _ _ (refuse-unmoved m WrongClock)
-    (either-unmoved m (isFree (m .engine .shift)) _ _ (same-unmoved m NoEdge) (edge-unmoved m _)))
+    (either-unmoved m (clockStops (m .settings) && isFree (m .engine .shift)) _ _ (same-unmoved m NoEdge) (edge-unmoved m _)))
 
 -- A pin call keeps the module unless it is done.
 pins-unmoved : (m : Module) (sck sdi ss : Bool) → Unmoved m (pinsOf m sck sdi ss)
@@ -102,7 +102,7 @@ call-unmoved : (m : Module) (c : Call) → Unmoved m (performOf m c)
 unfolding performOf
 call-unmoved m (Read register) = read-unmoved m register
 call-unmoved m (Write register v) = write-unmoved m register v
-call-unmoved m (Tick sdi) = tick-unmoved m sdi
+call-unmoved m (Tick sdi ss) = tick-unmoved m sdi ss
 call-unmoved m (Pin sck sdi ss) = pins-unmoved m sck sdi ss
 call-unmoved m Clear = clear-unmoved m
 

@@ -15,6 +15,7 @@ use borrow.Author.Tests.{eqb-true, eqb-false, eq-eqb, ne-eqb, not-true, not-fals
 use lib.Dec.{eqb}
 use Rattle.spi_rules.specs.declared.Settings.{Settings}
 use Rattle.spi_rules.specs.Choice.{if_then_else_}
+use Rattle.spi_rules.specs.Settings.{ckeOf}
 use Rattle.spi_rules.specs.Bits.{samples, shiftedIn, receivedAfter}
 use Rattle.spi_rules.specs.Invariant.{sampled}
 use Rattle.spi_rules.proofs.Keeps.{if-keeps, like, unlike}
@@ -92,12 +93,12 @@ shifted-in-fits k received false h = omega arith
 
 -- The bits received fit the number of bits sampled, after an edge as before it.
 pub received-fits : (s : Settings) (k : ℕ) (sdi : Bool) (received : ℕ) →
-    received < 2 ^ sampled (s .con1 .cke) k → receivedAfter s (k + 1) sdi received < 2 ^ sampled (s .con1 .cke) (k + 1)
+    received < 2 ^ sampled (ckeOf s) k → receivedAfter s (k + 1) sdi received < 2 ^ sampled (ckeOf s) (k + 1)
 unfolding receivedAfter
 received-fits s k sdi received h =
-    if-keeps (λ (x : ℕ). x < 2 ^ sampled (s .con1 .cke) (k + 1)) (samples (s .con1 .cke) (k + 1)) _ _
-    (λ e. rw (sampled-more (s .con1 .cke) k e) (shifted-in-fits (sampled (s .con1 .cke) k) received sdi h))
-    (λ e. rw (sampled-same (s .con1 .cke) k e) h)
+    if-keeps (λ (x : ℕ). x < 2 ^ sampled (ckeOf s) (k + 1)) (samples (ckeOf s) (k + 1)) _ _
+    (λ e. rw (sampled-more (ckeOf s) k e) (shifted-in-fits (sampled (ckeOf s) k) received sdi h))
+    (λ e. rw (sampled-same (ckeOf s) k e) h)
 
 -- Of two numbers that follow one another, one is even.
 pub parity-turns : (k : ℕ) → eqb ((k + 1) % 2) 0 ≡ not (eqb (k % 2) 0)

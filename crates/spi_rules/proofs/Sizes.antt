@@ -1,5 +1,5 @@
 -- The sizes that settings decide, for both widths and both depths at once, and the numbers that fit a width.
---     width-least, width-most    1 ≤ w ≤ 16
+--     width-least, width-eight, width-most    1 ≤ w, 8 ≤ w, w ≤ 16
 --     depth-least, depth-most    1 ≤ depth ≤ the cells of a buffer
 --     low-bits-fit               the bits that BUF keeps fit the width
 --     low-bits-of-fit            a word that fits the width is shown whole
@@ -70,3 +70,8 @@ one-shifted w most =
 pub bit-most : (b : Bool) → boolByte b ≤ 1
 bit-most true = lit≤ tt
 bit-most false = lit≤ tt
+
+-- A word has at least eight bits.
+pub width-eight : (s : Settings) → 8 ≤ widthOf s
+unfolding widthOf
+width-eight s = if-keeps (λ (w : ℕ). 8 ≤ w) (s .con1 .mode16) _ _ (λ e. omega arith) (λ e. omega arith)

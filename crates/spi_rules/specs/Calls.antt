@@ -1,7 +1,7 @@
 -- The calls of document 01 on one module: each gives its answer and the whole module after it. Register calls test 1,
--- then 2 or 3, then 4, 5 or 6; tick and pin calls test 2, then 7. A refused call leaves the module as it was.
+-- then 2 or 3, then 13 to 15, 5 or 6; tick and pin calls test 2, then 7. A refused call leaves the module as it was.
 use Prim.Native.Nat.{ℕ}
-use mathlib.Core.Bool.{Bool, false, not, _&&_, _||_}
+use mathlib.Core.Bool.{Bool, false, not, _&&_, _||_, Bool·beq}
 use mathlib.Core.List.{List, [], _∷_}
 use lib.Dec.{eqb, ltb}
 use Rattle.spi_rules.specs.declared.Con1.{Con1}
@@ -19,11 +19,11 @@ use Rattle.spi_rules.specs.declared.Answer.{Answer}
 use Rattle.spi_rules.specs.declared.Answer.the-variants.{Refused, Done, Value, NoEdge, Edge}
 use Rattle.spi_rules.specs.declared.Call.{Call}
 use Rattle.spi_rules.specs.declared.Call.the-variants.{Read, Write, Tick, Pin, Clear}
-use Rattle.spi_rules.specs.declared.Sdo.{Sdo}
-use Rattle.spi_rules.specs.declared.Sdo.the-variants.{Low, High, Undriven}
+use Rattle.spi_rules.specs.declared.Output.{Output}
+use Rattle.spi_rules.specs.declared.Output.the-variants.{Low, High, Undriven}
 use Rattle.spi_rules.specs.Choice.{if_then_else_}
 use Rattle.spi_rules.specs.Changes.{withTransmit, withReceive, withInterrupt}
-use Rattle.spi_rules.specs.Settings.{depthOf, clockStops, ownClock}
+use Rattle.spi_rules.specs.Settings.{depthOf, frameHost, frameClient, clockStops, ownClock}
 use Rattle.spi_rules.specs.Refusals.{causes, badSettings, firstGiven}
 use Rattle.spi_rules.specs.Registers.{con1From, con1Value, con2From, con2Value, bitOf, isFree, statValue, statSettings, statEngine, enabledEngine, disabledEngine, lowBits, spitbf}
 use Rattle.spi_rules.specs.Buffers.{empty, emptyTransmit, emptyReceive, firstUnread, taken, written}
@@ -50,7 +50,7 @@ poweredUp =
             transmit = emptyTransmit;
             receive = emptyReceive;
             shift = Free;
-            pins = record { sck = false; ss = false; sdo = false };
+            pins = record { sck = false; ss = false; sdo = false; pulse = false };
             spirov = false;
             interrupt = false;
           };
@@ -137,14 +137,19 @@ writeOf m register v =
     else if eqb register 2 then configured m (withCon2 (m .settings) (con2From v))
     else writeBuf m v
 
--- Tick: 2, then 7. With no word loaded it answers "no edge" and changes nothing; otherwise the clock goes to its other level.
-unfoldable pub tickOf : Module → Bool → Outcome
-tickOf m sdi =
+-- The select level that a tick carries counts for a frame client alone; for others the remembered one stays.
+abbrev pub toldSelect : Module → Bool → Bool
+toldSelect m ss = if frameClient (m .settings) then ss else m .engine .pins .ss
+
+-- Tick: 2, then 7. With no word loaded an unframed host answers "no edge" and changes nothing; otherwise the clock goes to its
+-- other level.
+unfoldable pub tickOf : Module → Bool → Bool → Outcome
+tickOf m sdi ss =
     if not (m .settings .spien) then refuse m Disabled
     else if not (ownClock (m .settings)) then refuse m WrongClock
     else if clockStops (m .settings) && isFree (m .engine .shift) then record { answer = NoEdge; after = m }
     else answering m Edge
-    (stepped (m .settings) (levels (not (m .engine .pins .sck)) sdi (m .engine .pins .ss)) (m .engine))
+    (stepped (m .settings) (levels (not (m .engine .pins .sck)) sdi (toldSelect m ss)) (m .engine))
 
 -- Pin call: 2, then 7; then the levels SCK, SDI and SS are seen.
 unfoldable pub pinsOf : Module → Bool → Bool → Bool → Outcome
@@ -161,7 +166,7 @@ clearOf m = answering m Done (withInterrupt false (m .engine))
 unfoldable pub performOf : Module → Call → Outcome
 performOf m (Read register) = readOf m register
 performOf m (Write register v) = writeOf m register v
-performOf m (Tick sdi) = tickOf m sdi
+performOf m (Tick sdi ss) = tickOf m sdi ss
 performOf m (Pin sck sdi ss) = pinsOf m sck sdi ss
 performOf m Clear = clearOf m
 
@@ -170,7 +175,8 @@ abbrev pub afterCalls : Module → List Call → Module
 afterCalls m [] = m
 afterCalls m (c ∷ cs) = afterCalls (performOf m c .after) cs
 
--- What a caller sees without changing anything: the interrupt flag, the remembered SCK level, and the SDO pin.
+-- What a caller sees without changing anything: the interrupt flag, the remembered SCK level, and the
+-- pins SDO and SS.
 unfoldable pub interruptOf : Module → Bool
 interruptOf m = m .engine .interrupt
 
@@ -184,8 +190,18 @@ undrivenBy s p = not (s .spien) || (s .con1 .dissdo || deselected s (p .ss))
 unfoldable pub undriven : Module → Bool
 undriven m = undrivenBy (m .settings) (m .engine .pins)
 
-abbrev pub sdoBy : Bool → Pins → Sdo
+abbrev pub sdoBy : Bool → Pins → Output
 sdoBy off p = if off then Undriven else if p .sdo then High else Low
 
-unfoldable pub sdoOf : Module → Sdo
+unfoldable pub sdoOf : Module → Output
 sdoOf m = sdoBy (undriven m) (m .engine .pins)
+
+-- SS is driven by an enabled frame host: at the level FRMPOL during a pulse, else at the other one (document 02, Three).
+abbrev pub ssBy : Settings → Pins → Output
+ssBy s p =
+    if not (s .spien && frameHost s) then Undriven
+    else if Bool·beq (p .pulse) (s .con2 .frmpol) then High
+    else Low
+
+unfoldable pub ssOf : Module → Output
+ssOf m = ssBy (m .settings) (m .engine .pins)

@@ -72,12 +72,15 @@ withInterrupt b n =
       interrupt = b;
     }
 
--- A pin with another level: SCK, SS, and the level that SDO has or would have.
+-- A pin with another level: SCK, SS, and the level that SDO has or would have; and whether a frame pulse stands.
 abbrev pub withSck : Bool → Engine → Engine
-withSck level n = withPins (record { sck = level; ss = n .pins .ss; sdo = n .pins .sdo }) n
+withSck level n = withPins (record { sck = level; ss = n .pins .ss; sdo = n .pins .sdo; pulse = n .pins .pulse }) n
 
 abbrev pub withSs : Bool → Engine → Engine
-withSs level n = withPins (record { sck = n .pins .sck; ss = level; sdo = n .pins .sdo }) n
+withSs level n = withPins (record { sck = n .pins .sck; ss = level; sdo = n .pins .sdo; pulse = n .pins .pulse }) n
 
 abbrev pub withSdo : Bool → Engine → Engine
-withSdo level n = withPins (record { sck = n .pins .sck; ss = n .pins .ss; sdo = level }) n
+withSdo level n = withPins (record { sck = n .pins .sck; ss = n .pins .ss; sdo = level; pulse = n .pins .pulse }) n
+
+abbrev pub withPulse : Bool → Engine → Engine
+withPulse standing n = withPins (record { sck = n .pins .sck; ss = n .pins .ss; sdo = n .pins .sdo; pulse = standing }) n

@@ -2,7 +2,7 @@
 -- value, ticks, pin calls and clears, each refused or not. The record OneModule at the end holds every statement, and
 -- proofs/DemandsHold.antt proves it. The step is performOf of specs/Calls.antt, one line for each call. Linked runs, the
 -- clock report and scripts have pages of their own; crates/spi_demands gathers them.
-use Prim.Native.Nat.{ℕ, zero, suc, _+_, _*_, _-_, _<_, _≤_}
+use Prim.Native.Nat.{ℕ, zero, suc, _+_, _*_, _-_, _≤_}
 use mathlib.Core.Bool.{Bool, true, false, not, _&&_, _||_}
 use mathlib.Core.List.{List, [], _∷_, _++_}
 use mathlib.Core.Path.{_≡_}
@@ -14,22 +14,22 @@ use Rattle.spi_rules.specs.declared.Outcome.{Outcome}
 use Rattle.spi_rules.specs.declared.Shift.{Shift}
 use Rattle.spi_rules.specs.declared.Shift.the-variants.{Free, Loaded, Begun}
 use Rattle.spi_rules.specs.declared.Refusal.{Refusal}
-use Rattle.spi_rules.specs.declared.Answer.{Answer}
 use Rattle.spi_rules.specs.declared.Answer.the-variants.{Refused, Value, NoEdge, Edge}
 use Rattle.spi_rules.specs.declared.Call.{Call}
 use Rattle.spi_rules.specs.declared.Call.the-variants.{Read, Write, Tick, Pin, Clear}
 use Rattle.spi_rules.specs.Choice.{if_then_else_}
 use Rattle.spi_rules.specs.Refusals.{numberOf, saidOf, isDone}
-use Rattle.spi_rules.specs.Examples.{examples, furtherExamples}
-use Rattle.spi_rules.specs.Settings.{widthOf, depthOf, ckeOf, ownClock}
+use Rattle.spi_rules.specs.Examples.{examples, furtherExamples, frameExamples}
+use Rattle.spi_rules.specs.Settings.{widthOf, depthOf, ckeOf, framed, frameHost, frameClient, unframedHost}
 use Rattle.spi_rules.specs.Registers.{bitOf}
-use Rattle.spi_rules.specs.Words.{waitingIn, unreadIn, leftBuffer, owedWords}
-use Rattle.spi_rules.specs.Calls.{poweredUp, performOf, afterCalls, interruptOf, sckOf, sdoOf}
-use Rattle.spi_rules.specs.Invariant.{ModuleHolds, sampled}
+use Rattle.spi_rules.specs.Words.{waitingIn, unreadIn, owedWords}
+use Rattle.spi_rules.specs.Calls.{poweredUp, performOf, interruptOf, sckOf, sdoOf, ssOf}
+use Rattle.spi_rules.specs.Invariant.{Reached, sampled}
 use Rattle.spi_rules.specs.RefusalTable.{firstNumber, asks, writes, isClear, rows}
 use Rattle.spi_rules.specs.Ledger.{Ledger, Wire, quiet, busy, Passed, spelled, sent, undropped, opened}
-use Rattle.spi_rules.specs.Watch.{Watched, watchedCall, watchedCalls}
-use Rattle.spi_rules.specs.Flags.{bits, statNamed, statPlaces, statBits, con1Named, con1Places, con2Named, con2Places, con2Bits, seesAccepted, seesLost, seesRaised, sdoShown, pinShown}
+use Rattle.spi_rules.specs.Watch.{Watched, watchedCall, watchedCalls, showsPulse}
+use Rattle.spi_rules.specs.Flags.{bits, statNamed, statPlaces, statBits, con1Named, con1Places, con2Named, con2Places, con2Bits, seesAccepted, seesLost, seesRaised, sdoShown, pinShown, selectShown}
+use Rattle.spi_rules.specs.Frames.{edgesGiven, unsent, FramedCall, FrameHostCall, FrameClientCall, FollowsOn}
 
 -- Demand 1. Every call is answered and ends, for any value in any state: performOf is a total function, and the gate
 -- proves that the code of each call ends with what it says.
@@ -39,7 +39,7 @@ use Rattle.spi_rules.specs.Flags.{bits, statNamed, statPlaces, statBits,
 abbrev pub kindsFor : Call → List ℕ
 kindsFor (Read register) = 2 ∷ []
 kindsFor (Write register v) = 1 ∷ []
-kindsFor (Tick sdi) = 3 ∷ 4 ∷ []
+kindsFor (Tick sdi ss) = 3 ∷ 4 ∷ []
 kindsFor (Pin sck sdi ss) = 1 ∷ []
 kindsFor Clear = 1 ∷ []
 
@@ -48,12 +48,12 @@ among k [] = false
 among k (x ∷ xs) = eqb k x || among k xs
 
 -- A call is refused exactly when a row of the table applies, with the number of the first that does, and then leaves the
--- module unchanged. No refusal has the number 4 (document 02, One), so that no call gives it. An equation with a function
--- leaves no two outcomes.
+-- module unchanged. No refusal has the number 4 (document 02, One) or 12 (Three), so that no call gives them. An equation
+-- with a function leaves no two outcomes.
 pub record Answered : Type 0 where
   pub refusedExactly : (m : Module) (c : Call) → saidOf (performOf m c .answer) .number ≡ firstNumber (rows m c)
   pub refusedUnchanged : (m : Module) (c : Call) (r : Refusal) → performOf m c .answer ≡ Refused r → performOf m c .after ≡ m
-  pub neverFour : (r : Refusal) → numberOf r ≡ 4 → ⊥
+  pub neverGiven : (r : Refusal) → (numberOf r ≡ 4 → ⊥) × (numberOf r ≡ 12 → ⊥)
   pub inKind : (m : Module) (c : Call) → among (saidOf (performOf m c .answer) .kind) (0 ∷ kindsFor c) ≡ true
   pub oneOutcome : (m : Module) (c : Call) (x y : Outcome) → x ≡ performOf m c → y ≡ performOf m c → x ≡ y
 
@@ -92,11 +92,12 @@ resumed m =
       wire = wireOf (m .settings) (m .engine .shift);
       sck = m .engine .pins .sck;
       ss = m .engine .pins .ss;
+      pulse = m .engine .pins .pulse;
     }
 
 pub data Beginning : Type 0 where
   powerUp : Beginning
-  midLife : (m : Module) → ModuleHolds m → m .settings .spien ≡ true → Beginning
+  midLife : (m : Module) → Reached m → m .settings .spien ≡ true → Beginning
 
 abbrev pub begins : Beginning → Watched
 begins powerUp = record { now = poweredUp; ledger = opened false }
@@ -137,9 +138,10 @@ pub record CallChanges (x : Watched) (c : Call) : Type 0 where
       else x .now .engine .spirov || seesLost x (watchedCall x c))
   pub sdo : watchedCall x c .now .engine .pins .sdo ≡ sdoShown x (watchedCall x c)
 
--- The pins as others see them: SDO with its level or undriven, and the clock where the ledger has it.
+-- The pins as others see them: SDO and SS with their levels or undriven, and the clock where the ledger has it.
 pub record PinsShow (x : Watched) : Type 0 where
   pub sdo : sdoOf (x .now) ≡ pinShown x
+  pub ss : ssOf (x .now) ≡ selectShown x
   pub sck : x .now .settings .spien ≡ true → sckOf (x .now) ≡ x .ledger .sck
 
 -- Demand 3. Word order of a module that is enabled now: the accepted words are those fully sent, then the one that left the
@@ -152,16 +154,11 @@ pub record WordOrder (x : Watched) : Type 0 where
   pub dropped : (c : Call) (a : Passed) → watchedCall x c .ledger .arrivals ≡ x .ledger .arrivals ++ (a ∷ []) →
       a .marked ≡ leb (depthOf (x .now .settings)) (length (unreadIn (x .now)))
 
--- Edges owed by a host with its own clock, said from the history: 2w for each word accepted and not sent, less those given
--- to the word on the wire.
-abbrev pub edgesGiven : Wire → ℕ
-edgesGiven quiet = 0
-edgesGiven (busy w) = w .edges
-
+-- Edges owed by an unframed host with its own clock, said from the history: 2w for each word accepted and not sent, less those
+-- given to the word on the wire. The clock of a framed host runs on, so that it owes no number of edges.
 abbrev pub owed : Watched → ℕ
 owed x =
-    2 * widthOf (x .now .settings) * (length (x .ledger .accepted) - length (sent (x .ledger)))
-    - edgesGiven (x .ledger .wire)
+    2 * widthOf (x .now .settings) * unsent (x .ledger) - edgesGiven (x .ledger .wire)
 
 -- Calls that leave the module enabled and accept no word.
 pub record Undisturbed (x : Watched) (c : Call) : Type 0 where
@@ -181,34 +178,45 @@ edgesMade m (c ∷ cs) = saidOf (performOf m c .answer) .edges + edgesMade (perf
 pub record IsIdle (m : Module) : Type 0 where
   pub free : m .engine .shift ≡ Free
   pub noneWaits : waitingIn m ≡ []
-  pub noEdge : (sdi : Bool) → performOf m (Tick sdi) .answer ≡ NoEdge
+  pub noEdge : (sdi ss : Bool) → performOf m (Tick sdi ss) .answer ≡ NoEdge
 
 abbrev pub IsBusy : Module → Type 0
-IsBusy m = (sdi : Bool) → performOf m (Tick sdi) .answer ≡ Edge
+IsBusy m = (sdi ss : Bool) → performOf m (Tick sdi ss) .answer ≡ Edge
 
--- Ticks that carry these SDI levels, and nothing else.
-abbrev pub onlyTicks : List Bool → List Call
-onlyTicks [] = []
-onlyTicks (sdi ∷ rest) = Tick sdi ∷ onlyTicks rest
+-- Ticks that carry these SDI levels and one SS level, and nothing else.
+abbrev pub onlyTicks : Bool → List Bool → List Call
+onlyTicks ss [] = []
+onlyTicks ss (sdi ∷ rest) = Tick sdi ss ∷ onlyTicks ss rest
 
--- Each edge that a host with its own clock makes while it is left undisturbed lowers what it owes by one, whatever the SDI
+-- Each edge that an unframed host with its own clock makes while it is left undisturbed lowers what it owes by one, whatever the SDI
 -- levels and whatever other calls come between. So it falls idle after exactly the edges that it owes: it is busy as long
 -- as it owes any and idle as soon as it owes none. That many ticks make them.
 pub record FallsIdle (x : Watched) : Type 0 where
   pub pays : (cs : List Call) → AllUndisturbed x cs → edgesMade (x .now) cs + owed (watchedCalls x cs) ≡ owed x
   pub busy : 1 ≤ owed x → IsBusy (x .now)
   pub idle : owed x ≡ 0 → IsIdle (x .now)
-  pub ticks : (sdis : List Bool) → length sdis ≡ owed x →
-      AllUndisturbed x (onlyTicks sdis) × (edgesMade (x .now) (onlyTicks sdis) ≡ owed x)
+  pub ticks : (ss : Bool) (sdis : List Bool) → length sdis ≡ owed x →
+      AllUndisturbed x (onlyTicks ss sdis) × (edgesMade (x .now) (onlyTicks ss sdis) ≡ owed x)
+
+-- Frames (document 02, Three) of a framed module that is enabled now: specs/Frames.antt has the statements.
+pub record FramesHold (x : Watched) : Type 0 where
+  pub each : (c : Call) → FramedCall x c
+  pub host : frameHost (x .now .settings) ≡ true → (c : Call) → FrameHostCall x c
+  pub client : frameClient (x .now .settings) ≡ true → (c : Call) → FrameClientCall x c
+  pub follows : frameHost (x .now .settings) ≡ true → FollowsOn x
 
 -- What the buyer signs for, of one module.
 pub record OneModule : Type 0 where
   pub answered : Answered
-  pub paperExamples : (examples ≡ true) × (furtherExamples ≡ true)
-  pub reached : (b : Beginning) (cs : List Call) → ModuleHolds (life b cs .now)
+  pub paperExamples : (examples ≡ true) × (furtherExamples ≡ true) × (frameExamples ≡ true)
+  pub reached : (b : Beginning) (cs : List Call) → Reached (life b cs .now)
   pub readsShow : (b : Beginning) (cs : List Call) → ReadsShow (life b cs)
   pub callChanges : (b : Beginning) (cs : List Call) (c : Call) → CallChanges (life b cs) c
   pub pinsShow : (b : Beginning) (cs : List Call) → PinsShow (life b cs)
   pub wordOrder : (b : Beginning) (cs : List Call) → life b cs .now .settings .spien ≡ true → WordOrder (life b cs)
   pub fallsIdle : (b : Beginning) (cs : List Call) → life b cs .now .settings .spien ≡ true →
-      ownClock (life b cs .now .settings) ≡ true → FallsIdle (life b cs)
+      unframedHost (life b cs .now .settings) ≡ true → FallsIdle (life b cs)
+  pub framesHold : (b : Beginning) (cs : List Call) → life b cs .now .settings .spien ≡ true →
+      framed (life b cs .now .settings) ≡ true → FramesHold (life b cs)
+  pub enabling : (b : Beginning) (cs : List Call) (c : Call) → life b cs .now .settings .spien ≡ false →
+      showsPulse (watchedCall (life b cs) c .now) ≡ false

@@ -1,4 +1,4 @@
--- Document 01, "Checked examples": each as calls from power-up with what they must answer and show.
+-- Document 01, "Checked examples", and cases of document 02: each as calls from power-up with what they must answer and show.
 -- proofs/ExamplesHold.antt proves them together, as one list.
 use Prim.Native.Nat.{ℕ}
 use mathlib.Core.Bool.{Bool, true, false, _&&_, Bool·beq}
@@ -9,16 +9,17 @@ use Rattle.spi_rules.specs.declared.Module.{Module}
 use Rattle.spi_rules.specs.declared.Said.{Said}
 use Rattle.spi_rules.specs.declared.Call.{Call}
 use Rattle.spi_rules.specs.declared.Call.the-variants.{Read, Write, Tick, Pin, Clear}
-use Rattle.spi_rules.specs.declared.Sdo.{Sdo}
-use Rattle.spi_rules.specs.declared.Sdo.the-variants.{Low, High, Undriven}
+use Rattle.spi_rules.specs.declared.Output.{Output}
+use Rattle.spi_rules.specs.declared.Output.the-variants.{Low, High, Undriven}
 use Rattle.spi_rules.specs.Refusals.{saidOf}
-use Rattle.spi_rules.specs.Calls.{poweredUp, performOf, interruptOf, sckOf, sdoOf}
+use Rattle.spi_rules.specs.Calls.{poweredUp, performOf, interruptOf, sckOf, sdoOf, ssOf}
 
--- One step of an example: a call with what its answer must say, what SDO must show, how the interrupt flag must stand, or
--- the level of SCK.
+-- One step of an example: a call with what its answer must say, what SDO must show, what SS must show, how the interrupt flag
+-- must stand, or the level of SCK.
 pub data Step : Type 0 where
   says : Call → Said → Step
-  shows : Sdo → Step
+  shows : Output → Step
+  drives : Output → Step
   flagged : Bool → Step
   clockAt : Bool → Step
 
@@ -44,22 +45,23 @@ sameSaid a b =
     eqb (a .kind) (b .kind)
     && (eqb (a .number) (b .number) && (eqb (a .value) (b .value) && eqb (a .edges) (b .edges)))
 
-abbrev pub sameSdo : Sdo → Sdo → Bool
-sameSdo Low Low = true
-sameSdo Low High = false
-sameSdo Low Undriven = false
-sameSdo High Low = false
-sameSdo High High = true
-sameSdo High Undriven = false
-sameSdo Undriven Low = false
-sameSdo Undriven High = false
-sameSdo Undriven Undriven = true
+abbrev pub sameOutput : Output → Output → Bool
+sameOutput Low Low = true
+sameOutput Low High = false
+sameOutput Low Undriven = false
+sameOutput High Low = false
+sameOutput High High = true
+sameOutput High Undriven = false
+sameOutput Undriven Low = false
+sameOutput Undriven High = false
+sameOutput Undriven Undriven = true
 
 -- Every step holds, one after the other, from a module on.
 abbrev pub allHold : Module → List Step → Bool
 allHold m [] = true
 allHold m (says c a ∷ rest) = sameSaid (saidOf (performOf m c .answer)) a && allHold (performOf m c .after) rest
-allHold m (shows level ∷ rest) = sameSdo (sdoOf m) level && allHold m rest
+allHold m (shows level ∷ rest) = sameOutput (sdoOf m) level && allHold m rest
+allHold m (drives level ∷ rest) = sameOutput (ssOf m) level && allHold m rest
 allHold m (flagged flag ∷ rest) = Bool·beq (interruptOf m) flag && allHold m rest
 allHold m (clockAt level ∷ rest) = Bool·beq (sckOf m) level && allHold m rest
 
@@ -68,6 +70,7 @@ abbrev pub afterSteps : Module → List Step → Module
 afterSteps m [] = m
 afterSteps m (says c a ∷ rest) = afterSteps (performOf m c .after) rest
 afterSteps m (shows level ∷ rest) = afterSteps m rest
+afterSteps m (drives level ∷ rest) = afterSteps m rest
 afterSteps m (flagged flag ∷ rest) = afterSteps m rest
 afterSteps m (clockAt level ∷ rest) = afterSteps m rest
 
@@ -77,22 +80,22 @@ set-up con1 con2 = says (Write 1 con1) ok ∷ says (Write 2 con2) ok ∷ says (W
 
 -- Ticks that each make an edge.
 abbrev pub tickEdges : ℕ → List Step
-tickEdges count = replicate count (says (Tick true) edge)
+tickEdges count = replicate count (says (Tick true false) edge)
 
 -- Bits sent by a host with CKE 0: two ticks each, and SDO shows the bit after both.
-abbrev pub sends : List Sdo → List Step
+abbrev pub sends : List Output → List Step
 sends [] = []
-sends (bit ∷ bits) = says (Tick true) edge ∷ shows bit ∷ says (Tick true) edge ∷ shows bit ∷ sends bits
+sends (bit ∷ bits) = says (Tick true false) edge ∷ shows bit ∷ says (Tick true false) edge ∷ shows bit ∷ sends bits
 
 -- Bits sent by a selected client with CKE 0 and CKP 0: an edge up and an edge down each, and SDO shows the bit after
 -- both. SDI is high.
-abbrev pub clocksOut : List Sdo → List Step
+abbrev pub clocksOut : List Output → List Step
 clocksOut [] = []
 clocksOut (bit ∷ bits) =
     says (Pin true true false) ok ∷ shows bit ∷ says (Pin false true false) ok ∷ shows bit ∷ clocksOut bits
 
 -- The bits of A5, highest first.
-abbrev pub bitsOfA5 : List Sdo
+abbrev pub bitsOfA5 : List Output
 bitsOfA5 = High ∷ Low ∷ High ∷ Low ∷ Low ∷ High ∷ Low ∷ High ∷ []
 
 -- a. Power-up STAT reads 0000.
@@ -117,7 +120,7 @@ exampleE = says (Write 1 0x0180) ok ∷ says (Write 0 0x8000) ok ∷ says (Read 
 
 -- f. An 8-bit write of 01A5 sends A5.
 abbrev pub exampleF : List Step
-exampleF = set-up 0x0020 0x0000 ++ (says (Write 3 0x01A5) ok ∷ sends bitsOfA5 ++ (says (Tick true) noEdge ∷ []))
+exampleF = set-up 0x0020 0x0000 ++ (says (Write 3 0x01A5) ok ∷ sends bitsOfA5 ++ (says (Tick true false) noEdge ∷ []))
 
 -- g. A standard idle host: two writes are accepted, the third gives 5.
 abbrev pub exampleG : List Step
@@ -143,7 +146,7 @@ exampleJ =
     set-up 0x0020 0x0000
     ++ (says (Write 3 0x0096) ok
     ∷ tickEdges 15
-    ++ (says (Read 3) (refused 6) ∷ says (Tick true) edge ∷ says (Read 3) (value 0x00FF) ∷ says (Tick true) noEdge ∷ []))
+    ++ (says (Read 3) (refused 6) ∷ says (Tick true false) edge ∷ says (Read 3) (value 0x00FF) ∷ says (Tick true false) noEdge ∷ []))
 
 -- k. An 8-bit SSEN client: SS high after edge 7, SCK back to idle while SS is high, SS low, then 16 edges: the same word
 -- is sent whole, and one word is received.
@@ -171,9 +174,9 @@ workedScript =
     ∷ says (Read 0) (value 0x8000)
     ∷ says (Write 3 0x003C) ok
     ∷ says (Read 0) (value 0x8002)
-    ∷ says (Tick true) edge
+    ∷ says (Tick true false) edge
     ∷ shows High
-    ∷ says (Tick false) edge
+    ∷ says (Tick false false) edge
     ∷ shows High
     ∷ says (Write 1 0x0000) (refused 3)
     ∷ []
@@ -235,9 +238,9 @@ furtherSpirov =
     ∷ [])
 
 -- CKE 1: the top bit stands on SDO from the BUF write on, and SDI is sampled on odd edges, where it is high here.
-abbrev pub sendsCke1 : List Sdo → List Step
+abbrev pub sendsCke1 : List Output → List Step
 sendsCke1 [] = []
-sendsCke1 (bit ∷ bits) = shows bit ∷ says (Tick true) edge ∷ shows bit ∷ says (Tick false) edge ∷ sendsCke1 bits
+sendsCke1 (bit ∷ bits) = shows bit ∷ says (Tick true false) edge ∷ shows bit ∷ says (Tick false false) edge ∷ sendsCke1 bits
 
 abbrev pub furtherCke1 : List Step
 furtherCke1 =
@@ -245,7 +248,7 @@ furtherCke1 =
     ++ (shows Low
     ∷ says (Write 3 0x00A5) ok
     ∷ sendsCke1 bitsOfA5
-    ++ (shows Low ∷ says (Read 3) (value 0x00FF) ∷ says (Tick true) noEdge ∷ []))
+    ++ (shows Low ∷ says (Read 3) (value 0x00FF) ∷ says (Tick true false) noEdge ∷ []))
 
 -- Enabling sets select to high, so that an SSEN client does not drive SDO.
 abbrev pub furtherSelect : List Step
@@ -258,7 +261,7 @@ furtherFlag =
     ++ (says (Write 3 0x0055) ok
     ∷ tickEdges 15
     ++ (flagged false
-    ∷ says (Tick true) edge
+    ∷ says (Tick true false) edge
     ∷ flagged true
     ∷ says (Write 0 0x0000) ok
     ∷ flagged true
@@ -293,7 +296,7 @@ furtherRegisters =
     ∷ says (Write 4 0x8000) (refused 1)
     ∷ says (Read 3) (refused 2)
     ∷ says (Write 3 0x0001) (refused 2)
-    ∷ says (Tick true) (refused 2)
+    ∷ says (Tick true false) (refused 2)
     ∷ says (Pin true true true) (refused 2)
     ∷ []
 
@@ -304,12 +307,13 @@ furtherClocks =
     ++ (says (Pin true true true) (refused 7)
     ∷ says (Write 0 0x0000) ok
     ∷ set-up 0x1020 0x0000
-    ++ (says (Tick true) (refused 7)
+    ++ (says (Tick true false) (refused 7)
     ∷ says (Write 0 0x0000) ok
-    ∷ set-up 0x0000 0x0000 ++ (says (Tick true) (refused 7) ∷ says (Pin false true true) ok ∷ [])))
+    ∷ set-up 0x0000 0x0000 ++ (says (Tick true false) (refused 7) ∷ says (Pin false true true) ok ∷ [])))
 
--- Document 02, One: which setting was wrong. Each mistake alone, each pair that can meet, a client and a DISSCK host with both
--- prescalers 1:1, which are enabled, and a client with CKE, no SSEN and both 1:1. A refused enabling takes nothing.
+-- Document 02, One and Three: which setting was wrong. Each mistake alone, each pair that can meet, a client and a DISSCK host
+-- with both prescalers 1:1, which are enabled, and a client with CKE, no SSEN and both 1:1. With FRMEN 13 and 14 stay, and a
+-- client with CKE and no SSEN is enabled. A refused enabling takes nothing.
 abbrev pub enablingGives : ℕ → ℕ → ℕ → List Step
 enablingGives con1 con2 number =
     says (Write 1 con1) ok
@@ -318,22 +322,177 @@ enablingGives con1 con2 number =
     ∷ says (Read 0) (value 0x0000)
     ∷ []
 
+abbrev pub enablingDone : ℕ → ℕ → List Step
+enablingDone con1 con2 = set-up con1 con2 ++ (says (Write 0 0x0000) ok ∷ [])
+
 abbrev pub furtherCauses : List Step
 furtherCauses =
-    enablingGives 0x0020 0x8000 12
-    ++ (enablingGives 0x003F 0x0000 13
+    enablingGives 0x003F 0x0000 13
     ++ (enablingGives 0x0220 0x0000 14
     ++ (enablingGives 0x0280 0x0000 14
     ++ (enablingGives 0x0100 0x0000 15
-    ++ (enablingGives 0x003F 0x8000 12
-    ++ (enablingGives 0x0220 0x8000 12
-    ++ (enablingGives 0x0100 0x8000 12
     ++ (enablingGives 0x023F 0x0000 13
     ++ (enablingGives 0x0300 0x0000 14
     ++ (enablingGives 0x011F 0x0000 15
-    ++ (set-up 0x001F 0x0000
-    ++ (says (Write 0 0x0000) ok ∷ set-up 0x103F 0x0000))))))))))))
+    ++ (enablingGives 0x003F 0x8000 13
+    ++ (enablingGives 0x0300 0x8000 14
+    ++ (enablingDone 0x0020 0x8000
+    ++ (enablingDone 0x0100 0xC000
+    ++ (enablingDone 0x001F 0x0000
+    ++ enablingDone 0x103F 0x0000)))))))))))
 
 abbrev pub furtherExamples : Bool
 furtherExamples =
     everyHolds (furtherPowerUp ∷ furtherSpirov ∷ furtherCke1 ∷ furtherSelect ∷ furtherFlag ∷ furtherFiller ∷ furtherRegisters ∷ furtherClocks ∷ furtherCauses ∷ [])
+
+-- Document 02, Three: frames.
+
+-- Clocks of a framed host with its own clock: a transmit edge and a sample edge each, with these bits on SDO after both, SDI
+-- high, and SS told low. A frame host drives SS at the given level; a frame client does not.
+abbrev pub clocks : Output → List Output → List Step
+clocks select [] = []
+clocks select (bit ∷ bits) =
+    says (Tick true false) edge
+    ∷ shows bit
+    ∷ drives select
+    ∷ says (Tick true false) edge
+    ∷ shows bit
+    ∷ drives select
+    ∷ clocks select bits
+
+-- The bits of 3C and of 81, and seven of one level.
+abbrev pub bitsOf3C : List Output
+bitsOf3C = Low ∷ Low ∷ High ∷ High ∷ High ∷ High ∷ Low ∷ Low ∷ []
+
+abbrev pub bitsOf81 : List Output
+bitsOf81 = High ∷ Low ∷ Low ∷ Low ∷ Low ∷ Low ∷ Low ∷ High ∷ []
+
+-- FRMDLY 0, SS active high: the clock runs before the first word; each pulse comes one clock before the first bit, the second
+-- on the last bit of the first word; then the clock runs on without a pulse.
+abbrev pub frameBefore : List Step
+frameBefore =
+    set-up 0x0020 0xA000
+    ++ (drives Low
+    ∷ clocks Low (Low ∷ [])
+    ++ (says (Write 3 0x00A5) ok
+    ∷ says (Write 3 0x003C) ok
+    ∷ clocks High (Low ∷ [])
+    ++ (clocks Low (High ∷ Low ∷ High ∷ Low ∷ Low ∷ High ∷ Low ∷ [])
+    ++ (clocks High (High ∷ [])
+    ++ (clocks Low bitsOf3C ++ (clocks Low (Low ∷ Low ∷ []) ++ (says (Read 3) (value 0x00FF) ∷ [])))))))
+
+-- FRMDLY 1: each pulse lies on the first bit.
+abbrev pub frameWith : List Step
+frameWith =
+    set-up 0x0020 0xA002
+    ++ (drives Low
+    ∷ clocks Low (Low ∷ [])
+    ++ (says (Write 3 0x00A5) ok
+    ∷ says (Write 3 0x003C) ok
+    ∷ clocks High (High ∷ [])
+    ++ (clocks Low (Low ∷ High ∷ Low ∷ Low ∷ High ∷ Low ∷ High ∷ [])
+    ++ (clocks High (Low ∷ [])
+    ++ (clocks Low (Low ∷ High ∷ High ∷ High ∷ High ∷ Low ∷ Low ∷ []) ++ clocks Low (Low ∷ Low ∷ []))))))
+
+-- FRMDLY 0, SS active low, CKE and SSEN written and not heeded: the second word comes between edges 15 and 16 of the first, too
+-- late for the pulse on the last bit.
+abbrev pub frameLate : List Step
+frameLate =
+    set-up 0x01A0 0x8000
+    ++ (drives High
+    ∷ says (Write 3 0x00FF) ok
+    ∷ shows Low
+    ∷ clocks Low (Low ∷ [])
+    ++ (clocks High (replicate 7 High)
+    ++ (says (Tick true false) edge
+    ∷ says (Write 3 0x0081) ok
+    ∷ says (Tick true false) edge
+    ∷ drives High
+    ∷ clocks Low (High ∷ [])
+    ++ (clocks High bitsOf81
+    ++ (says (Write 0 0x0000) ok ∷ drives Undriven ∷ says (Write 0 0x8000) ok ∷ drives High ∷ [])))))
+
+-- A frame client with its own clock: a pulse seen at a sample edge starts the loaded word at the next transmit edge, and one
+-- seen at a transmit edge nothing. At edge 16 the next pulse is seen, and a filler goes out; a pulse within it is not looked at.
+abbrev pub frameSampled : List Step
+frameSampled =
+    set-up 0x0020 0xE000
+    ++ (says (Write 3 0x00A5) ok
+    ∷ clocks Undriven (Low ∷ [])
+    ++ (says (Tick true true) edge
+    ∷ shows Low
+    ∷ says (Tick true false) edge
+    ∷ says (Tick true false) edge
+    ∷ shows Low
+    ∷ says (Tick true true) edge
+    ∷ shows Low
+    ∷ clocks Undriven (High ∷ Low ∷ High ∷ Low ∷ Low ∷ High ∷ Low ∷ [])
+    ++ (says (Tick true false) edge
+    ∷ shows High
+    ∷ flagged false
+    ∷ says (Tick true true) edge
+    ∷ shows High
+    ∷ flagged true
+    ∷ says (Read 3) (value 0x00FF)
+    ∷ says (Write 3 0x00A5) ok
+    ∷ says (Write 0 0x0000) ok
+    ∷ [])))
+
+abbrev pub frameFiller : List Step
+frameFiller =
+    set-up 0x0020 0xE002
+    ++ (says (Tick true false) edge
+    ∷ says (Tick true true) edge
+    ∷ clocks Undriven (Low ∷ Low ∷ [])
+    ++ (says (Tick true true) edge
+    ∷ says (Tick true true) edge
+    ∷ says (Write 3 0x00A5) ok
+    ∷ clocks Undriven (replicate 5 Low)
+    ++ (says (Read 3) (value 0x00FF)
+    ∷ clocks Undriven (Low ∷ Low ∷ [])
+    ++ (says (Tick true true) edge
+    ∷ says (Tick true true) edge
+    ∷ clocks Undriven bitsOfA5
+    ++ (says (Read 3) (value 0x00FF) ∷ says (Read 3) (refused 6) ∷ [])))))
+
+-- A client that is a frame host, with SSEN and select high: it drives SDO and SS and sends at every pulse.
+abbrev pub pinClocks : Output → List Output → List Step
+pinClocks select [] = []
+pinClocks select (bit ∷ bits) =
+    says (Pin true true true) ok
+    ∷ shows bit
+    ∷ drives select
+    ∷ says (Pin false true true) ok
+    ∷ shows bit
+    ∷ drives select
+    ∷ pinClocks select bits
+
+abbrev pub framePins : List Step
+framePins =
+    set-up 0x0180 0xA000
+    ++ (shows Low
+    ∷ pinClocks Low (Low ∷ Low ∷ [])
+    ++ (says (Write 3 0x00A5) ok
+    ∷ pinClocks High (Low ∷ [])
+    ++ (pinClocks Low bitsOfA5 ++ (pinClocks Low (High ∷ []) ++ (says (Read 3) (value 0x00FF) ∷ [])))))
+
+-- A DISSCK host that is a frame client, clock idle high, words of 16 bits, SS active low.
+abbrev pub pinSixteen : List Output → List Step
+pinSixteen [] = []
+pinSixteen (bit ∷ bits) =
+    says (Pin false true true) ok ∷ shows bit ∷ says (Pin true true true) ok ∷ shows bit ∷ pinSixteen bits
+
+abbrev pub frameSixteen : List Step
+frameSixteen =
+    set-up 0x1460 0xC000
+    ++ (says (Write 3 0x8001) ok
+    ∷ says (Pin true false true) ok
+    ∷ says (Pin false false false) ok
+    ∷ says (Pin true false false) ok
+    ∷ shows Low
+    ∷ pinSixteen (High ∷ replicate 14 Low ++ (High ∷ []))
+    ++ (says (Pin false true true) ok ∷ shows High ∷ says (Read 3) (value 0xFFFF) ∷ says (Tick true true) (refused 7) ∷ []))
+
+abbrev pub frameExamples : Bool
+frameExamples =
+    everyHolds (frameBefore ∷ frameWith ∷ frameLate ∷ frameSampled ∷ frameFiller ∷ framePins ∷ frameSixteen ∷ [])

@@ -1,7 +1,7 @@
 -- Demand 2 in the paper's words: every bit of a register read, the interrupt flag, SPIROV and the pins, by the words that
 -- wait and are unread and by what the ledger saw, before a call and after it.
 use Prim.Native.Nat.{ℕ, _+_, _-_, _/_}
-use mathlib.Core.Bool.{Bool, true, false, not, _&&_, _||_}
+use mathlib.Core.Bool.{Bool, false, not, _&&_, _||_, Bool·beq}
 use mathlib.Core.List.{List, [], _∷_, _++_, map}
 use mir.Val.{boolByte}
 use lib.Dec.{eqb, ltb, leb}
@@ -9,14 +9,13 @@ use lib.ListN.{length, getD, replicate}
 use Rattle.spi_rules.specs.declared.Con1.{Con1}
 use Rattle.spi_rules.specs.declared.Con2.{Con2}
 use Rattle.spi_rules.specs.declared.Settings.{Settings}
-use Rattle.spi_rules.specs.declared.Module.{Module}
-use Rattle.spi_rules.specs.declared.Sdo.{Sdo}
-use Rattle.spi_rules.specs.declared.Sdo.the-variants.{Low, High, Undriven}
+use Rattle.spi_rules.specs.declared.Output.{Output}
+use Rattle.spi_rules.specs.declared.Output.the-variants.{Low, High, Undriven}
 use Rattle.spi_rules.specs.Choice.{if_then_else_}
 use Rattle.spi_rules.specs.Settings.{widthOf, depthOf, ckeOf}
 use Rattle.spi_rules.specs.Registers.{bitOf}
 use Rattle.spi_rules.specs.Words.{waitingIn, unreadIn, leftBuffer}
-use Rattle.spi_rules.specs.Ledger.{Wire, quiet, busy, Ledger, sent, undropped, leftToSend}
+use Rattle.spi_rules.specs.Ledger.{Wire, quiet, busy, isQuiet, Ledger, sent, undropped, leftToSend}
 use Rattle.spi_rules.specs.Watch.{Watched}
 
 -- The bits that register writes take, highest first, by their names and by their places.
@@ -58,10 +57,6 @@ abbrev pub con2Bits : Con2 → List Bool
 con2Bits c = c .frmen ∷ c .spifsd ∷ c .frmpol ∷ replicate 11 false ++ (c .frmdly ∷ c .spiben ∷ [])
 
 -- No word is loaded or begun: nothing has left the transmit buffer unfinished, and the wire is quiet.
-abbrev pub isQuiet : Wire → Bool
-isQuiet quiet = true
-isQuiet (busy w) = false
-
 abbrev pub shiftsNone : Watched → Bool
 shiftsNone x = eqb (length (leftBuffer (x .now))) 0 && isQuiet (x .ledger .wire)
 
@@ -152,10 +147,19 @@ sdoShown x y =
     then levelShown (y .now .settings) (y .ledger) (y .ledger .wire) (x .now .settings .spien && x .now .engine .pins .sdo)
     else x .now .engine .pins .sdo
 
--- The SDO pin: undriven when disabled, under DISSDO, or for an SSEN client with SS high; else it has its level.
-abbrev pub pinShown : Watched → Sdo
+-- The SDO pin: undriven when disabled, under DISSDO, or for an unframed SSEN client with SS high; else it has its level.
+abbrev pub pinShown : Watched → Output
 pinShown x =
     let s : Settings = x .now .settings in
-    if not (s .spien) || (s .con1 .dissdo || ((not (s .con1 .msten) && s .con1 .ssen) && x .ledger .ss)) then Undriven
+    if not (s .spien) || (s .con1 .dissdo || ((not (s .con1 .msten) && (not (s .con2 .frmen) && s .con1 .ssen)) && x .ledger .ss)) then Undriven
     else if x .now .engine .pins .sdo then High
+    else Low
+
+-- The SS pin: driven by an enabled module with FRMEN and without SPIFSD alone; at the level FRMPOL while a pulse stands, else at
+-- the other one.
+abbrev pub selectShown : Watched → Output
+selectShown x =
+    let s : Settings = x .now .settings in
+    if not (s .spien && (s .con2 .frmen && not (s .con2 .spifsd))) then Undriven
+    else if Bool·beq (x .ledger .pulse) (s .con2 .frmpol) then High
     else Low

@@ -14,7 +14,7 @@ use Rattle.spi_rules.specs.declared.Shift.{Shift}
 use Rattle.spi_rules.specs.declared.Shift.the-variants.{Free, Loaded, Begun}
 use Rattle.spi_rules.specs.Choice.{if_then_else_}
 use Rattle.spi_rules.specs.Ring.{after}
-use Rattle.spi_rules.specs.Settings.{widthOf, depthOf, ckeOf, ssenClient, ownClock}
+use Rattle.spi_rules.specs.Settings.{widthOf, depthOf, ckeOf, silent, ssenClient, unframedHost, framed, frameHost, frameClient}
 use Rattle.spi_rules.specs.Refusals.{badSettings}
 use Rattle.spi_rules.specs.Registers.{bitOf}
 use Rattle.spi_rules.specs.Buffers.{emptyTransmit, emptyReceive, firstWaiting}
@@ -43,7 +43,7 @@ unfoldable pub sampled : Bool → ℕ → ℕ
 sampled cke edges = if cke then (edges + 1) / 2 else edges / 2
 
 -- A begun word: within its 2w edges, its bits within the width, the clock where the edges left it, and SDO at the bit that
--- the last change showed. A filler is made of zeros and no host sends one. An SSEN client is selected, and the word it
+-- the last change showed. A filler is made of zeros and no silent module sends one. An SSEN client is selected, and the word it
 -- sends is still the first that waits.
 pub record ProgressHolds (s : Settings) (n : Engine) (p : Progress) : Type 0 where
   pub started : 1 ≤ p .edges
@@ -53,17 +53,17 @@ pub record ProgressHolds (s : Settings) (n : Engine) (p : Progress) : Type 0 whe
   pub clock : n .pins .sck ≡ Bool·beq (s .con1 .ckp) (eqb (p .edges % 2) 0)
   pub shows : n .pins .sdo ≡ bitOf (p .word) (widthOf s - 1 - (if ckeOf s then p .edges else p .edges - 1) / 2)
   pub zeros : p .filler ≡ true → p .word ≡ 0
-  pub host : s .con1 .msten ≡ true → p .filler ≡ false
+  pub host : silent s ≡ true → p .filler ≡ false
   pub selected : ssenClient s ≡ true → n .pins .ss ≡ false
   pub first : ssenClient s ≡ true → p .filler ≡ false → (1 ≤ n .transmit .count) × (p .word ≡ firstWaiting (n .transmit))
 
 -- The shift register. Free, nothing waits but in an SSEN client; loaded, it is no SSEN client and the word fits; in both
--- the clock of a host with its own clock is idle.
+-- the clock of an unframed host with its own clock is idle.
 abbrev pub ShiftHolds : Settings → Engine → Shift → Type 0
 ShiftHolds s n Free =
-    (ssenClient s ≡ false → n .transmit .count ≡ 0) × (s .spien ≡ true → ownClock s ≡ true → n .pins .sck ≡ s .con1 .ckp)
+    (ssenClient s ≡ false → n .transmit .count ≡ 0) × (s .spien ≡ true → unframedHost s ≡ true → n .pins .sck ≡ s .con1 .ckp)
 ShiftHolds s n (Loaded word) =
-    (ssenClient s ≡ false) × (word < 2 ^ widthOf s) × (ownClock s ≡ true → n .pins .sck ≡ s .con1 .ckp)
+    (ssenClient s ≡ false) × (word < 2 ^ widthOf s) × (unframedHost s ≡ true → n .pins .sck ≡ s .con1 .ckp)
 ShiftHolds s n (Begun p) = ProgressHolds s n p
 
 -- Disabled, both buffers and the shift register are empty.
@@ -76,7 +76,7 @@ pub record Emptied (n : Engine) : Type 0 where
 abbrev pub RestHolds : Settings → Engine → Type 0
 RestHolds s n = s .spien ≡ true → ckeOf s ≡ true → isBegun (n .shift) ≡ false → n .pins .sdo ≡ nextTop s (n .transmit) (n .shift)
 
--- All of it.
+-- All of it but the pulse.
 pub record ModuleHolds (m : Module) : Type 0 where
   pub settings : SettingsHold (m .settings)
   pub transmit : RingHolds (depthOf (m .settings)) (m .engine .transmit .write .0) (m .engine .transmit .read .0) (m .engine .transmit .count)
@@ -88,3 +88,21 @@ pub record ModuleHolds (m : Module) : Type 0 where
   pub shift : ShiftHolds (m .settings) (m .engine) (m .engine .shift)
   pub emptied : m .settings .spien ≡ false → Emptied (m .engine)
   pub rest : RestHolds (m .settings) (m .engine)
+
+-- What a standing pulse says of an enabled module. It is framed. A frame client has sampled it with no word under way. A
+-- frame host gives it, with FRMDLY 0, for a loaded word or, on the last bit of a word, for one that waits; with FRMDLY 1,
+-- with a word's first bit.
+abbrev pub PulseFits : Settings → Engine → Shift → Type 0
+PulseFits s n Free = frameClient s ≡ true
+PulseFits s n (Loaded word) = (framed s ≡ true) × (s .con2 .frmdly ≡ true → s .con2 .spifsd ≡ true)
+PulseFits s n (Begun p) =
+    (frameHost s ≡ true)
+    × (s .con2 .frmdly ≡ true → p .edges ≤ 2)
+    × (s .con2 .frmdly ≡ false → (p .edges + 1 ≡ wordEdges s) × (1 ≤ n .transmit .count))
+
+abbrev pub PulseHolds : Module → Type 0
+PulseHolds m = m .settings .spien ≡ true → m .engine .pins .pulse ≡ true → PulseFits (m .settings) (m .engine) (m .engine .shift)
+
+pub record Reached (m : Module) : Type 0 where
+  pub holds : ModuleHolds m
+  pub pulse : PulseHolds m

@@ -1,9 +1,10 @@
 -- A history of one module since it was last enabled, kept in plain lists by somebody who watches what passes and never
 -- looks into the module's buffers or its shift register. Demand 3 is said of these lists. The watcher is told of five
--- kinds of event: the module was enabled, a word was accepted, a word was read, the clock made an edge, select was shown.
+-- kinds of event: the module was enabled, a word was accepted, a word was read, the clock made an edge, select was shown. At
+-- an edge the watcher also sees whether the module shows a frame pulse on its own SS pin.
 -- Nothing here knows registers or settings: what must be known of a module to watch it is the record Terms.
 use Prim.Native.Nat.{ℕ, _+_, _*_}
-use mathlib.Core.Bool.{Bool, true, false}
+use mathlib.Core.Bool.{Bool, true, false, _&&_}
 use mathlib.Core.List.{List, [], _∷_, _++_}
 use mir.Val.{boolByte}
 use lib.Dec.{ltb, leb}
@@ -22,6 +23,12 @@ pub record Terms : Type 0 where
   pub silent : Bool
   -- the select levels at which a word under way is forgotten and edges are only remembered
   pub deaf : Bool → Bool
+  -- whether a word or filler may begin, by the pulse that stood before the edge and the one that the module shows after it
+  pub starts : Bool → Bool → Bool
+  -- whether pulses are those that the module gives; else they are select levels seen at edges to an idle level with nothing
+  -- on the wire, if at a level that is active
+  pub gives : Bool
+  pub active : Bool → Bool
 
 -- A word on the wire: a filler or not, the edges it was given, and the levels of SDO and SDI at its sampling edges so far,
 -- first bit first.
@@ -41,7 +48,7 @@ pub record Passed : Type 0 where
   pub word : ℕ
   pub marked : Bool
 
--- The lists, oldest first, and the levels that the watcher remembers.
+-- The lists, oldest first, and the levels that the watcher remembers, with whether a pulse stands.
 pub record Ledger : Type 0 where
   pub accepted : List ℕ
   pub departures : List Passed
@@ -50,6 +57,7 @@ pub record Ledger : Type 0 where
   pub wire : Wire
   pub sck : Bool
   pub ss : Bool
+  pub pulse : Bool
 
 -- The words without a mark: those fully sent, and those received and not dropped.
 abbrev pub unmarked : List Passed → List ℕ
@@ -67,10 +75,10 @@ abbrev pub spelled : ℕ → List Bool → ℕ
 spelled n [] = n
 spelled n (b ∷ bits) = spelled (n * 2 + boolByte b) bits
 
--- The module was enabled: nothing has happened, the clock is at its idle level and select is high.
+-- The module was enabled: nothing has happened, the clock is at its idle level, select is high and no pulse stands.
 unfoldable pub opened : Bool → Ledger
 opened idle =
-    record { accepted = []; departures = []; arrivals = []; read = []; wire = quiet; sck = idle; ss = true }
+    record { accepted = []; departures = []; arrivals = []; read = []; wire = quiet; sck = idle; ss = true; pulse = false }
 
 -- A word is left to send: more were accepted than sent.
 unfoldable pub leftToSend : Ledger → Bool
@@ -105,6 +113,7 @@ closed t w l =
       wire = quiet;
       sck = l .sck;
       ss = l .ss;
+      pulse = l .pulse;
     }
 
 -- The ledger with other levels and another word on the wire.
@@ -118,6 +127,7 @@ withLevels w sck ss l =
       wire = w;
       sck = sck;
       ss = ss;
+      pulse = l .pulse;
     }
 
 unfoldable pub onWire : Wire → Ledger → Ledger
@@ -130,21 +140,43 @@ given t sdo sdi (busy w) l =
     if ltb (w .edges + 1) (t .last) then onWire (busy (counted t sdo sdi w)) l
     else closed t (counted t sdo sdi w) l
 
--- What the wire carries at an edge to the level `sck`: a word under way goes on; with none, an edge to the idle level begins
--- none.
-unfoldable pub carried : Terms → Bool → Ledger → Wire → Wire
-carried t sck l quiet = if t .idle sck then quiet else firstOnWire t l
-carried t sck l (busy w) = busy w
+-- What the wire carries at an edge to the level `sck`, with the pulse shown after it: a word under way goes on; with none, an
+-- edge to the idle level begins none, nor does any other unless the pulses start one.
+unfoldable pub carried : Terms → Bool → Bool → Ledger → Wire → Wire
+carried t shown sck l quiet =
+    if t .idle sck then quiet
+    else if t .starts (l .pulse) shown then firstOnWire t l
+    else quiet
+carried t shown sck l (busy w) = busy w
 
 -- The clock level is remembered.
 unfoldable pub clockedTo : Bool → Ledger → Ledger
 clockedTo sck l = withLevels (l .wire) sck (l .ss) l
 
--- An edge to the level `sck`, with SDO and SDI. Deaf to it, the watcher only remembers the level.
-unfoldable pub edgeNoted : Terms → Bool → Bool → Bool → Ledger → Ledger
-edgeNoted t sdo sck sdi l =
+-- Nothing is on the wire.
+abbrev pub isQuiet : Wire → Bool
+isQuiet quiet = true
+isQuiet (busy w) = false
+
+-- The pulse that stands after an edge to the level `sck`: given, or seen on select.
+unfoldable pub pulseNoted : Terms → Bool → Bool → Ledger → Ledger
+pulseNoted t shown sck l =
+    record {
+      accepted = l .accepted;
+      departures = l .departures;
+      arrivals = l .arrivals;
+      read = l .read;
+      wire = l .wire;
+      sck = l .sck;
+      ss = l .ss;
+      pulse = if t .gives then shown else t .idle sck && (t .active (l .ss) && isQuiet (l .wire));
+    }
+
+-- An edge to the level `sck`, with SDO and SDI, and the pulse shown after it. Deaf to it, the watcher only remembers the level.
+unfoldable pub edgeNoted : Terms → Bool → Bool → Bool → Bool → Ledger → Ledger
+edgeNoted t sdo shown sck sdi l =
     if t .deaf (l .ss) then clockedTo sck l
-    else given t sdo sdi (carried t sck l (l .wire)) (clockedTo sck l)
+    else pulseNoted t shown sck (given t sdo sdi (carried t shown sck l (l .wire)) (clockedTo sck l))
 
 -- The select level was shown: it is remembered, and may take the word off the wire.
 unfoldable pub selectNoted : Terms → Bool → Ledger → Ledger
@@ -161,6 +193,7 @@ acceptedNoted word l =
       wire = l .wire;
       sck = l .sck;
       ss = l .ss;
+      pulse = l .pulse;
     }
 
 unfoldable pub readNoted : ℕ → Ledger → Ledger
@@ -173,4 +206,5 @@ readNoted word l =
       wire = l .wire;
       sck = l .sck;
       ss = l .ss;
+      pulse = l .pulse;
     }

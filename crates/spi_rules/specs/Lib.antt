@@ -21,4 +21,5 @@ pub mod RefusalTable
 pub mod Ledger
 pub mod Watch
 pub mod Flags
+pub mod Frames
 pub mod Demands

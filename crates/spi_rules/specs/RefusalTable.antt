@@ -1,7 +1,7 @@
--- Document 01, "What each refusal number says", with document 02, One: the rows in the order of the tests, each in the
+-- Document 01, "What each refusal number says", with document 02, One and Three: the rows in the order of the tests, each in the
 -- paper's words and by what a call asks for. specs/Demands.antt says that a call is refused exactly so.
 use Prim.Native.Nat.{ℕ}
-use mathlib.Core.Bool.{Bool, true, not, _&&_, _||_}
+use mathlib.Core.Bool.{Bool, not, _&&_, _||_}
 use mathlib.Core.List.{List, [], _∷_}
 use lib.Dec.{eqb, ltb, leb}
 use lib.ListN.{length}
@@ -35,7 +35,7 @@ pub record Asks : Type 0 where
 abbrev pub asks : Call → Asks
 asks (Read register) = record { kind = 0; register = register; value = 0 }
 asks (Write register v) = record { kind = 1; register = register; value = v }
-asks (Tick sdi) = record { kind = 2; register = 0; value = 0 }
+asks (Tick sdi ss) = record { kind = 2; register = 0; value = 0 }
 asks (Pin sck sdi ss) = record { kind = 3; register = 0; value = 0 }
 asks Clear = record { kind = 4; register = 0; value = 0 }
 
@@ -62,7 +62,7 @@ enables m c = not (m .settings .spien) && (writes 0 c && bitOf (asks c .value) 1
 abbrev pub clocksItself : Con1 → Bool
 clocksItself con1 = con1 .msten && not (con1 .dissck)
 
--- Register calls test 1, then 2 or 3, then 12, 13, 14 and 15, 5 or 6; tick and pin calls test 2, then 7.
+-- Register calls test 1, then 2 or 3, then 13, 14 and 15, 5 or 6; tick and pin calls test 2, then 7.
 abbrev pub rows : Module → Call → List Row
 rows m c =
     let con1 : Con1 = m .settings .con1 in
@@ -72,14 +72,12 @@ rows m c =
     ∷ row 2 (not (m .settings .spien) && (reads 3 c || (writes 3 c || (isTick c || isPinCall c))))
     -- CON1 or CON2 written while SPIEN is 1
     ∷ row 3 (m .settings .spien && (writes 1 c || writes 2 c))
-    -- STAT write turns SPIEN from 0 to 1 with FRMEN
-    ∷ row 12 (enables m c && m .settings .con2 .frmen)
-    -- with MSTEN, without DISSCK and with both prescalers 1:1
+    -- STAT write turns SPIEN from 0 to 1 with MSTEN, without DISSCK and with both prescalers 1:1
     ∷ row 13 (enables m c && (clocksItself con1 && (eqb (con1 .ppre) 3 && eqb (con1 .spre) 7)))
     -- with SMP
     ∷ row 14 (enables m c && con1 .smp)
-    -- for a client with CKE and no SSEN
-    ∷ row 15 (enables m c && (not (con1 .msten) && (con1 .cke && not (con1 .ssen))))
+    -- for a client with CKE, no SSEN and no FRMEN
+    ∷ row 15 (enables m c && (not (m .settings .con2 .frmen) && (not (con1 .msten) && (con1 .cke && not (con1 .ssen)))))
     -- BUF write with the transmit buffer full
     ∷ row 5 (writes 3 c && leb (depthOf (m .settings)) (length (waitingIn m)))
     -- BUF read with the receive buffer empty

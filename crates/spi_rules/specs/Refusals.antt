@@ -5,12 +5,12 @@ use mathlib.Core.List.{List, [], _∷_}
 use lib.Dec.{eqb}
 use Rattle.spi_rules.specs.declared.Settings.{Settings}
 use Rattle.spi_rules.specs.declared.Refusal.{Refusal}
-use Rattle.spi_rules.specs.declared.Refusal.the-variants.{NoSuchRegister, Disabled, Enabled, TransmitFull, ReceiveEmpty, WrongClock, NoRate, UnreadableLine, DifferentModes, TooManyEdges, Framed, Undivided, LateSampling, UnselectedCke}
+use Rattle.spi_rules.specs.declared.Refusal.the-variants.{NoSuchRegister, Disabled, Enabled, TransmitFull, ReceiveEmpty, WrongClock, NoRate, UnreadableLine, DifferentModes, TooManyEdges, Undivided, LateSampling, UnselectedCke}
 use Rattle.spi_rules.specs.declared.Answer.{Answer}
 use Rattle.spi_rules.specs.declared.Answer.the-variants.{Refused, Done, Value, NoEdge, Edge}
 use Rattle.spi_rules.specs.declared.Said.{Said}
 use Rattle.spi_rules.specs.Choice.{if_then_else_}
-use Rattle.spi_rules.specs.Settings.{ownClock}
+use Rattle.spi_rules.specs.Settings.{framed, ownClock}
 
 -- The table's number for each refusal. This is the one place that writes them.
 unfoldable pub numberOf : Refusal → ℕ
@@ -24,7 +24,8 @@ numberOf Enabled = 3
 numberOf TransmitFull = 5
 -- a BUF read finds the receive buffer empty
 numberOf ReceiveEmpty = 6
--- a tick on a module clocked from its pin, a pin call on a host with its own clock, or wrong roles in a linked run
+-- a tick on a module clocked from its pin, a pin call on a host with its own clock, or wrong roles or a framed module in a
+-- linked run
 numberOf WrongClock = 7
 -- a clock report is asked for the instruction rate 0
 numberOf NoRate = 8
@@ -34,14 +35,13 @@ numberOf UnreadableLine = 9
 numberOf DifferentModes = 10
 -- a linked run is asked for more edges than one host can owe
 numberOf TooManyEdges = 11
--- Request One: a STAT write would enable settings that are not modelled or not allowed. 4 told these four as one.
--- framing is asked for
-numberOf Framed = 12
+-- Request One: a STAT write would enable settings that are not modelled or not allowed. 4 told these as one, and 12 told of
+-- framing until request Three.
 -- a host with its own clock has both prescalers at 1:1
 numberOf Undivided = 13
 -- SMP is set
 numberOf LateSampling = 14
--- a client has CKE and no SSEN
+-- an unframed client has CKE and no SSEN
 numberOf UnselectedCke = 15
 
 -- What an answer says in the paper's numbers. Its kind has a number of its own, so that no two answers say the same.
@@ -66,10 +66,6 @@ pub record Cause : Type 0 where
   pub why : Refusal
   pub given : Bool
 
--- framing is asked for
-abbrev pub framing : Settings → Bool
-framing s = s .con2 .frmen
-
 -- a host with its own clock has both prescalers at 1:1: PPRE 3 and SPRE 7
 abbrev pub undivided : Settings → Bool
 undivided s = ownClock s && (eqb (s .con1 .ppre) 3 && eqb (s .con1 .spre) 7)
@@ -78,15 +74,14 @@ undivided s = ownClock s && (eqb (s .con1 .ppre) 3 && eqb (s .con1 .spre) 7)
 abbrev pub lateSampling : Settings → Bool
 lateSampling s = s .con1 .smp
 
--- a client has CKE and no SSEN
+-- an unframed client has CKE and no SSEN
 abbrev pub unselectedCke : Settings → Bool
-unselectedCke s = not (s .con1 .msten) && (s .con1 .cke && not (s .con1 .ssen))
+unselectedCke s = not (framed s) && (not (s .con1 .msten) && (s .con1 .cke && not (s .con1 .ssen)))
 
 -- The causes, in the order in which they are looked at.
 abbrev pub causes : Settings → List Cause
 causes s =
-    record { why = Framed; given = framing s }
-    ∷ record { why = Undivided; given = undivided s }
+    record { why = Undivided; given = undivided s }
     ∷ record { why = LateSampling; given = lateSampling s }
     ∷ record { why = UnselectedCke; given = unselectedCke s }
     ∷ []
@@ -101,6 +96,6 @@ abbrev pub badSettings : Settings → Bool
 badSettings s = anyGiven (causes s)
 
 abbrev pub firstGiven : List Cause → Refusal
-firstGiven [] = Framed
+firstGiven [] = Undivided
 firstGiven (c ∷ []) = c .why
 firstGiven (c ∷ (d ∷ rest)) = if c .given then c .why else firstGiven (d ∷ rest)

@@ -48,7 +48,7 @@ con1Value c =
     + c .spre % 8 * 2 ^ 2
     + c .ppre % 4
 
--- CON2 as written and as read. Bits 14, 13 and 1 are kept and have no effect.
+-- CON2 as written and as read. Bits 14, 13 and 1 are kept always and count with FRMEN alone.
 unfoldable pub con2From : ℕ → Con2
 con2From v =
     record {
@@ -133,9 +133,10 @@ spirovAfter v spirov = spirov && bitOf v 6
 unfoldable pub statEngine : ℕ → Engine → Engine
 statEngine v n = withSpirov (spirovAfter v (n .spirov)) n
 
--- SPIEN from 0 to 1 sets the remembered clock level to idle (the level CKP), select to high and SDO to 0.
+-- SPIEN from 0 to 1 sets the remembered clock level to idle (the level CKP), select to high and SDO to 0. No frame pulse
+-- stands, so that a frame host has SS inactive.
 unfoldable pub enabledEngine : ℕ → Con1 → Engine → Engine
-enabledEngine v c n = withPins (record { sck = c .ckp; ss = true; sdo = false }) (withSpirov (spirovAfter v (n .spirov)) n)
+enabledEngine v c n = withPins (record { sck = c .ckp; ss = true; sdo = false; pulse = false }) (withSpirov (spirovAfter v (n .spirov)) n)
 
 -- SPIEN from 1 to 0 empties both buffers and the shift register. The interrupt flag stays.
 unfoldable pub disabledEngine : ℕ → Engine → Engine

@@ -46,11 +46,13 @@ pub enum Shift {
     Begun(Progress),
 }
 
-// The remembered clock and select levels, and the level that SDO has or would have.
+// The remembered clock and select levels, the level that SDO has or would have, and whether a frame pulse stands: given on
+// SS by a frame host, or sampled there by a frame client at its last sample edge.
 pub struct Pins {
     pub sck: bool,
     pub ss: bool,
     pub sdo: bool,
+    pub pulse: bool,
 }
 
 // CON1 by its bits.
@@ -124,7 +126,6 @@ pub enum Refusal {
     UnreadableLine,
     DifferentModes,
     TooManyEdges,
-    Framed,
     Undivided,
     LateSampling,
     UnselectedCke,
@@ -154,18 +155,18 @@ pub struct Outcome {
     pub after: Module,
 }
 
-// The calls on one module: read a register, write a register, tick with an SDI level, see the pins SCK, SDI and SS,
-// clear the interrupt flag.
+// The calls on one module: read a register, write a register, tick with the levels SDI and SS, see the pins SCK, SDI and
+// SS, clear the interrupt flag.
 pub enum Call {
     Read(u32),
     Write(u32, u16),
-    Tick(bool),
+    Tick(bool, bool),
     Pin(bool, bool, bool),
     Clear,
 }
 
-// The SDO pin as others see it.
-pub enum Sdo {
+// A pin that the module may drive, SDO or SS, as others see it.
+pub enum Output {
     Low,
     High,
     Undriven,

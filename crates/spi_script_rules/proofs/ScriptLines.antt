@@ -2,7 +2,7 @@
 --     reads-all, reads-no-more    the bytes that are read: all of a short script, and no byte past the last that counts
 --     reads-at-most               never more than that
 --     lines-begin                 the lines of some bytes are the first line, and the lines of what stands behind it and its LF
---     NoLf, no-lf-append          a text without LF, and two of them joined
+--     NoLf, no-lf, no-lf-append   a text without LF, one that is written out, and two of them joined
 --     lines-end                   a text without LF, an LF and a rest are that text as a line, and the lines of the rest
 --     lines-at-most               there are no more lines than bytes
 --     first-line-taken            the first line is what the bytes begin with
@@ -10,19 +10,20 @@
 --     too-long                    a line of more than 16 bytes cannot be read
 -- Assumes nothing.
 use Prim.Native.Nat.{ℕ, suc, _+_, _≤_, _<_}
-use mathlib.Core.Bool.{Bool, true, false}
+use mathlib.Core.Bool.{Bool, true, false, not, _&&_}
 use mathlib.Core.List.{List, [], _∷_, _++_}
 use mathlib.Core.Path.{_≡_, refl, ap, _∙_}
 use native.Mathlib.Nat.{suc-add}
 use native.Mathlib.Omega.{arith}
+use borrow.Author.Tests.{not-true}
 use lib.Dec.{eqb}
 use lib.ListN.{length, take, drop, length-take}
 use lib.Seq.{take-all, take-at}
 use Rattle.spi_script_rules.specs.declared.Line.the-variants.{Unreadable}
 use Rattle.spi_rules.specs.Choice.{if_then_else_}
-use Rattle.spi_script_rules.specs.Script.{lf, mostBytes, readFrom, longer, linesOf, Place, fitsPlace, fits, writeForm, readForm, tickForm, pinForm, clearForm, readingOf}
+use Rattle.spi_script_rules.specs.Script.{lf, mostBytes, readFrom, longer, linesOf, Place, fitsPlace, fits, writeForm, readForm, tickForm, tickSsForm, pinForm, clearForm, readingOf}
 use Rattle.spi_script_rules.specs.Session.{firstLine}
-use Rattle.spi_rules.proofs.Keeps.{if-keeps, if-false, and-false}
+use Rattle.spi_rules.proofs.Keeps.{if-keeps, if-false, and-false, and-left, and-right}
 
 -- What is read.
 
@@ -63,6 +64,15 @@ lines-begin (b ∷ (c ∷ bs)) h = by-first (eqb b lf) b (c ∷ bs) (ap (longer 
 abbrev pub NoLf : List ℕ → Type 0
 NoLf [] = Unit {0}
 NoLf (b ∷ bs) = (eqb b lf ≡ false) × NoLf bs
+
+-- A text that is written out has no LF if the test finds none.
+abbrev noneIsLf : List ℕ → Bool
+noneIsLf [] = true
+noneIsLf (b ∷ bs) = not (eqb b lf) && noneIsLf bs
+
+pub no-lf : (t : List ℕ) → noneIsLf t ≡ true → NoLf t
+no-lf [] e = tt
+no-lf (b ∷ bs) e = (not-true (eqb b lf) (and-left (not (eqb b lf)) (noneIsLf bs) e), no-lf bs (and-right (not (eqb b lf)) (noneIsLf bs) e))
 
 -- Two texts without LF are one text without LF.
 pub no-lf-append : (s t : List ℕ) → NoLf s → NoLf t → NoLf (s ++ t)
@@ -111,12 +121,13 @@ not-fits (p ∷ ps) (b ∷ bs) h = and-false (fitsPlace p b) (fits ps bs) (not-f
 
 -- A line of more than 16 bytes has none of the forms.
 pub too-long : (line : List ℕ) → 16 < length line → readingOf line ≡ Unreadable
-unfolding readingOf writeForm readForm tickForm pinForm clearForm
+unfolding readingOf writeForm readForm tickForm tickSsForm pinForm clearForm
 too-long line h =
     let no : (form : List Place) → length form ≤ 16 → fits form line ≡ false
     = λ form k. not-fits form line (λ e. omega arith) in
     if-false (fits writeForm line) _ _ (no writeForm (omega arith))
     ∙ if-false (fits readForm line) _ _ (no readForm (omega arith))
     ∙ if-false (fits tickForm line) _ _ (no tickForm (omega arith))
+    ∙ if-false (fits tickSsForm line) _ _ (no tickSsForm (omega arith))
     ∙ if-false (fits pinForm line) _ _ (no pinForm (omega arith))
     ∙ if-false (fits clearForm line) _ _ (no clearForm (omega arith))

@@ -1,6 +1,6 @@
 -- How many bytes the answers take.
 --     decimal-length      a number below 10 ^ p takes at most p digits, however many places it may have
---     line-text-length    what stands behind a line's number takes at most 5 bytes
+--     line-text-length    what stands behind a line's number takes at most 7 bytes
 --     answer-line-fits    the answer to a line numbered up to 65,536 takes at most 16 bytes
 --     answers-fit         the answers to a number of lines take at most 16 bytes for each
 --     piece-fits          those of a piece fit a buffer of 4,096 bytes
@@ -17,15 +17,18 @@ use lib.ListN.{length, length-append}
 use Rattle.spi_rules.specs.declared.Module.{Module}
 use Rattle.spi_script_rules.specs.declared.Session.{Session}
 use Rattle.spi_rules.specs.declared.Refusal.{Refusal}
-use Rattle.spi_rules.specs.declared.Refusal.the-variants.{NoSuchRegister, Disabled, Enabled, TransmitFull, ReceiveEmpty, WrongClock, NoRate, UnreadableLine, DifferentModes, TooManyEdges, Framed, Undivided, LateSampling, UnselectedCke}
+use Rattle.spi_rules.specs.declared.Refusal.the-variants.{NoSuchRegister, Disabled, Enabled, TransmitFull, ReceiveEmpty, WrongClock, NoRate, UnreadableLine, DifferentModes, TooManyEdges, Undivided, LateSampling, UnselectedCke}
 use Rattle.spi_rules.specs.declared.Answer.{Answer}
 use Rattle.spi_rules.specs.declared.Answer.the-variants.{Refused, Done, Value, NoEdge, Edge}
 use Rattle.spi_rules.specs.declared.Call.{Call}
 use Rattle.spi_rules.specs.declared.Call.the-variants.{Read, Write, Tick, Pin, Clear}
+use Rattle.spi_rules.specs.declared.Output.{Output}
+use Rattle.spi_rules.specs.declared.Output.the-variants.{Low, High, Undriven}
 use Rattle.spi_script_rules.specs.declared.Line.{Line}
 use Rattle.spi_script_rules.specs.declared.Line.the-variants.{Unreadable, Asked}
 use Rattle.spi_rules.specs.Refusals.{numberOf}
-use Rattle.spi_script_rules.specs.Script.{bytes, mostBytes, readFrom, readingOf, decimalIn, decimalOf, fourHexOf, refusedText, okText, pinText, edgeText, doneText, answerText, lineText, answerLine}
+use Rattle.spi_rules.specs.Calls.{ssOf}
+use Rattle.spi_script_rules.specs.Script.{bytes, mostBytes, readFrom, readingOf, decimalIn, decimalOf, fourHexOf, refusedText, okText, ssText, pinText, edgeText, doneText, answerText, lineText, answerLine}
 use Rattle.spi_script_rules.specs.Session.{ended, lineOf, linePlayed, answers, pieceLines, pieceText}
 use Rattle.spi_rules.proofs.Keeps.{if-keeps, or-right}
 
@@ -55,7 +58,6 @@ number-below NoRate = omega arith
 number-below UnreadableLine = omega arith
 number-below DifferentModes = omega arith
 number-below TooManyEdges = omega arith
-number-below Framed = omega arith
 number-below Undivided = omega arith
 number-below LateSampling = omega arith
 number-below UnselectedCke = omega arith
@@ -64,29 +66,43 @@ pub refused-length : (r : Refusal) → length (refusedText r) ≤ 4
 unfolding refusedText decimalOf
 refused-length r = omega (arith, decimal-length 10 2 (numberOf r) (number-below r) (omega arith))
 
+ss-length : (level : Output) → length (ssText level) ≤ 2
+unfolding ssText
+ss-length Low = omega arith
+ss-length High = omega arith
+ss-length Undriven = omega arith
+
+pub pin-length : (m : Module) → length (pinText m) ≤ 5
+unfolding pinText
+pin-length m = omega (arith, ss-length (ssOf m))
+
+pub edge-length : (m : Module) → length (edgeText m) ≤ 7
+unfolding edgeText
+edge-length m = omega (arith, pin-length m)
+
 done-length : (c : Call) (m : Module) → length (doneText c m) ≤ 5
-unfolding doneText pinText okText bytes
-done-length (Pin sck sdi ss) m = omega arith
+unfolding doneText okText bytes
+done-length (Pin sck sdi ss) m = pin-length m
 done-length (Write register v) m = omega arith
 done-length Clear m = omega arith
 done-length (Read register) m = omega arith
-done-length (Tick sdi) m = omega arith
+done-length (Tick sdi ss) m = omega arith
 
-pub answer-length : (c : Call) (a : Answer) (m : Module) → length (answerText c a m) ≤ 5
-unfolding answerText edgeText pinText fourHexOf bytes
+pub answer-length : (c : Call) (a : Answer) (m : Module) → length (answerText c a m) ≤ 7
+unfolding answerText fourHexOf bytes
 answer-length c (Refused r) m = omega (arith, refused-length r)
-answer-length c Done m = done-length c m
+answer-length c Done m = omega (arith, done-length c m)
 answer-length c (Value v) m = omega arith
 answer-length c NoEdge m = omega arith
-answer-length c Edge m = omega arith
+answer-length c Edge m = edge-length m
 
--- What stands behind a line's number has at most five bytes.
-pub line-text-length : (m : Module) (l : Line) → length (lineText m l) ≤ 5
+-- What stands behind a line's number has at most seven bytes.
+pub line-text-length : (m : Module) (l : Line) → length (lineText m l) ≤ 7
 unfolding lineText
 line-text-length m Unreadable = omega (arith, refused-length UnreadableLine)
 line-text-length m (Asked c) = answer-length c _ _
 
--- Five digits, a space, five bytes and LF are no more than 16 bytes.
+-- Five digits, a space, seven bytes and LF are no more than 16 bytes.
 pub answer-line-fits : (k : ℕ) (m : Module) (l : Line) → k ≤ 65536 → length (answerLine k m l) ≤ 16
 unfolding answerLine decimalOf
 answer-line-fits k m l h =

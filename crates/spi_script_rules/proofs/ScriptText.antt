@@ -22,16 +22,16 @@ use Rattle.spi_rules.specs.declared.Answer.{Answer}
 use Rattle.spi_rules.specs.declared.Answer.the-variants.{Refused, Done, Value, NoEdge, Edge}
 use Rattle.spi_rules.specs.declared.Call.{Call}
 use Rattle.spi_rules.specs.declared.Call.the-variants.{Read, Write, Tick, Pin, Clear}
-use Rattle.spi_rules.specs.declared.Sdo.{Sdo}
-use Rattle.spi_rules.specs.declared.Sdo.the-variants.{Low, High, Undriven}
+use Rattle.spi_rules.specs.declared.Output.{Output}
+use Rattle.spi_rules.specs.declared.Output.the-variants.{Low, High, Undriven}
 use Rattle.spi_script_rules.specs.declared.Line.{Line}
 use Rattle.spi_script_rules.specs.declared.Line.the-variants.{Unreadable, Asked}
 use Rattle.spi_rules.specs.Choice.{if_then_else_}
 use Rattle.spi_rules.specs.Refusals.{numberOf}
-use Rattle.spi_rules.specs.Calls.{poweredUp, afterCalls, interruptOf, sckOf, sdoOf}
-use Rattle.spi_script_rules.specs.Script.{bytes, lf, space, readFrom, linesOf, readingOf, decimalIn, decimalOf, hexOf, fourHexOf, levelOf, sdoLetter, refusedText, okText, pinText, edgeText, doneText, answerText, lineText, lineAfter, answerLine, answersFrom, asked, callsOf, scriptOutput}
+use Rattle.spi_rules.specs.Calls.{poweredUp, afterCalls, interruptOf, sckOf, sdoOf, ssOf}
+use Rattle.spi_script_rules.specs.Script.{bytes, lf, space, readFrom, linesOf, readingOf, decimalIn, decimalOf, hexOf, fourHexOf, levelOf, sdoLetter, refusedText, okText, ssText, pinText, edgeText, doneText, answerText, lineText, lineAfter, answerLine, answersFrom, asked, callsOf, scriptOutput}
 use Rattle.spi_rules.proofs.Keeps.{if-keeps, by-test}
-use Rattle.spi_script_rules.proofs.ScriptLines.{NoLf, no-lf-append, lines-end}
+use Rattle.spi_script_rules.proofs.ScriptLines.{NoLf, no-lf, no-lf-append, lines-end}
 
 -- No LF in an answer.
 
@@ -57,7 +57,7 @@ unfolding levelOf if_then_else_
 level-is-no-lf true = refl
 level-is-no-lf false = refl
 
-sdo-is-no-lf : (level : Sdo) → eqb (sdoLetter level) lf ≡ false
+sdo-is-no-lf : (level : Output) → eqb (sdoLetter level) lf ≡ false
 unfolding sdoLetter
 sdo-is-no-lf Low = refl
 sdo-is-no-lf High = refl
@@ -67,17 +67,23 @@ refused-without-lf : (r : Refusal) → NoLf (refusedText r)
 unfolding refusedText decimalOf
 refused-without-lf r = (refl, (refl, decimal-without-lf 10 (numberOf r)))
 
+ss-without-lf : (level : Output) → NoLf (ssText level)
+unfolding ssText
+ss-without-lf Low = no-lf (ssText Low) refl
+ss-without-lf High = no-lf (ssText High) refl
+ss-without-lf Undriven = no-lf (ssText Undriven) refl
+
 pin-without-lf : (m : Module) → NoLf (pinText m)
 unfolding pinText
-pin-without-lf m = (sdo-is-no-lf (sdoOf m), (refl, (level-is-no-lf (interruptOf m), tt)))
+pin-without-lf m = (sdo-is-no-lf (sdoOf m), (refl, (level-is-no-lf (interruptOf m), ss-without-lf (ssOf m))))
 
 done-without-lf : (c : Call) (m : Module) → NoLf (doneText c m)
 unfolding doneText okText bytes
 done-without-lf (Pin sck sdi ss) m = pin-without-lf m
-done-without-lf (Write register v) m = (refl, (refl, tt))
-done-without-lf Clear m = (refl, (refl, tt))
-done-without-lf (Read register) m = (refl, (refl, tt))
-done-without-lf (Tick sdi) m = (refl, (refl, tt))
+done-without-lf (Write register v) m = no-lf okText refl
+done-without-lf Clear m = no-lf okText refl
+done-without-lf (Read register) m = no-lf okText refl
+done-without-lf (Tick sdi ss) m = no-lf okText refl
 
 answer-without-lf : (c : Call) (a : Answer) (m : Module) → NoLf (answerText c a m)
 unfolding answerText edgeText fourHexOf bytes

@@ -14,13 +14,13 @@ use Rattle.spi_rules.specs.declared.Answer.{Answer}
 use Rattle.spi_rules.specs.declared.Answer.the-variants.{Refused, Done, Value, NoEdge, Edge}
 use Rattle.spi_rules.specs.declared.Call.{Call}
 use Rattle.spi_rules.specs.declared.Call.the-variants.{Read, Write, Tick, Pin, Clear}
-use Rattle.spi_rules.specs.declared.Sdo.{Sdo}
-use Rattle.spi_rules.specs.declared.Sdo.the-variants.{Low, High, Undriven}
+use Rattle.spi_rules.specs.declared.Output.{Output}
+use Rattle.spi_rules.specs.declared.Output.the-variants.{Low, High, Undriven}
 use Rattle.spi_script_rules.specs.declared.Line.{Line}
 use Rattle.spi_script_rules.specs.declared.Line.the-variants.{Unreadable, Asked}
 use Rattle.spi_rules.specs.Choice.{if_then_else_}
 use Rattle.spi_rules.specs.Refusals.{numberOf}
-use Rattle.spi_rules.specs.Calls.{poweredUp, performOf, afterCalls, interruptOf, sckOf, sdoOf}
+use Rattle.spi_rules.specs.Calls.{poweredUp, performOf, afterCalls, interruptOf, sckOf, sdoOf, ssOf}
 
 -- The bytes of a text.
 unfoldable pub bytes : String → List ℕ
@@ -91,6 +91,10 @@ readForm = only (code "R") ∷ only space ∷ digit ∷ []
 unfoldable pub tickForm : List Place
 tickForm = only (code "T") ∷ only space ∷ level ∷ []
 
+-- `T sdi ss` (document 02, Three)
+unfoldable pub tickSsForm : List Place
+tickSsForm = only (code "T") ∷ only space ∷ level ∷ only space ∷ level ∷ []
+
 -- `P sck sdi ss`
 unfoldable pub pinForm : List Place
 pinForm = only (code "P") ∷ only space ∷ level ∷ only space ∷ level ∷ only space ∷ level ∷ []
@@ -116,13 +120,14 @@ levelValue b = eqb b (code "1")
 abbrev pub at : List ℕ → ℕ → ℕ
 at line k = getD line k 0
 
--- The call that a line asks for. Anything else, an empty line too, cannot be read. No line of more than 8 bytes has one of
--- the forms, so none of more than 16 can be read.
+-- The call that a line asks for; a T line that leaves SS out says 0. Anything else, an empty line too, cannot be read. No line
+-- of more than 8 bytes has one of the forms, so none of more than 16 can be read.
 unfoldable pub readingOf : List ℕ → Line
 readingOf line =
     if fits writeForm line then Asked (Write (digitValue (at line 2)) (fourHexValue (at line 4) (at line 5) (at line 6) (at line 7)))
     else if fits readForm line then Asked (Read (digitValue (at line 2)))
-    else if fits tickForm line then Asked (Tick (levelValue (at line 2)))
+    else if fits tickForm line then Asked (Tick (levelValue (at line 2)) false)
+    else if fits tickSsForm line then Asked (Tick (levelValue (at line 2)) (levelValue (at line 4)))
     else if fits pinForm line then Asked (Pin (levelValue (at line 2)) (levelValue (at line 4)) (levelValue (at line 6)))
     else if fits clearForm line then Asked Clear
     else Unreadable
@@ -149,7 +154,7 @@ fourHexOf v = hexOf (v / 4096 % 16) ∷ hexOf (v / 256 % 16) ∷ hexOf (v / 16 %
 unfoldable pub levelOf : Bool → ℕ
 levelOf b = if b then code "1" else code "0"
 
-unfoldable pub sdoLetter : Sdo → ℕ
+unfoldable pub sdoLetter : Output → ℕ
 sdoLetter Low = code "0"
 sdoLetter High = code "1"
 sdoLetter Undriven = code "Z"
@@ -162,9 +167,16 @@ refusedText r = code "E" ∷ space ∷ decimalOf (numberOf r)
 unfoldable pub okText : List ℕ
 okText = bytes "OK"
 
--- SCK, SDO and the interrupt flag for an edge of a tick; SDO and the flag for a pin call.
+-- The level of an SS that is driven, which a frame host alone does: a last field. Other modules have no such field (document 02,
+-- Three).
+unfoldable pub ssText : Output → List ℕ
+ssText Low = space ∷ code "0" ∷ []
+ssText High = space ∷ code "1" ∷ []
+ssText Undriven = []
+
+-- SCK, SDO, the interrupt flag and a driven SS for an edge of a tick; the same without SCK for a pin call.
 unfoldable pub pinText : Module → List ℕ
-pinText m = sdoLetter (sdoOf m) ∷ space ∷ levelOf (interruptOf m) ∷ []
+pinText m = sdoLetter (sdoOf m) ∷ space ∷ levelOf (interruptOf m) ∷ ssText (ssOf m)
 
 unfoldable pub edgeText : Module → List ℕ
 edgeText m = levelOf (sckOf m) ∷ space ∷ pinText m
@@ -175,7 +187,7 @@ doneText (Pin sck sdi ss) m = pinText m
 doneText (Write register v) m = okText
 doneText Clear m = okText
 doneText (Read register) m = okText
-doneText (Tick sdi) m = okText
+doneText (Tick sdi ss) m = okText
 
 -- What an answer to a call tells, with the module after it: four hexadecimal digits for a value, `N` for no edge.
 unfoldable pub answerText : Call → Answer → Module → List ℕ

@@ -1,5 +1,5 @@
--- Document 01, "The script program": its worked example, and scripts for what the rules say besides, each with the output
--- that the paper gives it. proofs/ExamplesHold.antt proves them together, as one list.
+-- Document 01, "The script program": its worked example, and scripts for what the rules say besides, with document 02, Three,
+-- each with the output that the papers give it. proofs/ScriptExamplesHold.antt proves them together, as one list.
 use Prim.Native.Nat.{ℕ}
 use Prim.Native.String.{String}
 use mathlib.Core.Bool.{Bool, true, false, _&&_}
@@ -47,7 +47,7 @@ scripts =
     -- exactly so many digits, each of its kind
     ∷ record { input = "W 1 020\nW 1 00020\nW 1 00G0\nW 1 00:0\nW 1 00/0\nW 1 00@0\n"; output = "1 E 9\n2 E 9\n3 E 9\n4 E 9\n5 E 9\n6 E 9\n" }
     ∷ record { input = "R 01\nR\nR A\nR -1\nR :\nR /\n"; output = "1 E 9\n2 E 9\n3 E 9\n4 E 9\n5 E 9\n6 E 9\n" }
-    ∷ record { input = "T 2\nT\nT 0 0\nP 0 0\nP 0 0 2\nP 0 0 0 0\nP 000\nCC\n"; output = "1 E 9\n2 E 9\n3 E 9\n4 E 9\n5 E 9\n6 E 9\n7 E 9\n8 E 9\n" }
+    ∷ record { input = "T 2\nT\nT 0 2\nT 0 \nT 0  1\nT 0 0 0\nP 0 0\nP 0 0 2\nP 0 0 0 0\nP 000\nCC\n"; output = "1 E 9\n2 E 9\n3 E 9\n4 E 9\n5 E 9\n6 E 9\n7 E 9\n8 E 9\n9 E 9\n10 E 9\n11 E 9\n" }
     -- a register above 3 can be read as a line
     ∷ record { input = "W 4 0000\nR 9\n"; output = "1 E 1\n2 E 1\n" }
     -- every hexadecimal digit, written and read back
@@ -57,6 +57,19 @@ scripts =
     ∷ record { input = "W 1 0020\nW 0 8000\nT 0\nW 3 0001\nT 0\nT 0\nT 0\nT 0\nT 0\nT 0\nT 0\nT 0\nT 0\nT 0\nT 0\nT 0\nT 0\nT 1\nT 1\nT 1\nT 1\nC\nR 3\nP 0 0 0\n"; output = "1 OK\n2 OK\n3 N\n4 OK\n5 1 0 0\n6 0 0 0\n7 1 0 0\n8 0 0 0\n9 1 0 0\n10 0 0 0\n11 1 0 0\n12 0 0 0\n13 1 0 0\n14 0 0 0\n15 1 0 0\n16 0 0 0\n17 1 0 0\n18 0 0 0\n19 1 1 0\n20 0 1 1\n21 N\n22 OK\n23 0003\n24 E 7\n" }
     -- SDI of a pin call stands in the middle
     ∷ record { input = "W 0 8000\nP 1 0 0\nP 0 1 0\nP 1 0 0\nP 0 1 0\nP 1 0 0\nP 0 1 0\nP 1 0 0\nP 0 1 0\nP 1 0 0\nP 0 1 0\nP 1 0 0\nP 0 1 0\nP 1 0 0\nP 0 1 0\nP 1 0 0\nP 0 1 0\nR 3\n"; output = "1 OK\n2 0 0\n3 0 0\n4 0 0\n5 0 0\n6 0 0\n7 0 0\n8 0 0\n9 0 0\n10 0 0\n11 0 0\n12 0 0\n13 0 0\n14 0 0\n15 0 0\n16 0 0\n17 0 1\n18 00FF\n" }
+    -- a T line may end with SS, which an unframed host does not look at
+    ∷ record { input = "W 1 0020\nW 0 8000\nW 3 00A5\nT 1 1\nT 0 0\nT 1\n"; output = "1 OK\n2 OK\n3 OK\n4 1 1 0\n5 0 1 0\n6 1 0 0\n" }
+    -- a frame host tells the SS level that it drives: at its ticks with FRMDLY 0, with FRMDLY 1 and with FRMPOL 0, and at pin calls
+    ∷ record { input = "W 1 0020\nW 2 A000\nW 0 8000\nT 0\nT 0\nT 0\nW 3 00A5\nW 3 003C\nT 1\nT 1\nT 1\nT 1\nT 1\n"; output = "1 OK\n2 OK\n3 OK\n4 1 0 0 0\n5 0 0 0 0\n6 1 0 0 0\n7 OK\n8 OK\n9 0 0 0 0\n10 1 0 0 1\n11 0 0 0 1\n12 1 1 0 0\n13 0 1 0 0\n" }
+    ∷ record { input = "W 1 0020\nW 2 A002\nW 0 8000\nT 0\nT 0\nT 0\nW 3 00A5\nW 3 003C\nT 1\nT 1\nT 1\nT 1\n"; output = "1 OK\n2 OK\n3 OK\n4 1 0 0 0\n5 0 0 0 0\n6 1 0 0 0\n7 OK\n8 OK\n9 0 0 0 0\n10 1 1 0 1\n11 0 1 0 1\n12 1 0 0 0\n" }
+    ∷ record { input = "W 1 0020\nW 2 8000\nW 0 8000\nW 3 00FF\nT 1\nT 1\nT 1\nT 1\n"; output = "1 OK\n2 OK\n3 OK\n4 OK\n5 1 0 0 0\n6 0 0 0 0\n7 1 1 0 1\n8 0 1 0 1\n" }
+    ∷ record { input = "W 1 0000\nW 2 A000\nW 0 8000\nP 1 0 0\nP 0 0 0\nW 3 00A5\nW 3 003C\nP 1 1 0\nP 0 1 0\nP 1 1 0\nP 0 1 0\n"; output = "1 OK\n2 OK\n3 OK\n4 0 0 0\n5 0 0 0\n6 OK\n7 OK\n8 0 0 1\n9 0 0 1\n10 1 0 0\n11 1 0 0\n" }
+    -- a frame client drives no SS and tells none; a tick shows it the SS of the T line, and 0 if that is left out
+    ∷ record { input = "W 1 0020\nW 2 E000\nW 0 8000\nW 3 00A5\nT 1 0\nT 1 0\nT 1 1\nT 1 1\nT 1 0\nT 1 0\n"; output = "1 OK\n2 OK\n3 OK\n4 OK\n5 1 0 0\n6 0 0 0\n7 1 0 0\n8 0 0 0\n9 1 1 0\n10 0 1 0\n" }
+    ∷ record { input = "W 1 0020\nW 2 C000\nW 0 8000\nW 3 00A5\nT 1 1\nT 1 1\nT 1 1\nT 1\nT 1\n"; output = "1 OK\n2 OK\n3 OK\n4 OK\n5 1 0 0\n6 0 0 0\n7 1 0 0\n8 0 0 0\n9 1 1 0\n" }
+    ∷ record { input = "W 1 1460\nW 2 C000\nW 0 8000\nW 3 8001\nP 1 0 1\nP 0 0 0\nP 1 0 0\nP 0 1 1\nP 1 1 1\n"; output = "1 OK\n2 OK\n3 OK\n4 OK\n5 0 0\n6 0 0\n7 0 0\n8 1 0\n9 1 0\n" }
+    -- framed settings: 12 is never given, 13 and 14 stay, 15 is not given with FRMEN
+    ∷ record { input = "W 1 003F\nW 2 8000\nW 0 8000\nW 1 0200\nW 0 8000\nW 1 0100\nW 0 8000\nW 0 0000\nW 2 0000\nW 0 8000\n"; output = "1 OK\n2 OK\n3 E 13\n4 OK\n5 E 14\n6 OK\n7 OK\n8 OK\n9 OK\n10 E 15\n" }
     ∷ []
 
 -- All of them.

@@ -192,6 +192,7 @@ fn places() {
     every_place(b"every byte in W\n", b"W 1 0000\nR 1", 8);
     every_place(b"every byte in R\n", b"R 0", 3);
     every_place(b"every byte in T\n", b"T 0", 3);
+    every_place(b"every byte in T with SS\n", b"T 0 0", 5);
     every_place(b"every byte in P\n", b"P 0 0 0", 7);
     every_place(b"every byte in C\n", b"C", 1);
 }
@@ -232,6 +233,11 @@ fn limits() {
     tally_again(
         b"a host at work, 70,000 bytes\n",
         b"W 1 0060\nW 2 0001\nW 0 8014\nW 3 00A5\nT 1\nT 0\nT 0\nR 0\nR 3\n\nT 2\n",
+        70000,
+    );
+    tally_again(
+        b"a frame host and a frame client at work, 70,000 bytes\n",
+        b"W 0 0000\nW 1 0020\nW 2 A001\nW 0 8014\nW 3 00A5\nT 1\nT 0\nT 1\nW 0 0000\nW 2 E000\nW 0 8000\nT 1\nT 0 1\nT 1\nR 0\n",
         70000,
     );
     tally_again(

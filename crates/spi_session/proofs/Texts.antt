@@ -7,7 +7,7 @@
 --     decimal-step     the digits of a number are those of its tenth, and its last digit
 --     decimal-tenth    the digits of a number's tenth are one fewer
 --     refusal-number-short, line-number-short     a refusal's number has at most two digits, a line's number five
---     answer-short     what a call's answer tells takes at most five bytes
+--     answer-short     what a call's answer tells takes at most seven bytes
 --     asked-text       what a line that asks for a call tells
 -- Assumes nothing.
 use Prim.Native.Nat.{ℕ, zero, suc, _+_, _/_, _%_, _^_, _<_, _≤_}
@@ -89,7 +89,7 @@ unfolding decimalOf
 line-number-short n h = decimal-length 10 5 n (omega arith) (omega arith)
 
 pub answer-short : (c : Call) (a : Answer) (m : Module) {before after : List ℕ} {place next : ℕ} →
-    Written (answerText c a m) before place after next → next ≤ place + 5
+    Written (answerText c a m) before place after next → next ≤ place + 7
 answer-short c a m h = omega (arith, h .behind, answer-length c a m)
 
 pub asked-text : (m : Module) (c : Call) {o : Outcome} {before after : List ℕ} {place next : ℕ} → o ≡ performOf m c →

@@ -2,8 +2,8 @@
 // buffer.
 use spi_rules::Answer;
 use spi_rules::Call;
+use spi_rules::Output;
 use spi_rules::Refusal;
-use spi_rules::Sdo;
 use spi_script_rules::Bookmark;
 use spi_script_rules::Line;
 use spi_script_rules::Piece;
@@ -11,7 +11,7 @@ ghost use Prim.Native.Nat.{_+_, _%_, _≤_, _<_};
 ghost use mathlib.Core.Path.{_≡_};
 ghost use mathlib.Core.List.{[], _∷_};
 ghost use lib.ListN.{length};
-ghost use Rattle.spi_script_rules.specs.Script.{decimalOf, hexOf, fourHexOf, levelOf, sdoLetter, refusedText, okText, pinText, edgeText, doneText, answerText, lineAfter, answerLine, readFrom};
+ghost use Rattle.spi_script_rules.specs.Script.{decimalOf, hexOf, fourHexOf, levelOf, sdoLetter, refusedText, okText, ssText, pinText, edgeText, doneText, answerText, lineAfter, answerLine, readFrom};
 ghost use Rattle.spi_script_rules.specs.Session.{started, played, answers, pieceAfter, pieceText};
 ghost use Rattle.spi_memory.specs.Memory.{moduleIn};
 ghost use Rattle.spi_session.specs.Written.{Written, sessionIn};
@@ -31,6 +31,15 @@ fn put(out: &mut [u8; 4096], at: usize, b: u8) -> usize
 {
     out[at] = b;
     at + 1
+}
+
+// Two bytes more.
+fn put_two(out: &mut [u8; 4096], at: usize, a: u8, b: u8) -> usize
+    requires { ⌜ at + 2 ≤ 4096 ⌝ }
+    ensures { λ r. ⌜ Written (a ∷ b ∷ []) (now (out .entry)) at (now (out .exit)) r ⌝ }
+{
+    let second = put(out, at, a);
+    put(out, second, b)
 }
 
 // A number in decimal.
@@ -83,13 +92,13 @@ fn level_letter(level: bool) -> u8
 }
 
 // The letter of the SDO pin.
-fn sdo_letter(pin: Sdo) -> u8
+fn sdo_letter(pin: Output) -> u8
     ensures { λ r. ⌜ r ≡ sdoLetter pin ⌝ }
 {
     match pin {
-        Sdo::Low => b'0',
-        Sdo::High => b'1',
-        Sdo::Undriven => b'Z',
+        Output::Low => b'0',
+        Output::High => b'1',
+        Output::Undriven => b'Z',
     }
 }
 
@@ -107,23 +116,35 @@ fn put_ok(out: &mut [u8; 4096], at: usize) -> usize
     requires { ⌜ at + 2 ≤ 4096 ⌝ }
     ensures { λ r. ⌜ Written okText (now (out .entry)) at (now (out .exit)) r ⌝ }
 {
-    let second = put(out, at, b'O');
-    put(out, second, b'K')
+    put_two(out, at, b'O', b'K')
 }
 
-// SDO and the interrupt flag.
+// The level of SS, if it is driven: a last field.
+fn put_ss(out: &mut [u8; 4096], at: usize, pin: Output) -> usize
+    requires { ⌜ at + 2 ≤ 4096 ⌝ }
+    ensures { λ r. ⌜ Written (ssText pin) (now (out .entry)) at (now (out .exit)) r ⌝ }
+{
+    match pin {
+        Output::Low => put_two(out, at, b' ', b'0'),
+        Output::High => put_two(out, at, b' ', b'1'),
+        Output::Undriven => at,
+    }
+}
+
+// SDO, the interrupt flag and a driven SS.
 fn put_pins(out: &mut [u8; 4096], at: usize, w: &[u16; 96]) -> usize
-    requires { ⌜ at + 3 ≤ 4096 ⌝ }
+    requires { ⌜ at + 5 ≤ 4096 ⌝ }
     ensures { λ r. ⌜ Written (pinText (moduleIn (now (w .entry)))) (now (out .entry)) at (now (out .exit)) r ⌝ }
 {
     let second = put(out, at, sdo_letter(spi_module::sdo(w)));
     let third = put(out, second, b' ');
-    put(out, third, level_letter(spi_memory::interrupt_in(w)))
+    let fourth = put(out, third, level_letter(spi_memory::interrupt_in(w)));
+    put_ss(out, fourth, spi_module::ss(w))
 }
 
-// SCK, SDO and the interrupt flag.
+// SCK, SDO, the interrupt flag and a driven SS.
 fn put_edge(out: &mut [u8; 4096], at: usize, w: &[u16; 96]) -> usize
-    requires { ⌜ at + 5 ≤ 4096 ⌝ }
+    requires { ⌜ at + 7 ≤ 4096 ⌝ }
     ensures { λ r. ⌜ Written (edgeText (moduleIn (now (w .entry)))) (now (out .entry)) at (now (out .exit)) r ⌝ }
 {
     let pins = spi_memory::pins_in(w);
@@ -134,7 +155,7 @@ fn put_edge(out: &mut [u8; 4096], at: usize, w: &[u16; 96]) -> usize
 
 // What a call that was done tells.
 fn put_done(out: &mut [u8; 4096], at: usize, c: Call, w: &[u16; 96]) -> usize
-    requires { ⌜ at + 3 ≤ 4096 ⌝ }
+    requires { ⌜ at + 5 ≤ 4096 ⌝ }
     ensures { λ r. ⌜ Written (doneText c (moduleIn (now (w .entry)))) (now (out .entry)) at (now (out .exit)) r ⌝ }
 {
     match c {
@@ -142,13 +163,13 @@ fn put_done(out: &mut [u8; 4096], at: usize, c: Call, w: &[u16; 96]) -> usize
         Call::Write(_, _) => put_ok(out, at),
         Call::Clear => put_ok(out, at),
         Call::Read(_) => put_ok(out, at),
-        Call::Tick(_) => put_ok(out, at),
+        Call::Tick(_, _) => put_ok(out, at),
     }
 }
 
 // What an answer to a call tells.
 fn put_answer(out: &mut [u8; 4096], at: usize, c: Call, a: Answer, w: &[u16; 96]) -> usize
-    requires { ⌜ at + 5 ≤ 4096 ⌝ }
+    requires { ⌜ at + 7 ≤ 4096 ⌝ }
     ensures { λ r. ⌜ Written (answerText c a (moduleIn (now (w .entry)))) (now (out .entry)) at (now (out .exit)) r ⌝ }
 {
     match a {

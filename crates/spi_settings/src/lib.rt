@@ -4,8 +4,8 @@ use spi_rules::Event;
 use spi_rules::Refusal;
 use spi_rules::Settings;
 ghost use mathlib.Core.Path.{_≡_};
-ghost use Rattle.spi_rules.specs.Settings.{widthOf, depthOf, ssenClient, ownClock};
-ghost use Rattle.spi_rules.specs.Refusals.{framing, undivided, lateSampling, unselectedCke, causes, badSettings, firstGiven};
+ghost use Rattle.spi_rules.specs.Settings.{widthOf, depthOf, framed, frameHost, frameClient, ckeOf, silent, ssenClient, ownClock};
+ghost use Rattle.spi_rules.specs.Refusals.{undivided, lateSampling, unselectedCke, causes, badSettings, firstGiven};
 ghost use Rattle.spi_rules.specs.Interrupts.{enhancedRaises, standardRaises, raises};
 
 // The width in bits.
@@ -22,11 +22,49 @@ pub fn depth(s: Settings) -> u8
     if s.con2.spiben { 8 } else { 1 }
 }
 
-// Whether the module is a client that watches its select pin.
+// Whether the module is framed.
+pub fn is_framed(s: Settings) -> bool
+    ensures { λ r. ⌜ r ≡ framed s ⌝ }
+{
+    s.con2.frmen
+}
+
+// Whether the module gives frame pulses on SS.
+pub fn is_frame_host(s: Settings) -> bool
+    ensures { λ r. ⌜ r ≡ frameHost s ⌝ }
+{
+    s.con2.frmen & !s.con2.spifsd
+}
+
+// Whether the module samples frame pulses on SS.
+pub fn is_frame_client(s: Settings) -> bool
+    ensures { λ r. ⌜ r ≡ frameClient s ⌝ }
+{
+    s.con2.frmen & s.con2.spifsd
+}
+
+// CKE as the edge rules see it: 0 for a framed module.
+pub fn cke(s: Settings) -> bool
+    ensures { λ r. ⌜ r ≡ ckeOf s ⌝ }
+{
+    !s.con2.frmen & s.con1.cke
+}
+
+// Whether the module begins nothing if no word is left to send.
+pub fn is_silent(s: Settings) -> bool
+    ensures { λ r. ⌜ r ≡ silent s ⌝ }
+{
+    if s.con2.frmen {
+        return !s.con2.spifsd;
+    }
+    s.con1.msten
+}
+
+// Whether the module is an unframed client that watches its select pin.
 pub fn ssen_client(s: Settings) -> bool
     ensures { λ r. ⌜ r ≡ ssenClient s ⌝ }
 {
-    !s.con1.msten & s.con1.ssen
+    !s.con1.msten & (!s.con2.frmen & s.con1.ssen)
 }
 
 // Whether the module is a host with its own clock.
@@ -34,13 +72,6 @@ pub fn own_clock(s: Settings) -> bool
     ensures { λ r. ⌜ r ≡ ownClock s ⌝ }
 {
     s.con1.msten & !s.con1.dissck
-}
-
-// Whether framing is asked for.
-pub fn framed(s: Settings) -> bool
-    ensures { λ r. ⌜ r ≡ framing s ⌝ }
-{
-    s.con2.frmen
 }
 
 // Whether a host with its own clock has both prescalers at 1:1.
@@ -57,27 +88,24 @@ pub fn samples_late(s: Settings) -> bool
     s.con1.smp
 }
 
-// Whether a client has CKE and no SSEN.
+// Whether an unframed client has CKE and no SSEN.
 pub fn has_unselected_cke(s: Settings) -> bool
     ensures { λ r. ⌜ r ≡ unselectedCke s ⌝ }
 {
-    !s.con1.msten & (s.con1.cke & !s.con1.ssen)
+    !s.con2.frmen & (!s.con1.msten & (s.con1.cke & !s.con1.ssen))
 }
 
 // Whether these settings cannot be enabled.
 pub fn are_bad(s: Settings) -> bool
     ensures { λ r. ⌜ r ≡ badSettings s ⌝ }
 {
-    framed(s) | (is_undivided(s) | (samples_late(s) | has_unselected_cke(s)))
+    is_undivided(s) | (samples_late(s) | has_unselected_cke(s))
 }
 
 // The first cause for which these settings cannot be enabled. It says something only where there is one.
 pub fn first_cause(s: Settings) -> Refusal
     ensures { λ r. ⌜ r ≡ firstGiven (causes s) ⌝ }
 {
-    if framed(s) {
-        return Refusal::Framed;
-    }
     if is_undivided(s) {
         return Refusal::Undivided;
     }

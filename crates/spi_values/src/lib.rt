@@ -44,11 +44,12 @@ pub fn write(m: Module, register: u32, v: u16) -> Outcome
     perform(m, Call::Write(register, v))
 }
 
-// A tick of a host's own clock, with the SDI level: one edge, or none with no word loaded.
-pub fn tick(m: Module, sdi: bool) -> Outcome
-    ensures { λ r. ⌜ r ≡ tickOf m sdi ⌝ }
+// A tick of a host's own clock, with the levels SDI and SS: one edge, or none if the host is unframed and no word is loaded.
+// SS counts for a frame client alone.
+pub fn tick(m: Module, sdi: bool, ss: bool) -> Outcome
+    ensures { λ r. ⌜ r ≡ tickOf m sdi ss ⌝ }
 {
-    perform(m, Call::Tick(sdi))
+    perform(m, Call::Tick(sdi, ss))
 }
 
 // The levels of SCK, SDI and SS are shown to a module that is clocked from its pin.

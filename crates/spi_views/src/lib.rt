@@ -1,15 +1,15 @@
-// What a caller sees without changing anything: the interrupt flag, the levels of SCK and SDO, and answers in the paper's
-// numbers.
+// What a caller sees without changing anything: the interrupt flag, the levels of SCK, SDO and SS, and answers in the
+// paper's numbers.
 use spi_rules::Answer;
 use spi_rules::Module;
+use spi_rules::Output;
 use spi_rules::Pins;
 use spi_rules::Refusal;
 use spi_rules::Said;
-use spi_rules::Sdo;
 use spi_rules::Settings;
 ghost use mathlib.Core.Path.{_≡_};
 ghost use Rattle.spi_rules.specs.Refusals.{numberOf, saidOf};
-ghost use Rattle.spi_rules.specs.Calls.{interruptOf, sckOf, undrivenBy, sdoBy, sdoOf};
+ghost use Rattle.spi_rules.specs.Calls.{interruptOf, sckOf, undrivenBy, sdoBy, sdoOf, ssBy};
 
 // The paper's number for a refusal.
 pub fn refusal_number(r: Refusal) -> u8
@@ -26,7 +26,6 @@ pub fn refusal_number(r: Refusal) -> u8
         Refusal::UnreadableLine => 9,
         Refusal::DifferentModes => 10,
         Refusal::TooManyEdges => 11,
-        Refusal::Framed => 12,
         Refusal::Undivided => 13,
         Refusal::LateSampling => 14,
         Refusal::UnselectedCke => 15,
@@ -86,23 +85,36 @@ pub fn sck(m: Module) -> bool
 }
 
 // The SDO pin, by settings and pins: its level, or undriven.
-pub fn sdo_by(s: Settings, pins: Pins) -> Sdo
+pub fn sdo_by(s: Settings, pins: Pins) -> Output
     ensures { λ r. ⌜ r ≡ sdoBy (undrivenBy s pins) pins ⌝ }
 {
     if !s.spien | (s.con1.dissdo | (spi_settings::ssen_client(s) & pins.ss)) {
-        return Sdo::Undriven;
+        return Output::Undriven;
     }
     if pins.sdo {
-        return Sdo::High;
+        return Output::High;
     }
-    Sdo::Low
+    Output::Low
 }
 
 // The SDO pin of a module.
-pub fn sdo(m: Module) -> Sdo
+pub fn sdo(m: Module) -> Output
     ensures { λ r. ⌜ r ≡ sdoOf m ⌝ }
 {
     let s = m.settings;
     let pins = m.engine.pins;
     sdo_by(s, pins)
+}
+
+// The SS pin, by settings and pins: a frame host drives it at FRMPOL's level during a pulse, else at the other one.
+pub fn ss_by(s: Settings, pins: Pins) -> Output
+    ensures { λ r. ⌜ r ≡ ssBy s pins ⌝ }
+{
+    if !(s.spien & spi_settings::is_frame_host(s)) {
+        return Output::Undriven;
+    }
+    if pins.pulse == s.con2.frmpol {
+        return Output::High;
+    }
+    Output::Low
 }

@@ -64,7 +64,7 @@ pub fn rest(w: &mut [u16; 96])
     ensures { λ _. ⌜ Steps rested (now (w .entry)) (now (w .exit)) ⌝ }
 {
     let s = spi_memory::settings_in(w);
-    if s.con1.cke & !spi_memory::is_begun(w) {
+    if spi_settings::cke(s) & !spi_memory::is_begun(w) {
         let shift = spi_memory::shift_in(w);
         let t = spi_memory::transmit_in(w);
         let level = next_top(s, t, shift);

@@ -11,12 +11,12 @@ use Rattle.spi_rules.specs.declared.Answer.{Answer}
 use Rattle.spi_rules.specs.declared.Outcome.{Outcome}
 use Rattle.spi_link_rules.specs.declared.LinkAnswer.{LinkAnswer}
 use Rattle.spi_link_rules.specs.declared.Linked.{Linked}
-use Rattle.spi_rules.specs.declared.Sdo.{Sdo}
-use Rattle.spi_rules.specs.declared.Sdo.the-variants.{Low, High, Undriven}
+use Rattle.spi_rules.specs.declared.Output.{Output}
+use Rattle.spi_rules.specs.declared.Output.the-variants.{Low, High, Undriven}
 use Rattle.spi_rules.specs.Choice.{if_then_else_}
 use Rattle.spi_rules.specs.Refusals.{saidOf}
 use Rattle.spi_link_rules.specs.Link.{linkSaidOf}
-use Rattle.spi_rules.specs.Calls.{interruptOf, sckOf, sdoOf}
+use Rattle.spi_rules.specs.Calls.{interruptOf, sckOf, sdoOf, ssOf}
 use Rattle.spi_memory.specs.Memory.{moduleIn}
 use Rattle.spi_module.specs.Answered.{untouching}
 use Rattle.spi_link.specs.Wire.{isRefused}
@@ -50,14 +50,16 @@ pub record LinkTells (l : Linked) (r : ℕ) (host hostAfter client clientAfter :
   pub hostUntouched : isRefused (l .answer) ≡ true → hostAfter ≡ host
   pub clientUntouched : isRefused (l .answer) ≡ true → clientAfter ≡ client
 
--- Bit 0 is the interrupt flag, bit 1 SCK, bit 2 the level of SDO, 0 if undriven, and bit 3 whether SDO is driven.
-unfoldable pub sdoBits : Sdo → ℕ
-sdoBits Low = 8
-sdoBits High = 12
-sdoBits Undriven = 0
+-- A pin that the module may drive takes two bits: the lower is its level, 0 if undriven, the upper whether it is driven.
+unfoldable pub outputBits : Output → ℕ
+outputBits Low = 2
+outputBits High = 3
+outputBits Undriven = 0
 
+-- Bit 0 is the interrupt flag, bit 1 SCK, bits 2 and 3 are SDO, bits 4 and 5 SS.
 unfoldable pub levelsNumber : Module → ℕ
-levelsNumber m = (if interruptOf m then 1 else 0) + (if sckOf m then 2 else 0) + sdoBits (sdoOf m)
+levelsNumber m =
+    (if interruptOf m then 1 else 0) + (if sckOf m then 2 else 0) + outputBits (sdoOf m) * 4 + outputBits (ssOf m) * 16
 
 -- A clock report: 1 is internal, 2 external, 0 none.
 unfoldable pub kindNumber : Bool → Bool → ℕ
@@ -76,10 +78,10 @@ pub record ClockTells (s : ClockSaid) (r : ℕ) (before after : List Float) : Ty
   pub number : r ≡ clockNumber s
   pub report : after ≡ (if eqb (s .number) 0 then clockFloats s else before)
 
--- The library's version, 2.0.0: the major number times 65,536, the minor one times 256, and the patch.
+-- The library's version, 3.0.0: the major number times 65,536, the minor one times 256, and the patch.
 abbrev pub versionNumber : ℕ
-versionNumber = 2 * 65536 + 0 * 256 + 0
+versionNumber = 3 * 65536 + 0 * 256 + 0
 
 -- The number of the memory's format: it rises wherever the meaning of memory (crates/spi_memory/specs/Memory.antt) changes.
 abbrev pub formatNumber : ℕ
-formatNumber = 1
+formatNumber = 2

@@ -2,7 +2,7 @@
 // caller holds, 96 numbers of 16 bits a module. Only numbers cross the boundary, and any numbers are answered.
 use spi_link_rules::LinkAnswer;
 use spi_rules::Answer;
-use spi_rules::Sdo;
+use spi_rules::Output;
 ghost use Prim.Native.Nat.{_%_, _≤_};
 ghost use mathlib.Core.Path.{_≡_};
 ghost use Rattle.spi_rules.specs.Choice.{if_then_else_};
@@ -10,7 +10,7 @@ ghost use Rattle.spi_rules.specs.Calls.{poweredUp, readOf, writeOf, tickOf, pin
 ghost use Rattle.spi_link_rules.specs.Link.{linkedOf};
 ghost use Rattle.spi_clock_rules.specs.Clock.{reportOf, saidClock};
 ghost use Rattle.spi_memory.specs.Memory.{moduleIn};
-ghost use Rattle.thurafeqa.specs.Numbers.{Tells, LinkTells, levelIn, answerNumber, linkNumber, sdoBits, levelsNumber, kindNumber, ClockTells, versionNumber, formatNumber};
+ghost use Rattle.thurafeqa.specs.Numbers.{Tells, LinkTells, levelIn, answerNumber, linkNumber, outputBits, levelsNumber, kindNumber, ClockTells, versionNumber, formatNumber};
 
 // An answer as a number.
 fn answer_number(a: Answer) -> u32
@@ -59,12 +59,12 @@ pub extern "C" fn thurafeqa_write(w: &mut [u16; 96], register: u32, value: u32) 
     answer_number(answer)
 }
 
-// One tick of a host with its own clock, with the SDI level.
+// One tick of a host with its own clock, with the levels SDI and SS. SS counts for a frame client alone.
 #[no_mangle]
-pub extern "C" fn thurafeqa_tick(w: &mut [u16; 96], sdi: u32) -> u32
-    ensures { λ r. ⌜ Tells (tickOf (moduleIn (now (w .entry))) (levelIn sdi)) r (now (w .entry)) (now (w .exit)) ⌝ }
+pub extern "C" fn thurafeqa_tick(w: &mut [u16; 96], sdi: u32, ss: u32) -> u32
+    ensures { λ r. ⌜ Tells (tickOf (moduleIn (now (w .entry))) (levelIn sdi) (levelIn ss)) r (now (w .entry)) (now (w .exit)) ⌝ }
 {
-    let answer = spi_module::tick(w, sdi != 0);
+    let answer = spi_module::tick(w, sdi != 0, ss != 0);
     answer_number(answer)
 }
 
@@ -85,13 +85,14 @@ pub extern "C" fn thurafeqa_clear(w: &mut [u16; 96])
     spi_module::clear(w);
 }
 
-fn sdo_bits(pin: Sdo) -> u32
-    ensures { λ r. ⌜ (r ≡ sdoBits pin) × (r ≤ 12) ⌝ }
+// A pin that the module may drive: its level, and whether it is driven.
+fn output_bits(pin: Output) -> u32
+    ensures { λ r. ⌜ (r ≡ outputBits pin) × (r ≤ 3) ⌝ }
 {
     match pin {
-        Sdo::Low => 8,
-        Sdo::High => 12,
-        Sdo::Undriven => 0,
+        Output::Low => 2,
+        Output::High => 3,
+        Output::Undriven => 0,
     }
 }
 
@@ -105,7 +106,7 @@ fn weight(bit: bool, w: u32) -> u32
     0
 }
 
-// The interrupt flag and the levels of SCK and SDO.
+// The interrupt flag and the levels of SCK, SDO and SS.
 #[no_mangle]
 pub extern "C" fn thurafeqa_levels(w: &[u16; 96]) -> u32
     ensures { λ r. ⌜ r ≡ levelsNumber (moduleIn (now (w .entry))) ⌝ }
@@ -113,8 +114,9 @@ pub extern "C" fn thurafeqa_levels(w: &[u16; 96]) -> u32
     let pins = spi_memory::pins_in(w);
     let flag = weight(spi_memory::interrupt_in(w), 1);
     let sck = weight(pins.sck, 2);
-    let sdo = sdo_bits(spi_module::sdo(w));
-    flag + sck + sdo
+    let sdo = output_bits(spi_module::sdo(w));
+    let ss = output_bits(spi_module::ss(w));
+    flag + sck + sdo * 4 + ss * 16
 }
 
 // Two modules on one wire, for at most `limit` edges.
@@ -159,7 +161,7 @@ pub extern "C" fn thurafeqa_clock(w: &[u16; 96], rate: u32, report: &mut [f64; 3
 pub extern "C" fn thurafeqa_version() -> u32
     ensures { λ r. ⌜ r ≡ versionNumber ⌝ }
 {
-    131072
+    196608
 }
 
 // The number of the memory's format: it rises wherever the meaning of the 96 numbers changes.
@@ -167,5 +169,5 @@ pub extern "C" fn thurafeqa_version() -> u32
 pub extern "C" fn thurafeqa_format() -> u32
     ensures { λ r. ⌜ r ≡ formatNumber ⌝ }
 {
-    1
+    2
 }

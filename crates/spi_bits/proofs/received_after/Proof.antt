@@ -15,4 +15,5 @@ unfolding receivedAfter
 returns-2 c = not-so _ _ _ (cc) refl
 
 pub received-after-spec : {M : Type 1} → statement M
-received-after-spec = tie.close (tie.spec (λ c κs. search needs) (λ c κs. search needs) returns returns-2)
+received-after-spec =
+    tie.close (tie.spec (λ c κs. search needs) (λ c κs. search needs) (λ c κs. search needs) returns returns-2)

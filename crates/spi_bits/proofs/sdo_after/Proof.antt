@@ -15,4 +15,5 @@ unfolding sdoAfter
 returns-2 c = not-so _ _ _ (cc) (cc)
 
 pub sdo-after-spec : {M : Type 1} → statement M
-sdo-after-spec = tie.close (tie.spec (λ c κs. search needs) (λ c κs. search needs) returns returns-2)
+sdo-after-spec =
+    tie.close (tie.spec (λ c κs. search needs) (λ c κs. search needs) (λ c κs. search needs) returns returns-2)

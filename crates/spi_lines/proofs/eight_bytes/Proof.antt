@@ -7,7 +7,7 @@ use mathlib.Core.List.{List, [], _∷_}
 use mathlib.Core.Path.{_≡_, sym}
 use Rattle.spi_script_rules.specs.Script.{fits, writeForm, digitValue, fourHexValue}
 use Rattle.spi_lines.proofs.Digits.{digit-range}
-use Rattle.spi_lines.proofs.Forms.{fits-at, not-read, not-tick, not-pin, not-clear, as-write, unread, write-tests}
+use Rattle.spi_lines.proofs.Forms.{fits-at, not-read, not-tick, not-tick-ss, not-pin, not-clear, as-write, unread, write-tests}
 use Rattle.spi_lines.proofs.eight_bytes.Statement.{statement}
 use Rattle.spi_lines.proofs.eight_bytes.Tie as tie
 
@@ -57,7 +57,7 @@ returns-2 c =
     let a = c .before .before .before .before .before .before .args in
     sym
     (unread _ (cc (write-tests (a .k) (a .s) (a .n) (a .t) (a .a) (a .b) (a .c) (a .d))) (not-read _ (λ e. omega arith))
-    (not-tick _ (λ e. omega arith)) (not-pin _ (λ e. omega arith)) (not-clear _ (λ e. omega arith)))
+    (not-tick _ (λ e. omega arith)) (not-tick-ss _ (λ e. omega arith)) (not-pin _ (λ e. omega arith)) (not-clear _ (λ e. omega arith)))
 
 pub eight-bytes-spec : {M : Type 1} → statement M
 eight-bytes-spec =

@@ -2,7 +2,7 @@
 use native.Mathlib.Omega.{arith}
 use mathlib.Core.Path.{refl, sym, _∙_}
 use borrow.Author.Tests.{eq-eqb, ne-eqb}
-use Rattle.spi_lines.proofs.Forms.{not-write, not-read, not-tick, not-pin, as-clear, unread, clear-tests}
+use Rattle.spi_lines.proofs.Forms.{not-write, not-read, not-tick, not-tick-ss, not-pin, as-clear, unread, clear-tests}
 use Rattle.spi_lines.proofs.one_byte.Statement.{statement}
 use Rattle.spi_lines.proofs.one_byte.Tie as tie
 
@@ -13,7 +13,7 @@ returns-2 : tie.Need-returns-2
 returns-2 c =
     sym
     (unread _ (not-write _ (λ e. omega arith)) (not-read _ (λ e. omega arith)) (not-tick _ (λ e. omega arith))
-    (not-pin _ (λ e. omega arith)) (clear-tests _ ∙ ne-eqb _ _ (c .if1 .left)))
+    (not-tick-ss _ (λ e. omega arith)) (not-pin _ (λ e. omega arith)) (clear-tests _ ∙ ne-eqb _ _ (c .if1 .left)))
 
 pub one-byte-spec : {M : Type 1} → statement M
 one-byte-spec = tie.close (tie.spec returns returns-2)

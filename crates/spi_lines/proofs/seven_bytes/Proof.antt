@@ -3,7 +3,7 @@ use native.Mathlib.Omega.{arith}
 use borrow.Author.Needs.{needs}
 use mathlib.Core.Path.{refl, sym}
 use Rattle.spi_script_rules.specs.Script.{levelValue}
-use Rattle.spi_lines.proofs.Forms.{not-write, not-read, not-tick, not-clear, as-pin, unread, pin-tests}
+use Rattle.spi_lines.proofs.Forms.{not-write, not-read, not-tick, not-tick-ss, not-clear, as-pin, unread, pin-tests}
 use Rattle.spi_lines.proofs.seven_bytes.Statement.{statement}
 use Rattle.spi_lines.proofs.seven_bytes.Tie as tie
 
@@ -18,7 +18,7 @@ returns-2 c =
     let a = c .before .before .before .before .args in
     sym
     (unread _ (not-write _ (λ e. omega arith)) (not-read _ (λ e. omega arith)) (not-tick _ (λ e. omega arith))
-    (cc (pin-tests (a .k) (a .s) (a .a) (a .t) (a .b) (a .u) (a .c))) (not-clear _ (λ e. omega arith)))
+    (not-tick-ss _ (λ e. omega arith)) (cc (pin-tests (a .k) (a .s) (a .a) (a .t) (a .b) (a .u) (a .c))) (not-clear _ (λ e. omega arith)))
 
 pub seven-bytes-spec : {M : Type 1} → statement M
 seven-bytes-spec =

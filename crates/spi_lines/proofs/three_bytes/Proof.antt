@@ -7,7 +7,7 @@ use mathlib.Core.List.{List, [], _∷_}
 use mathlib.Core.Path.{_≡_, refl, sym}
 use Rattle.spi_script_rules.specs.Script.{fits, readForm, digitValue, levelValue}
 use Rattle.spi_lines.proofs.Digits.{digit-range}
-use Rattle.spi_lines.proofs.Forms.{fits-at, not-write, not-pin, not-clear, as-read, as-tick, unread, read-tests, tick-tests}
+use Rattle.spi_lines.proofs.Forms.{fits-at, not-write, not-tick-ss, not-pin, not-clear, as-read, as-tick, unread, read-tests, tick-tests}
 use Rattle.spi_lines.proofs.three_bytes.Statement.{statement}
 use Rattle.spi_lines.proofs.three_bytes.Tie as tie
 
@@ -48,7 +48,7 @@ returns-3 c =
     let a = c .before .before .before .before .args in
     sym
     (unread _ (not-write _ (λ e. omega arith)) (not-a-read (c .before .before)) (cc (tick-tests (a .k) (a .s) (a .n)))
-    (not-pin _ (λ e. omega arith)) (not-clear _ (λ e. omega arith)))
+    (not-tick-ss _ (λ e. omega arith)) (not-pin _ (λ e. omega arith)) (not-clear _ (λ e. omega arith)))
 
 pub three-bytes-spec : {M : Type 1} → statement M
 three-bytes-spec =

@@ -7,4 +7,4 @@ returns : tie.Need-returns
 returns c = cc
 
 pub wrong-roles-spec : {M : Type 1} → statement M
-wrong-roles-spec = tie.close (tie.spec (λ c κs. search needs) returns)
+wrong-roles-spec = tie.close (tie.spec (λ c κs. search needs) (λ c κs. search needs) (λ c κs. search needs) returns)

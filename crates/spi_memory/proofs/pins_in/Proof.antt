@@ -11,4 +11,4 @@ returns c = refl
 
 pub pins-in-spec : {M : Type 1} → statement M
 pins-in-spec =
-    tie.close (tie.spec (λ c. search needs) (λ c. search needs) (λ c. search needs) returns)
+    tie.close (tie.spec (λ c. search needs) (λ c. search needs) (λ c. search needs) (λ c. search needs) returns)

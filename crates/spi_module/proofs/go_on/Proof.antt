@@ -42,11 +42,11 @@ returns c =
     let if1 = c .before .before .before .before .if1 .taken in
     let shift-in = c .before .before .before .shift-in .ensures in
     let p = progress-in-result in
-    let word = begun-there w given ∙ ap Begun (sym progress-in) in
+    let word = begun-there w (given .0) ∙ ap Begun (sym progress-in) in
     alike (c .store-gone .ensures)
     (on-begun _ _ word _
     (so-lt (p .edges + 1) (wordEdges (settingsIn w)) _ _ (omega (arith, rw settings-in at width))
-    (sampled _ _ word _ (rw (is-sampling, settings-in) at if1) shift-in)))
+    (sampled _ _ word _ (rw (is-sampling, given .1) at if1) shift-in)))
 
 returns-2 : tie.Need-returns-2
 unfolding advanced wordEdges receivedAfter
@@ -61,11 +61,11 @@ returns-2 c =
     let if1 = c .before .before .before .before .if1 .taken in
     let shift-in = c .before .before .before .shift-in .ensures in
     let p = progress-in-result in
-    let word = begun-there w given ∙ ap Begun (sym progress-in) in
+    let word = begun-there w (given .0) ∙ ap Begun (sym progress-in) in
     alike (c .finish .ensures)
     (on-begun _ _ word _
     (not-so-lt (p .edges + 1) (wordEdges (settingsIn w)) _ _ (omega (arith, rw settings-in at width))
-    (ap (λ (k : ℕ). finished (settingsIn w) (p .filler) k (engineIn w)) (so _ _ _ (rw (is-sampling, settings-in) at if1) shift-in))))
+    (ap (λ (k : ℕ). finished (settingsIn w) (p .filler) k (engineIn w)) (so _ _ _ (rw (is-sampling, given .1) at if1) shift-in))))
 
 returns-3 : tie.Need-returns-3
 unfolding advanced wordEdges shownBit
@@ -80,11 +80,11 @@ returns-3 c =
     let if1 = c .before .before .before .before .before .before .if1 .left in
     let bit = c .before .before .before .before .bit .ensures in
     let p = progress-in-result in
-    let word = begun-there w given ∙ ap Begun (sym progress-in) in
+    let word = begun-there w (given .0) ∙ ap Begun (sym progress-in) in
     alike ((c .before .before .store-gone2 .ensures) then (c .store-sdo .ensures))
     (on-begun _ _ word _
     (so-lt (p .edges + 1) (wordEdges (settingsIn w)) _ _ (omega (arith, rw settings-in at width))
-    (shown _ _ word _ (rw (is-sampling, settings-in) at if1)
+    (shown _ _ word _ (rw (is-sampling, given .1) at if1)
     (bit ∙ ap (bitOf (p .word)) (omega (arith, rw settings-in at width))))))
 
 returns-4 : tie.Need-returns-4
@@ -99,11 +99,11 @@ returns-4 c =
     let is-sampling = c .before .before .before .before .is-sampling .ensures in
     let if1 = c .before .before .before .if1 .left in
     let p = progress-in-result in
-    let word = begun-there w given ∙ ap Begun (sym progress-in) in
+    let word = begun-there w (given .0) ∙ ap Begun (sym progress-in) in
     alike (c .finish2 .ensures)
     (on-begun _ _ word _
     (not-so-lt (p .edges + 1) (wordEdges (settingsIn w)) _ _ (omega (arith, rw settings-in at width))
-    (ap (λ (k : ℕ). finished (settingsIn w) (p .filler) k (engineIn w)) (not-so _ _ _ (rw (is-sampling, settings-in) at if1) refl))))
+    (ap (λ (k : ℕ). finished (settingsIn w) (p .filler) k (engineIn w)) (not-so _ _ _ (rw (is-sampling, given .1) at if1) refl))))
 
 pub go-on-spec : {M : Type 1} → statement M
 go-on-spec =

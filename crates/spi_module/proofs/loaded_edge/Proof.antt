@@ -1,26 +1,26 @@
--- An edge to the active level begins the loaded word.
+-- An edge that may begin a word begins the loaded one.
 use borrow.Author.Needs.{needs}
-use mathlib.Core.Path.{refl}
+use mathlib.Core.Path.{refl, sym, _∙_}
 use Rattle.spi_rules.specs.Edge.{begun, clocked}
 use Rattle.spi_memory.proofs.Taken.{_then_, alike}
-use Rattle.spi_module.proofs.Edges.{begins, begins-loaded, idle, active}
+use Rattle.spi_module.proofs.Edges.{begins, begins-loaded, unbegun, active}
 use Rattle.spi_module.proofs.loaded_edge.Statement.{statement}
 use Rattle.spi_module.proofs.loaded_edge.Tie as tie
 
 returns : tie.Need-returns
 unfolding clocked
 returns c =
-    let given = c .before .before .before .before .before .before .pre in
-    let settings-in = c .before .before .before .before .settings-in .ensures in
-    alike (c .before .before .store-sck .ensures) (begins-loaded _ _ _ _ (idle _ _ _ given (rw settings-in at (c .if1 .taken))))
+    let given = c .before .before .before .before .before .pre in
+    let begins-none = c .before .before .before .begins-none .ensures in
+    alike (c .before .store-sck .ensures) (begins-loaded _ _ _ _ (unbegun _ _ _ given (sym begins-none ∙ (c .if1 .taken))))
 
 returns-2 : tie.Need-returns-2
 unfolding clocked begun
 returns-2 c =
-    let store-sck = c .before .before .before .before .store-sck .ensures in
-    let given = c .before .before .before .before .before .before .before .before .pre in
-    let settings-in = c .before .before .before .before .before .before .settings-in .ensures in
-    alike (store-sck then (c .begin .ensures)) (begins _ _ _ _ (active _ _ _ given (rw settings-in at (c .before .before .if1 .left)) refl))
+    let store-sck = c .before .before .before .store-sck .ensures in
+    let given = c .before .before .before .before .before .before .before .pre in
+    let begins-none = c .before .before .before .before .before .begins-none .ensures in
+    alike (store-sck then (c .begin .ensures)) (begins _ _ _ _ (active _ _ _ given (sym begins-none ∙ (c .before .before .if1 .left)) refl))
 
 pub loaded-edge-spec : {M : Type 1} → statement M
 loaded-edge-spec =

@@ -10,12 +10,13 @@ use Rattle.spi_module.proofs.stat_written.Tie as tie
 returns : tie.Need-returns
 unfolding statWritten turnsOn enabledEngine spirovAfter bitOf
 returns c =
-    let store-spirov = c .before .before .before .before .before .before .before .before .store-spirov .ensures in
-    let store-sck = c .before .before .before .before .store-sck .ensures in
-    let settings-in = c .before .before .before .before .before .before .before .before .before .before .before .before .settings-in .ensures in
-    let if1 = c .before .before .before .before .before .before .if1 .taken in
-    let spirov-in = c .before .before .before .before .before .before .before .before .before .before .spirov-in .ensures in
-    alike (store-spirov then store-sck then (c .before .before .store-ss .ensures) then (c .store-sdo .ensures))
+    let store-spirov = c .before .before .before .before .before .before .before .before .before .before .store-spirov .ensures in
+    let store-sck = c .before .before .before .before .before .before .store-sck .ensures in
+    let store-ss = c .before .before .before .before .store-ss .ensures in
+    let settings-in = c .before .before .before .before .before .before .before .before .before .before .before .before .before .before .settings-in .ensures in
+    let if1 = c .before .before .before .before .before .before .before .before .if1 .taken in
+    let spirov-in = c .before .before .before .before .before .before .before .before .before .before .before .before .spirov-in .ensures in
+    alike (store-spirov then store-sck then store-ss then (c .before .before .store-sdo .ensures) then (c .store-pulse .ensures))
     (so _ _ _ (rw settings-in at if1) (rw (spirov-in, settings-in)))
 
 returns-2 : tie.Need-returns-2
@@ -46,10 +47,9 @@ pub stat-written-spec : {M : Type 1} → statement M
 stat-written-spec =
     tie.close
     (tie.spec
-    (λ c κs. search needs) (λ c κs. search needs) (λ c κs. search needs) (λ c κs. search needs)
+    (λ c κs. search needs) (λ c κs. search needs) (λ c κs. search needs) (λ c κs. search needs) (λ c κs. search needs)
     (λ c κs. search needs) (λ c κs. search needs)
     returns
-    (λ c κs. search needs) (λ c κs. search needs) (λ c κs. search needs) (λ c κs. search needs)
-    (λ c κs. search needs)
+    (λ c κs. search needs) (λ c κs. search needs) (λ c κs. search needs) (λ c κs. search needs) (λ c κs. search needs)
     returns-2
     returns-3)

@@ -1,14 +1,12 @@
--- Two bytes, one behind the other.
+-- The two letters.
 use borrow.Author.Needs.{needs}
-use native.Mathlib.Omega.{arith}
 use Rattle.spi_script_rules.specs.Script.{bytes, okText}
-use Rattle.spi_script_rules.specs.Session.{put}
 use Rattle.spi_session.proofs.put_ok.Statement.{statement}
 use Rattle.spi_session.proofs.put_ok.Tie as tie
 
 returns : tie.Need-returns
-unfolding bytes okText put
-returns c = record { buffer = cc; behind = omega arith }
+unfolding bytes okText
+returns c = c .put-two .ensures
 
 pub put-ok-spec : {M : Type 1} → statement M
-put-ok-spec = tie.close (tie.spec (λ c κs. search needs) (λ c κs. search needs) returns)
+put-ok-spec = tie.close (tie.spec (λ c κs. search needs) returns)

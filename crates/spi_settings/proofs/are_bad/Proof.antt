@@ -6,8 +6,4 @@ returns : tie.Need-returns
 returns c = cc
 
 pub are-bad-spec : {M : Type 1} → statement M
-are-bad-spec =
-    tie.close
-    (tie.spec
-    (λ c κs. search needs) (λ c κs. search needs) (λ c κs. search needs) (λ c κs. search needs)
-    returns)
+are-bad-spec = tie.close (tie.spec (λ c κs. search needs) (λ c κs. search needs) (λ c κs. search needs) returns)

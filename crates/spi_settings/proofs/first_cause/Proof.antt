@@ -11,19 +11,8 @@ returns-2 : tie.Need-returns-2
 returns-2 c = not-so _ _ _ (cc) (so _ _ _ (cc) (cc))
 
 returns-3 : tie.Need-returns-3
-returns-3 c = not-so _ _ _ (cc) (not-so _ _ _ (cc) (so _ _ _ (cc) (cc)))
-
-returns-4 : tie.Need-returns-4
-returns-4 c = not-so _ _ _ (cc) (not-so _ _ _ (cc) (not-so _ _ _ (cc) (cc)))
+returns-3 c = not-so _ _ _ (cc) (not-so _ _ _ (cc) (cc))
 
 pub first-cause-spec : {M : Type 1} → statement M
 first-cause-spec =
-    tie.close
-    (tie.spec
-    (λ c κs. search needs)
-    returns
-    (λ c κs. search needs)
-    returns-2
-    (λ c κs. search needs)
-    returns-3
-    returns-4)
+    tie.close (tie.spec (λ c κs. search needs) returns (λ c κs. search needs) returns-2 returns-3)

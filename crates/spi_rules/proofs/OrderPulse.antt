@@ -1,0 +1,197 @@
+-- The frame pulse, and the ledger's entry of it.
+--     shows-pulse    an enabled frame host shows on SS the pulse that it gives
+--     finished-pulse, advanced-pulse, clocked-pulse   what leaves the pulse as it was
+--     advanced-clock   what is under way leaves the clock
+--     loaded-shown   a pulse with the first bit
+--     starts-as      where a word may begin, the ledger says so too
+--     pulsed-after   the end of an edge
+-- Assumes nothing.
+use Prim.Native.Nat.{ℕ, _+_, _*_}
+use mathlib.Core.Bool.{Bool, true, false, not, _&&_, _||_, Bool·beq}
+use mathlib.Core.Path.{_≡_, refl, sym, ap, _∙_}
+use native.Mathlib.Omega.{arith}
+use borrow.Author.Tests.{lt-ltb, not-true}
+use lib.Dec.{eqb, ltb}
+use Rattle.spi_rules.specs.declared.Settings.{Settings}
+use Rattle.spi_rules.specs.declared.Engine.{Engine}
+use Rattle.spi_rules.specs.declared.Module.{Module}
+use Rattle.spi_rules.specs.declared.Pins.{Pins}
+use Rattle.spi_rules.specs.declared.Shift.{Shift}
+use Rattle.spi_rules.specs.declared.Shift.the-variants.{Free, Loaded, Begun}
+use Rattle.spi_rules.specs.declared.Output.the-variants.{Low, High}
+use Rattle.spi_rules.specs.Choice.{if_then_else_}
+use Rattle.spi_rules.specs.Settings.{widthOf, framed, frameHost, silent}
+use Rattle.spi_rules.specs.Registers.{isFree}
+use Rattle.spi_rules.specs.Buffers.{empty}
+use Rattle.spi_rules.specs.Loading.{isBegun}
+use Rattle.spi_rules.specs.Bits.{progressed}
+use Rattle.spi_rules.specs.Finish.{finished}
+use Rattle.spi_rules.specs.Edge.{wordEdges, fresh, begun, shifted, advanced, advancedIfBegun, awaitsPulse, underWay, pulseDue, active, pulseAfter, pulsed, clocked}
+use Rattle.spi_rules.specs.Calls.{ssOf}
+use Rattle.spi_rules.specs.Ledger.{isQuiet, Ledger, leftToSend, pulseNoted}
+use Rattle.spi_rules.specs.Watch.{terms, isLevel, showsPulse}
+use Rattle.spi_rules.specs.Demands.{wireOf}
+use Rattle.spi_rules.proofs.Keeps.{if-keeps, if-true, if-false, and-left, and-right, clash}
+use Rattle.spi_rules.proofs.Sizes.{width-least}
+use Rattle.spi_rules.proofs.OrderTied.{TiedNow, Stood, After}
+use Rattle.spi_rules.proofs.OrderFinish.{delivered-elsewhere, finished-spares}
+
+-- A pin that is driven at one of the levels.
+driven-at : (pulse polarity : Bool) → isLevel polarity (if Bool·beq pulse polarity then High else Low) ≡ pulse
+unfolding if_then_else_
+driven-at true true = refl
+driven-at true false = refl
+driven-at false true = refl
+driven-at false false = refl
+
+module _ (m : Module) where
+  -- An enabled frame host shows the pulse that it gives.
+  pub shows-pulse : m .settings .spien ≡ true → frameHost (m .settings) ≡ true → showsPulse m ≡ m .engine .pins .pulse
+  unfolding ssOf
+  shows-pulse on host =
+      ap (isLevel (m .settings .con2 .frmpol))
+      (if-false (not (m .settings .spien && frameHost (m .settings))) _ _
+      (ap (λ (b : Bool). not (b && frameHost (m .settings))) on ∙ ap not host))
+      ∙ driven-at (m .engine .pins .pulse) (m .settings .con2 .frmpol)
+
+  -- Any other module shows none.
+  pub shows-none : (m .settings .spien && frameHost (m .settings)) ≡ false → showsPulse m ≡ false
+  unfolding ssOf
+  shows-none off =
+      ap (isLevel (m .settings .con2 .frmpol))
+      (if-true (not (m .settings .spien && frameHost (m .settings))) _ _ (ap not off))
+
+-- Where a word may begin: by the pulse that stood before the edge, or by the one shown after it.
+starts-law : (f fsd dly pulse shown : Bool) → ((f && not fsd) ≡ true → dly ≡ true → shown ≡ true) →
+    (not f || (if (f && not fsd) && dly then shown else pulse)) ≡ not ((f && (fsd || not dly)) && not pulse)
+unfolding if_then_else_
+starts-law false fsd dly pulse shown h = refl
+starts-law true true dly true shown h = refl
+starts-law true true dly false shown h = refl
+starts-law true false true pulse shown h = h refl refl
+starts-law true false false true shown h = refl
+starts-law true false false false shown h = refl
+
+-- The pulse after an edge: given, or seen on select.
+noted-law : (f fsd idle shown act begun pulse due : Bool) →
+    ((f && not fsd) ≡ true →
+    shown ≡ (if f then (if idle then (if fsd then act && not begun else pulse) else not fsd && due) else pulse)) →
+    (f ≡ false → pulse ≡ false) →
+    (if f && not fsd then shown else idle && (((f && fsd) && act) && not begun))
+    ≡ (if f then (if idle then (if fsd then act && not begun else pulse) else not fsd && due) else pulse)
+unfolding if_then_else_
+noted-law true true true shown act begun pulse due h k = refl
+noted-law true true false shown act begun pulse due h k = refl
+noted-law true false idle shown act begun pulse due h k = h refl
+noted-law false fsd true shown act begun pulse due h k = sym (k refl)
+noted-law false fsd false shown act begun pulse due h k = sym (k refl)
+
+-- A pulse that is given with FRMDLY 1.
+given-law : (f idle fsd dly seen pulse early : Bool) → f ≡ true → idle ≡ false → fsd ≡ false → dly ≡ true →
+    (if f then (if idle then (if fsd then seen else pulse) else not fsd && (if dly then true else early)) else pulse) ≡ true
+unfolding if_then_else_
+given-law f idle fsd dly seen pulse early a b c d = rw (a, b, c, d)
+
+-- The wire is quiet if no word is begun.
+pub quiet-wire : (s : Settings) (sh : Shift) → isQuiet (wireOf s sh) ≡ not (isBegun sh)
+quiet-wire s Free = refl
+quiet-wire s (Loaded word) = refl
+quiet-wire s (Begun p) = refl
+
+-- A finish, an edge of what is under way and the clock leave the pulse.
+pub finished-pulse : (s : Settings) (filler : Bool) (word : ℕ) (n : Engine) →
+    finished s filler word n .pins .pulse ≡ n .pins .pulse
+finished-pulse s filler word n =
+    finished-spares s filler word n .pulse ∙ ap (λ (p : Pins). p .pulse) (delivered-elsewhere s n word .1)
+
+pub advanced-pulse : (s : Settings) (sdi : Bool) (sh : Shift) (n : Engine) →
+    advancedIfBegun s sdi sh n .pins .pulse ≡ n .pins .pulse
+unfolding advancedIfBegun advanced shifted
+advanced-pulse s sdi Free n = refl
+advanced-pulse s sdi (Loaded word) n = refl
+advanced-pulse s sdi (Begun p) n =
+    if-keeps (λ (x : Engine). x .pins .pulse ≡ n .pins .pulse) (ltb (p .edges + 1) (wordEdges s)) _ _ (λ e. refl)
+    (λ e. finished-pulse s (p .filler) _ n)
+
+-- The same of the clock.
+pub advanced-clock : (s : Settings) (sdi : Bool) (sh : Shift) (n : Engine) →
+    advancedIfBegun s sdi sh n .pins .sck ≡ n .pins .sck
+unfolding advancedIfBegun advanced shifted
+advanced-clock s sdi Free n = refl
+advanced-clock s sdi (Loaded word) n = refl
+advanced-clock s sdi (Begun p) n =
+    if-keeps (λ (x : Engine). x .pins .sck ≡ n .pins .sck) (ltb (p .edges + 1) (wordEdges s)) _ _ (λ e. refl)
+    (λ e. finished-spares s (p .filler) _ n .sck ∙ ap (λ (q : Pins). q .sck) (delivered-elsewhere s n _ .1))
+
+pub clocked-pulse : (s : Settings) (sck : Bool) (n : Engine) → clocked sck n .pins .pulse ≡ n .pins .pulse
+unfolding clocked
+clocked-pulse s sck n = refl
+
+module _ (s : Settings) (sck sdi : Bool) (n : Engine) where
+  -- A frame host with FRMDLY 1 gives a pulse from the edge at which a loaded word begins.
+  pub loaded-shown : frameHost s ≡ true → s .con2 .frmdly ≡ true → (word : ℕ) → n .shift ≡ Loaded word →
+      Bool·beq sck (s .con1 .ckp) ≡ false →
+      pulsed s sck (advancedIfBegun s sdi (underWay s sck n) (clocked sck n)) .pins .pulse ≡ true
+  unfolding pulsed pulseAfter underWay awaitsPulse begun advancedIfBegun advanced shifted clocked progressed pulseDue wordEdges
+  loaded-shown host dly word e away =
+      let f : framed s ≡ true = and-left (framed s) _ host in
+      let fsd : s .con2 .spifsd ≡ false = not-true (s .con2 .spifsd) (and-right (framed s) _ host) in
+      let way : Shift = underWay s sck n in
+      let begins : way ≡ Begun (fresh false word) =
+      if-false (Bool·beq sck (s .con1 .ckp)) _ _ away
+      ∙ if-false (awaitsPulse s n) _ _
+      (ap (λ (b : Bool). (framed s && (b || not (s .con2 .frmdly))) && not (n .pins .pulse)) fsd
+      ∙ ap (λ (b : Bool). (framed s && not b) && not (n .pins .pulse)) dly
+      ∙ ap (λ (b : Bool). (b && false) && not (n .pins .pulse)) f)
+      ∙ ap (begun s n) e in
+      let more : ltb (0 + 1) (2 * widthOf s) ≡ true = lt-ltb (0 + 1) (2 * widthOf s) (omega (arith, width-least s)) in
+      ap (λ (x : Shift). pulsed s sck (advancedIfBegun s sdi x (clocked sck n)) .pins .pulse) begins
+      ∙ ap (λ (x : Engine). pulsed s sck x .pins .pulse) (if-true (ltb (0 + 1) (2 * widthOf s)) _ _ more)
+      ∙ given-law (framed s) (Bool·beq sck (s .con1 .ckp)) (s .con2 .spifsd) (s .con2 .frmdly)
+      (active s (n .pins .ss) && false) (n .pins .pulse) (eqb 2 (2 * widthOf s) && not (empty (n .transmit .count)))
+      f away fsd dly
+
+  -- Where a word may begin, the ledger says so too.
+  pub starts-as : (l : Ledger) (shown : Bool) → l .pulse ≡ n .pins .pulse →
+      (frameHost s ≡ true → shown ≡ pulsed s sck (advancedIfBegun s sdi (underWay s sck n) (clocked sck n)) .pins .pulse) →
+      Bool·beq sck (s .con1 .ckp) ≡ false → (sh : Shift) → n .shift ≡ sh → isBegun sh ≡ false →
+      (isFree sh ≡ true → silent s ≡ false) →
+      terms s .starts (l .pulse) shown ≡ not (awaitsPulse s n)
+  unfolding awaitsPulse
+  starts-as l shown same seen away Free e unbegun fills =
+      ap (λ (b : Bool). terms s .starts b shown) same
+      ∙ starts-law (framed s) (s .con2 .spifsd) (s .con2 .frmdly) (n .pins .pulse) shown
+      (λ host dly. clash (silent s)
+      (if-true (framed s) _ _ (and-left (framed s) _ host) ∙ and-right (framed s) _ host) (fills refl))
+  starts-as l shown same seen away (Loaded word) e unbegun fills =
+      ap (λ (b : Bool). terms s .starts b shown) same
+      ∙ starts-law (framed s) (s .con2 .spifsd) (s .con2 .frmdly) (n .pins .pulse) shown
+      (λ host dly. seen host ∙ loaded-shown host dly word e away)
+  starts-as l shown same seen away (Begun p) e unbegun fills = clash true refl unbegun
+
+-- The end of an edge.
+pub pulsed-after : (s : Settings) (sck shown : Bool) (b : Stood) (n : Engine) (l : Ledger) → After s b n l →
+    (frameHost s ≡ true → shown ≡ pulsed s sck n .pins .pulse) → (framed s ≡ false → n .pins .pulse ≡ false) →
+    After s b (pulsed s sck n) (pulseNoted (terms s) shown sck l)
+unfolding pulsed pulseAfter pulseNoted leftToSend
+pulsed-after s sck shown b n l k seen plain =
+    let t : TiedNow s n l = k .tied in
+    record {
+      tied =
+          record {
+            sck = t .sck;
+            ss = t .ss;
+            carries = t .carries;
+            sending = t .sending;
+            receiving = t .receiving;
+            pulse =
+                ap (λ (x : Bool). if terms s .gives then shown else terms s .idle sck && (terms s .active x && isQuiet (l .wire))) (t .ss)
+                ∙ ap (λ (x : Bool). if terms s .gives then shown else terms s .idle sck && (terms s .active (n .pins .ss) && x))
+                (ap isQuiet (t .carries) ∙ quiet-wire s (n .shift))
+                ∙ noted-law (framed s) (s .con2 .spifsd) (Bool·beq sck (s .con1 .ckp)) shown (active s (n .pins .ss)) (isBegun (n .shift))
+                (n .pins .pulse) (pulseDue s (n .transmit .count) (n .shift)) seen plain;
+          };
+      arrival = k .arrival;
+      spirov = k .spirov;
+      flag = k .flag;
+    }
