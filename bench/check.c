@@ -44,8 +44,8 @@ static uint64_t told(uint32_t number, uint32_t kind, double rate,
 }
 
 static struct ref_spi ref[MODULES];
-static unsigned long refused[16], edges, overflows, fillers, aborts;
-static unsigned long given, sampled, framed_words;
+static unsigned long refused[17], edges, overflows, fillers, aborts;
+static unsigned long given, sampled, framed_words, marks, unmarked;
 
 static uint64_t ask_ref(const struct call *c)
 {
@@ -177,6 +177,7 @@ static void same(const char *who, const struct call *c, uint64_t got,
 static uint64_t ask(enum kind kind, int i, int j, uint32_t a, uint32_t b,
                     uint32_t c)
 {
+    int marked = ref[i].mark, other = ref[j].mark;
     struct call call;
     uint64_t want;
 
@@ -187,6 +188,8 @@ static uint64_t ask(enum kind kind, int i, int j, uint32_t a, uint32_t b,
     call.b = b;
     call.c = c;
     want = ask_ref(&call);
+    marks += (!marked && ref[i].mark) + (!other && ref[j].mark && j != i);
+    unmarked += marked && !ref[i].mark;
     same("plain C", &call, ask_plain(&call), want);
 #ifdef LIBRARY
     same("the library", &call, ask_library(&call), want);
@@ -226,6 +229,11 @@ static uint32_t level(int high)
     return one_in(8) ? 1 + rnd(0xFFFFFFFFu) : 1;
 }
 
+/* Modules that are hardly read until a word is lost. */
+static int lazy[MODULES];
+
+static int reads(int i) { return !lazy[i] || ref[i].mark || one_in(40); }
+
 /* Disables module i and enables it with other settings; CKP, CKE and MODE16
  * are those of the others more often than not, for the linked runs. */
 static void configure(int i)
@@ -244,6 +252,7 @@ static void configure(int i)
         con1 &= ~0x1800u;
     if (one_in(3))
         con2 |= 0x8000;
+    lazy[i] = one_in(3);
     ask(WRITE, i, 0, 0, rnd(0x8000), 0);
     ask(WRITE, i, 0, 1, con1, 0);
     ask(WRITE, i, 0, 2, con2, 0);
@@ -285,14 +294,18 @@ static void any(int i)
         ask(WRITE, i, 0, reg, value, 0);
         break;
     case 1:
-        ask(READ, i, 0, reg, 0, 0);
+        if (reads(i))
+            ask(READ, i, 0, reg, 0, 0);
         break;
     case 2:
         if (one_in(3))
             ask(CLEAR, i, 0, 0, 0, 0);
         break;
     case 3:
-        if (!ref[i].spien || one_in(30))
+        if (ref[i].mark && one_in(10)) { /* off and on: the mark goes */
+            ask(WRITE, i, 0, 0, value & 0x7FFF, 0);
+            ask(WRITE, i, 0, 0, value | 0x8000, 0);
+        } else if (!ref[i].spien || one_in(30))
             configure(i);
         else if (one_in(10))
             ask(WRITE, i, 0, 0, value | 0x8000, 0);
@@ -309,7 +322,8 @@ static void any(int i)
     case 6:
         if (one_in(4)) /* fill, or read all */
             for (j = 0; j < 10; j++)
-                ask(value & 1 ? READ : WRITE, i, 0, 3, value + (uint32_t)j, 0);
+                ask(value & 1 && reads(i) ? READ : WRITE, i, 0, 3,
+                    value + (uint32_t)j, 0);
         break;
     default:
         edge(i);
@@ -340,12 +354,12 @@ int main(int argc, char **argv)
         any((int)rnd(MODULES));
 
     printf("check: ok: %lu random calls: %lu edges, %lu fillers, %lu aborts, "
-           "%lu overflows; framed: %lu words, %lu pulses given, %lu sampled; "
-           "refused",
-           calls, edges, fillers, aborts, overflows, framed_words, given,
-           sampled);
-    for (i = 1; i < 16; i++)
+           "%lu overflows, %lu marks set and %lu cleared; framed: "
+           "%lu words, %lu pulses given, %lu sampled; refused",
+           calls, edges, fillers, aborts, overflows, marks, unmarked,
+           framed_words, given, sampled);
+    for (i = 1; i < 17; i++)
         if (i != 4 && i != 9 && i != 12) /* no call gives these */
-            printf(" %d: %lu%s", i, refused[i], i < 15 ? "," : "\n");
+            printf(" %d: %lu%s", i, refused[i], i < 16 ? "," : "\n");
     return 0;
 }

@@ -104,11 +104,14 @@ static void begin(struct plain_spi *m)
     }
 }
 
+/* A marked module's buffer cannot be read and so stays full: the mark need not
+ * be asked for here. */
 static void finish(struct plain_spi *m)
 {
     m->edges = 0;
     if (m->rx.count == m->depth) {
         m->stat |= SPIROV;
+        m->marked = m->depth > 1;
     } else {
         append(&m->rx, &m->rx.spi, m->in & (0xFFFF >> m->spare));
         if (m->raises == 1 || (m->raises == 2 && m->rx.count >= 6) ||
@@ -293,6 +296,8 @@ static uint32_t read_buf(struct plain_spi *m)
 
     if (m->clock == OFF)
         return refuse(2);
+    if (m->marked)
+        return refuse(16);
     if (m->rx.count == 0)
         return refuse(6);
     word = take(&m->rx, &m->rx.cpu);
@@ -379,6 +384,7 @@ static void disable(struct plain_spi *m)
     m->tx.cpu = m->tx.spi = m->tx.count = 0;
     m->rx.cpu = m->rx.spi = m->rx.count = 0;
     m->loaded = m->filler = m->edges = 0;
+    m->marked = 0;
 }
 
 static uint32_t write_stat(struct plain_spi *m, unsigned value)

@@ -40,6 +40,7 @@ struct plain_spi {
     uint8_t sck, ss, sdo;
     uint8_t flag;
     uint8_t pulse; /* a frame host gives one; a frame client has sampled one */
+    uint8_t marked; /* a word was lost in enhanced operation since enabled */
 };
 
 /* A clock report in numbers: the refusal number; 1 for internal, 2 for

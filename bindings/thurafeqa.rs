@@ -58,11 +58,11 @@ pub mod register {
 
 /// The version of this file: major, minor and patch numbers. [`version`] tells the library's.
 #[allow(dead_code)]
-pub const VERSION: (u8, u8, u8) = (3, 0, 0);
+pub const VERSION: (u8, u8, u8) = (4, 0, 0);
 
 /// The format of a module's words. It rises wherever their meaning changes, so save it beside them.
 #[allow(dead_code)]
-pub const FORMAT: u32 = 2;
+pub const FORMAT: u32 = 3;
 
 /// One module. Equal modules have equal words; two that differ may still behave alike.
 #[repr(C)]
@@ -123,6 +123,9 @@ pub enum Refusal {
     LateSampling = 14,
     /// A client that is not framed has CKE and no SSEN there.
     UnselectedCke = 15,
+    /// BUF is read in enhanced operation, and a received word was lost since the module was enabled. Disable it and enable it
+    /// again.
+    Overflowed = 16,
 }
 
 impl Refusal {
@@ -131,7 +134,7 @@ impl Refusal {
         use Refusal::*;
         #[rustfmt::skip]
         let all = [NoSuchRegister, Disabled, Enabled, TransmitFull, ReceiveEmpty, WrongClock, NoRate, UnreadableLine,
-            DifferentModes, TooManyEdges, Undivided, LateSampling, UnselectedCke];
+            DifferentModes, TooManyEdges, Undivided, LateSampling, UnselectedCke, Overflowed];
         all.iter().copied().find(|r| *r as u32 == number)
     }
 
@@ -150,6 +153,7 @@ impl Refusal {
             Refusal::Undivided => "both prescalers are 1:1",
             Refusal::LateSampling => "late sampling is not modelled",
             Refusal::UnselectedCke => "a client with CKE needs SSEN",
+            Refusal::Overflowed => "received words were lost in enhanced operation",
         }
     }
 }
@@ -258,9 +262,11 @@ impl Module {
         Module(words)
     }
 
-    /// Reads a register. Reading BUF takes the oldest unread word.
+    /// Reads a register. Reading BUF takes the oldest unread word. A received word that finds the receive buffer full is lost.
+    /// In enhanced operation that ends reception until the module is disabled: BUF cannot be read, and every word received is
+    /// lost.
     ///
-    /// Refused: `NoSuchRegister`; for BUF `Disabled`, `ReceiveEmpty`.
+    /// Refused: `NoSuchRegister`; for BUF `Disabled`, `Overflowed`, `ReceiveEmpty`.
     pub fn read(&mut self, register: u32) -> Result<u16, Refusal> {
         value(thurafeqa_read(self, register))
     }
@@ -349,9 +355,10 @@ mod thurafeqa_tests {
 
     #[test]
     fn numbers_mean_what_the_header_says() {
-        assert_eq!((1..16).filter_map(Refusal::from_number).map(|r| r as u32).sum::<u32>(), 120 - 4 - 12);
-        assert_eq!([0, 4, 12, 16].map(Refusal::from_number), [None; 4]);
+        assert_eq!((1..17).filter_map(Refusal::from_number).map(|r| r as u32).sum::<u32>(), 136 - 4 - 12);
+        assert_eq!([0, 4, 12, 17].map(Refusal::from_number), [None; 4]);
         assert_eq!((value(0), value(0xFFFF), value(0x6_0000)), (Ok(0), Ok(0xFFFF), Err(Refusal::ReceiveEmpty)));
+        assert_eq!(value(0x10_0000), Err(Refusal::Overflowed));
         assert_eq!([3, 7, 8, 11, 12].map(sdo), [Sdo::Undriven, Sdo::Undriven, Sdo::Low, Sdo::Low, Sdo::High]);
         assert_eq!([15, 31, 32, 47, 48].map(ss), [Ss::Undriven, Ss::Undriven, Ss::Low, Ss::Low, Ss::High]);
         let said = |answer| clock(answer, ClockReport { rate: 5e6, bittime: 2e-7, below: 4e7 });

@@ -58,7 +58,7 @@ extern "C" {
 /* The version of this header. thurafeqa_version() tells the library's: the two
  * must have the same major number, and the library's minor number must not be
  * lower. */
-#define THURAFEQA_VERSION_MAJOR 3u
+#define THURAFEQA_VERSION_MAJOR 4u
 #define THURAFEQA_VERSION_MINOR 0u
 #define THURAFEQA_VERSION_PATCH 0u
 #define THURAFEQA_VERSION                                                      \
@@ -67,7 +67,7 @@ extern "C" {
 
 /* The format of a module's memory. It rises wherever the meaning of the numbers
  * changes, so save it beside them. */
-#define THURAFEQA_FORMAT 2u
+#define THURAFEQA_FORMAT 3u
 
 /* One module. */
 typedef struct {
@@ -94,6 +94,7 @@ typedef char thurafeqa_has_192_bytes[sizeof(thurafeqa) == 192 ? 1 : -1];
 #define THURAFEQA_UNDIVIDED 13u       /* enabling: both prescalers are 1:1 */
 #define THURAFEQA_LATE_SAMPLING 14u   /* enabling: SMP is set */
 #define THURAFEQA_UNSELECTED_CKE 15u  /* enabling: client, CKE, no SSEN */
+#define THURAFEQA_OVERFLOWED 16u      /* BUF read: words lost with SPIBEN */
 
 /* The refusal number of an answer, 0 if the call was done. */
 static inline uint16_t thurafeqa_refusal(uint32_t answer)
@@ -160,7 +161,11 @@ void thurafeqa_power_up(thurafeqa *m);
  * oldest unread word, and with SISEL 0 in enhanced operation the read that
  * empties the receive buffer sets the interrupt flag. The other registers are
  * read without effect.
- * Refusals: 1; for BUF 2, then 6. */
+ * A received word that finds the receive buffer full is lost, and SPIROV is
+ * set. In enhanced operation that ends reception: from then on BUF cannot be
+ * read and every word received is lost, until the module is disabled. Clearing
+ * SPIROV does not help.
+ * Refusals: 1; for BUF 2, then 16, then 6. */
 uint32_t thurafeqa_read(thurafeqa *m, uint32_t register_number);
 
 /* Writes the low 16 bits of a value to a register; the answer's value is 0.

@@ -3,7 +3,7 @@
  * Examples f, k and l are tried in more modes than the paper names. Examples b
  * and d give the numbers of document 02's request One, and further cases tell
  * which number stands where there are several mistakes. Then come the frames of
- * request Three, in every pairing. */
+ * request Three, in every pairing, and request Four's mark, in every role. */
 #include "ref_spi.h"
 #include "script.h"
 
@@ -317,6 +317,239 @@ static void framed_linked(void)
     end("a linked run takes no framed module");
 }
 
+/* ---- request Four ----------------------------------------------------- */
+
+/* The modules that can be enabled, in both widths, standard and enhanced: the
+ * number holds CKP, MODE16, SPIBEN and one of eleven kinds. */
+#define MARK_KINDS 11
+#define MARK_MODES (MARK_KINDS * 8)
+
+struct overflow {
+    struct ref_spi m;
+    int own, fclient, active, w, ben, depth;
+};
+
+static struct overflow overflow_mode(unsigned mode)
+{
+    static const struct {
+        unsigned con1, con2;
+    } kind[MARK_KINDS] = {
+        {0x0020, 0}, {0x0120, 0}, {0x1020, 0}, {0x0000, 0}, /* no select */
+        {0x0080, 0}, {0x0180, 0},                           /* SSEN client */
+        {0x0020, 0x8000}, {0x0020, 0xC002}, {0x1020, 0xA002}, /* framed */
+        {0x0000, 0xE000}, {0x0180, 0x8000},
+    };
+    unsigned con1 = kind[mode / 8].con1 | (mode & 1 ? 0x0040 : 0) |
+                    (mode & 2 ? 0x0400 : 0);
+    unsigned con2 = kind[mode / 8].con2 | (mode & 4 ? 1 : 0);
+    struct overflow o;
+    int r;
+
+    o.own = (con1 & 0x1020) == 0x0020;
+    o.fclient = con2 >> 14 == 3;
+    o.active = con2 >> 13 & 1;
+    o.w = mode & 2 ? 16 : 8;
+    o.ben = con2 & 1;
+    o.depth = o.ben ? 8 : 1;
+    o.m = fresh(con1, con2, 0x8000, &r);
+    EXPECT(r == 0);
+    return o;
+}
+
+/* A word goes out, and one of ones or zeros alone comes in. */
+static void exchange(struct overflow *o, unsigned word, int sdi)
+{
+    int n;
+
+    EXPECT(ref_write(&o->m, 3, word) == 0);
+    for (n = 0; n < 2 * o->w + 4; n++) {
+        int ss = o->fclient ? (n < 2 ? o->active : !o->active) : 0;
+
+        if (o->own)
+            (void)ref_tick(&o->m, sdi, ss);
+        else
+            EXPECT(ref_pins(&o->m, !ref_sck(&o->m), sdi, ss) == 0);
+        if (!o->m.begun && !o->m.loaded && o->m.tx.n == 0 &&
+            ref_sck(&o->m) == o->m.ckp)
+            break;
+    }
+    EXPECT(!o->m.begun && !o->m.loaded && o->m.tx.n == 0);
+}
+
+/* What STAT shows of the receive side: SPIROV, SRXMPT, SPIRBF. */
+static unsigned receive_side(struct overflow *o)
+{
+    return get(&o->m, 0) & 0x0061;
+}
+
+/* In every role: a buffer filled, a word lost, SPIROV cleared, another lost,
+ * reads in between, the module turned off and on. In standard operation the
+ * word that is held can be read at any time, and the next one is kept. */
+static void marked_roles(void)
+{
+    unsigned mode, off;
+    int k;
+
+    begin();
+    for (mode = 0; mode < 2 * MARK_MODES; mode++) {
+        struct overflow o = overflow_mode(mode / 2);
+        unsigned ones = 0xFFFFu >> (16 - o.w);
+
+        for (k = 0; k < o.depth; k++)
+            exchange(&o, 0x1111u * (unsigned)k, k & 1);
+        EXPECT(receive_side(&o) == 0x0001); /* full, and nothing is lost */
+        exchange(&o, 0xA5A5, 1);
+        EXPECT(receive_side(&o) == 0x0041);
+        if (!o.ben) {
+            EXPECT(!o.m.mark);
+            EXPECT(get(&o.m, 3) == 0);
+            EXPECT(get(&o.m, 3) == 0xE0006);
+            EXPECT(receive_side(&o) == 0x0040);
+            exchange(&o, 0x5A5A, 1);
+            EXPECT(get(&o.m, 3) == ones);
+            continue;
+        }
+        EXPECT(get(&o.m, 3) == 0xE0010);
+        EXPECT(get(&o.m, 4) == 0xE0001); /* 1 before 16 */
+        EXPECT(ref_write(&o.m, 0, 0x8000) == 0); /* SPIROV goes, not the mark */
+        EXPECT(receive_side(&o) == 0x0001);
+        EXPECT(get(&o.m, 3) == 0xE0010);
+        exchange(&o, 0xC3C3, 0);
+        EXPECT(receive_side(&o) == 0x0041);
+        EXPECT(get(&o.m, 3) == 0xE0010);
+        for (k = 0; k < 8; k++) /* all are as they came */
+            EXPECT(o.m.rx.word[k] == (k & 1 ? ones : 0));
+        EXPECT(o.m.rx.n == 8 && o.m.mark);
+        /* turned off by a write that clears SPIROV, or by one that does not */
+        off = mode & 1 ? 0x0040 : 0x0000;
+        EXPECT(ref_write(&o.m, 0, off) == 0);
+        EXPECT(get(&o.m, 0) == off);
+        EXPECT(get(&o.m, 3) == 0xE0002); /* 2 before 16 */
+        EXPECT(ref_write(&o.m, 0, 0x8000 | off) == 0);
+        EXPECT(receive_side(&o) == (0x0020 | off));
+        EXPECT(get(&o.m, 3) == 0xE0006);
+        exchange(&o, 0x3C3C, 1); /* SPIROV that was left up is no mark */
+        EXPECT(receive_side(&o) == off);
+        EXPECT(get(&o.m, 3) == ones);
+    }
+    end("a word lost: marked with SPIBEN, readable without");
+}
+
+/* The interrupt flag under the mark: no word is appended or read, so SISEL 0
+ * to 3 raise nothing; sending goes on, and 4 to 7 are as ever. */
+static void marked_sisel(void)
+{
+    unsigned sisel;
+    int k;
+
+    begin();
+    for (sisel = 0; sisel < 8; sisel++) {
+        struct overflow o = overflow_mode(4); /* a host, 8 bits, enhanced */
+        int raised[4]; /* a write, eight more, a finish, the last finish */
+
+        for (k = 0; k < 9; k++)
+            exchange(&o, 0, 0);
+        EXPECT(o.m.mark);
+        EXPECT(ref_write(&o.m, 0, 0x8000 | sisel << 2) == 0);
+        ref_clear(&o.m);
+        EXPECT(ref_write(&o.m, 3, 0xA5) == 0);
+        raised[0] = ref_flag(&o.m);
+        ref_clear(&o.m);
+        for (k = 0; k < 8; k++)
+            EXPECT(ref_write(&o.m, 3, 0x5A) == 0);
+        raised[1] = ref_flag(&o.m);
+        ref_clear(&o.m);
+        for (k = 0; k < 16; k++)
+            EXPECT(ref_tick(&o.m, 1, 0) == 0);
+        raised[2] = ref_flag(&o.m);
+        for (k = 0; k < 7 * 16; k++)
+            EXPECT(ref_tick(&o.m, 1, 0) == 0);
+        ref_clear(&o.m);
+        for (k = 0; k < 16; k++)
+            EXPECT(ref_tick(&o.m, 1, 0) == 0);
+        raised[3] = ref_flag(&o.m);
+        EXPECT(raised[0] == (sisel == 6));
+        EXPECT(raised[1] == (sisel == 7));
+        EXPECT(raised[2] == (sisel == 4));
+        EXPECT(raised[3] == (sisel == 5));
+        ref_clear(&o.m);
+        EXPECT(get(&o.m, 3) == 0xE0010 && ref_flag(&o.m) == 0);
+        EXPECT(get(&o.m, 0) == (0x80C1u | sisel << 2));
+    }
+    end("a marked host still sends, and its flag is raised");
+}
+
+/* Linked runs: each end is marked by its own losses alone, and a marked end
+ * goes on sending. A run in two pieces ends as the run in one. */
+static void marked_linked(void)
+{
+    unsigned mode;
+
+    begin();
+    for (mode = 0; mode < 16; mode++) {
+        int host_deep = mode & 1, client_deep = mode >> 1 & 1;
+        unsigned ssen = mode & 4 ? 0x0080 : 0, used = 0, i;
+        int pieces = mode & 8 ? 2 : 1;
+        struct ref_spi h, c;
+        int r, k;
+
+        h = fresh(0x0020, (unsigned)host_deep, 0x8000, &r);
+        c = fresh(ssen, (unsigned)client_deep, 0x8000, &r);
+        EXPECT(r == 0);
+        /* ten words, one at a time; the client answers each */
+        for (i = 0; i < 10; i++) {
+            EXPECT(ref_write(&h, 3, 0xA0 + i) == 0);
+            EXPECT(ref_write(&c, 3, 0x50 + i) == 0);
+            for (k = 0; k < pieces; k++) {
+                unsigned limit = pieces == 1 ? 288 : k == 0 ? 5 : 11;
+
+                EXPECT(ref_linked(&h, &c, limit, &used) == 0);
+                EXPECT(used == (pieces == 1 ? 16 : limit));
+            }
+            EXPECT(h.mark == (host_deep && i > 7));
+            EXPECT(c.mark == (client_deep && i > 7));
+        }
+        EXPECT(get(&h, 3) == (host_deep ? 0xE0010 : 0x50));
+        EXPECT(get(&c, 3) == (client_deep ? 0xE0010 : 0xA0));
+        /* one end is turned off and on; the other keeps its mark */
+        EXPECT(ref_write(&h, 0, 0) == 0 && ref_write(&h, 0, 0x8000) == 0);
+        EXPECT(ref_write(&h, 3, 0x77) == 0 && ref_write(&c, 3, 0x88) == 0);
+        EXPECT(ref_linked(&h, &c, 288, &used) == 0 && used == 16);
+        EXPECT(get(&h, 3) == 0x88);
+        EXPECT(get(&c, 3) == (client_deep ? 0xE0010 : 0x77));
+    }
+    end("linked: each end is marked by its own losses");
+}
+
+/* Modules as no calls make them. Marked with room: 16 stands before 6, a word
+ * is dropped all the same, and turning it off helps. Marked and off: 2 stands
+ * before 16. From power-up a marked module is enabled and has eight words
+ * unread, so there none of this can be seen. */
+static void marked_made(void)
+{
+    struct overflow o;
+    int unread;
+
+    begin();
+    for (unread = 0; unread < 8; unread++) {
+        o = overflow_mode(4);
+        o.m.rx.n = unread;
+        o.m.mark = 1;
+        EXPECT(get(&o.m, 3) == 0xE0010);
+        EXPECT(receive_side(&o) == (unread == 0 ? 0x0020u : 0u));
+        exchange(&o, 0xA5, 1);
+        EXPECT(o.m.rx.n == unread && o.m.mark);
+        EXPECT(receive_side(&o) == (unread == 0 ? 0x0060u : 0x0040u));
+        EXPECT(get(&o.m, 3) == 0xE0010);
+        EXPECT(ref_write(&o.m, 0, 0) == 0 && ref_write(&o.m, 0, 0x8000) == 0);
+        EXPECT(get(&o.m, 3) == 0xE0006);
+    }
+    ref_power_up(&o.m);
+    o.m.mark = 1;
+    EXPECT(get(&o.m, 3) == 0xE0002);
+    end("made otherwise, marked with room: 16, and words drop");
+}
+
 int main(void)
 {
     int r;
@@ -602,12 +835,29 @@ int main(void)
             edges++;
         EXPECT(edges == 9 * 16);
         EXPECT(get(&m, 0) == 0x80C1);
+        EXPECT(m.rx.n == 8);
+        for (i = 0; i < 8; i++)
+            EXPECT(m.rx.word[i] == 0x10 + i);
+        /* held, but by request Four no longer to be read */
+        EXPECT(get(&m, 3) == 0xE0010);
+        EXPECT(get(&m, 0) == 0x80C1);
+    }
+    end("i  the nine sent, none read: eight kept, 80C1");
+
+    begin();
+    {
+        struct ref_spi m = fresh(0x0020, 1, 0x8000, &r);
+        for (i = 0; i < 8; i++)
+            EXPECT(ref_write(&m, 3, 0x10 + i) == 0);
+        while (ref_tick(&m, ref_sdo(&m), 0) == 0)
+            ;
+        EXPECT(get(&m, 0) == 0x8081);
         for (i = 0; i < 8; i++)
             EXPECT(get(&m, 3) == 0x10 + i);
         EXPECT(get(&m, 3) == 0xE0006);
         EXPECT(ref_flag(&m) == 1); /* SISEL 0: the last one has been read */
     }
-    end("i  the nine sent, none read: eight kept, 80C1");
+    end("   eight sent, none read: none lost, all are read");
 
     begin();
     {
@@ -727,9 +977,12 @@ int main(void)
         EXPECT(get(&h, 0) == 0x80C1);
         EXPECT(get(&c, 0) == 0x87C1);
         for (i = 0; i < 8; i++) {
-            EXPECT(get(&h, 3) == 0x4000 + i);
-            EXPECT(get(&c, 3) == 0x8000 + i);
+            EXPECT(h.rx.word[i] == 0x4000 + i);
+            EXPECT(c.rx.word[i] == 0x8000 + i);
         }
+        /* the ninth has marked both ends */
+        EXPECT(get(&h, 3) == 0xE0010);
+        EXPECT(get(&c, 3) == 0xE0010);
     }
     end("also: limits 288 and 289");
 
@@ -737,6 +990,11 @@ int main(void)
     framed_client();
     framed_pair();
     framed_linked();
+
+    marked_roles();
+    marked_sisel();
+    marked_linked();
+    marked_made();
 
     printf("%s\n", failures == 0 ? "all examples passed" : "EXAMPLES FAILED");
     return failures != 0;

@@ -4,7 +4,9 @@
  * call the model's registers, levels and flag must be those of its ledger, and
  * the customer's third demand, the one about word order, must hold. Of a framed
  * module the ledger sees the SS level, given or shown, and nothing else of its
- * pulses: what the paper says of them is held to that level.
+ * pulses: what the paper says of them is held to that level. Of request Four it
+ * counts the words lost: in enhanced operation the mark must stand exactly if
+ * there is one since SPIEN went on.
  *
  * usage: fuzz [seed] [calls]
  */
@@ -69,7 +71,7 @@ struct pair {
 };
 
 static unsigned long st_sent, st_kept, st_lost, st_filler, st_abort, st_linked,
-    st_enable, st_drain, st_refused[16], st_noedge, st_flagset[9];
+    st_enable, st_drain, st_refused[17], st_noedge, st_flagset[9];
 
 static unsigned long st_together; /* enabling with more than one mistake */
 
@@ -80,6 +82,12 @@ static unsigned long st_together; /* enabling with more than one mistake */
 static unsigned long st_given[2], st_last_bit, st_late, st_sampled,
     st_at_finish, st_idle_clock, st_framed[2][2][2][2][2], st_framed_filler,
     st_unlinked, st_framed_drain;
+
+/* The mark: set by a word's loss, by clock and framed; words lost in standard
+ * operation; words lost under the mark, those of them that set SPIROV anew;
+ * SPIROV cleared under the mark; turned off, with SPIROV left up and not. */
+static unsigned long st_marked[2][2], st_lost_standard, st_lost_marked,
+    st_rov_again, st_rov_cleared, st_unmarked[2];
 
 static int l_en(const struct ledger *l) { return l->stat_rw >> 15 & 1; }
 static int l_w(const struct ledger *l) { return l->con1 & 0x400 ? 16 : 8; }
@@ -124,6 +132,19 @@ static int l_waiting(const struct ledger *l)
 }
 
 static int l_unread(const struct ledger *l) { return l->n_kept - l->n_read; }
+
+/* Request Four, of an enabled module: has an overflow marked it? CON2 has not
+ * changed since it was enabled. */
+static int l_marked(const struct ledger *l)
+{
+    return l_ben(l) && l->n_lost > 0;
+}
+
+/* Demand 3 with request Four: which finished words are dropped. */
+static int l_drops(const struct ledger *l)
+{
+    return l_unread(l) == l_depth(l) || l_marked(l);
+}
 
 static void l_enable(struct ledger *l)
 {
@@ -201,6 +222,7 @@ static void demand3(struct pair *p)
     if (!l_en(l)) {
         CHECK(ref_sdo(m) == 2 && ref_ss(m) == 2);
         CHECK(m->tx.n == 0 && m->rx.n == 0 && !m->loaded && !m->begun);
+        CHECK(!m->mark);
         return;
     }
     CHECK(ref_sck(m) == l->sck);
@@ -229,6 +251,11 @@ static void demand3(struct pair *p)
     for (i = 0; i < m->rx.n; i++)
         CHECK(m->rx.word[i] == l->kept[l->n_read + i]);
     CHECK(l->n_received == l->n_kept + l->n_lost);
+
+    /* The mark, and what cannot change under it: the eight words unread. */
+    CHECK(m->mark == l_marked(l));
+    if (m->mark)
+        CHECK(l_unread(l) == 8);
 
     CHECK(m->begun == l->begun && m->filler == l->filler && m->edges == l->k);
 
@@ -370,6 +397,12 @@ static void do_write(struct pair *p, unsigned reg, unsigned value)
     switch (reg) {
     case 0: {
         int was = l_en(l);
+        if (was && l_marked(l)) {
+            if (!(value & 0x8000))
+                st_unmarked[value >> 6 & 1 && l->rov]++;
+            else if (!(value & 0x40))
+                st_rov_cleared += (unsigned long)l->rov;
+        }
         l->stat_rw = value & 0xA01C;
         if (!(value & 0x40))
             l->rov = 0;
@@ -410,6 +443,8 @@ static void do_read(struct pair *p, unsigned reg)
         want = 1;
     else if (reg == 3 && !l_en(l))
         want = 2;
+    else if (reg == 3 && l_marked(l))
+        want = 16;
     else if (reg == 3 && l_unread(l) == 0)
         want = 6;
     CHECK(r == want);
@@ -458,7 +493,15 @@ static void l_edge(struct pair *p, int sdi, int sdo_before, int sdo_after)
         unsigned v;
 
         l->n_received++;
-        if (l_unread(l) == l_depth(l)) {
+        if (l_drops(l)) {
+            if (!l_ben(l)) {
+                st_lost_standard++;
+            } else if (!l_marked(l)) {
+                st_marked[l_own(l)][l_framed(l)]++;
+            } else {
+                st_lost_marked++;
+                st_rov_again += (unsigned long)!l->rov;
+            }
             l->n_lost++;
             l->rov = 1;
             st_lost++;
@@ -803,6 +846,12 @@ static void random_call(struct pair *p, unsigned mood)
         do_write(p, 0, (unsigned)rnd(0x8000));
         return;
     }
+    if (l_en(l) && l_marked(l) && one_in(40)) {
+        /* out of the mark, with the same settings */
+        do_write(p, 0, (unsigned)rnd(0x8000));
+        do_write(p, 0, 0x8000u | rnd(0x8000));
+        return;
+    }
     if (x < q[0]) {
         do_write(p, 3, rnd(0x10000));
     } else if (x < q[0] + q[1]) {
@@ -847,6 +896,17 @@ static void random_call(struct pair *p, unsigned mood)
             break;
         }
     }
+}
+
+static void print_marks(void)
+{
+    printf("marked: own clock %lu, framed %lu, pin clock %lu, framed %lu; "
+           "words lost under the mark %lu, in standard operation %lu\n",
+           st_marked[1][0], st_marked[1][1], st_marked[0][0], st_marked[0][1],
+           st_lost_marked, st_lost_standard);
+    printf("under the mark SPIROV cleared %lu and set again %lu; turned off "
+           "with SPIROV 0 %lu, with SPIROV 1 %lu\n",
+           st_rov_cleared, st_rov_again, st_unmarked[0], st_unmarked[1]);
 }
 
 static void print_framed(void)
@@ -944,7 +1004,7 @@ int main(int argc, char **argv)
            st_linked, st_drain, st_noedge);
     printf("refusals");
     CHECK(st_refused[4] == 0 && st_refused[12] == 0);
-    for (i = 1; i <= 15; i++)
+    for (i = 1; i <= 16; i++)
         if (i != 4 && i != 9 && i != 12) /* no call gives these */
             printf(" %d:%lu", i, st_refused[i]);
     printf(", with several mistakes at once %lu\nflag set by SISEL",
@@ -952,6 +1012,7 @@ int main(int argc, char **argv)
     for (i = 0; i < 8; i++)
         printf(" %d:%lu", i, st_flagset[i]);
     printf(" standard:%lu\n", st_flagset[8]);
+    print_marks();
     print_framed();
     return 0;
 }

@@ -319,9 +319,12 @@ int ref_read(struct ref_spi *m, unsigned reg, unsigned *value)
         *value = con2_value(m);
         return 0;
     }
-    /* BUF; refusals: 2 comes before 6 */
+    /* BUF; refusals: 2 comes before 6, and by request Four 16 between them:
+     * what is unread under the mark stays so */
     if (!m->spien)
         return 2;
+    if (m->mark)
+        return 16;
     if (m->rx.n == 0)
         return 6;
     *value = list_take_first(&m->rx);
@@ -372,12 +375,15 @@ static int write_stat(struct ref_spi *m, unsigned value)
 
     if (was && !now) {
         /* Registers: turning off throws away every word, queued, loaded,
-         * begun or unread; the interrupt flag is not touched */
+         * begun or unread; the interrupt flag is not touched. Request Four:
+         * it is also the one way to be rid of the mark, whatever is written
+         * to SPIROV */
         list_empty(&m->tx);
         list_empty(&m->rx);
         m->loaded = 0;
         m->loaded_word = 0;
         forget_begun(m);
+        m->mark = 0;
     }
     if (!was && now) {
         /* Registers: turning on starts with the clock at rest, where CKP
@@ -440,6 +446,13 @@ int ref_write(struct ref_spi *m, unsigned reg, unsigned value)
 
 /* ---- One edge at a time: the edges ----------------------------------- */
 
+/* Request Four: under the mark a received word is lost even if there is room
+ * for it. */
+static int finds_no_place(const struct ref_spi *m)
+{
+    return m->mark || m->rx.n == depth(m);
+}
+
 /* Finish: what happens at a word's last edge; the order counts. */
 static void finish(struct ref_spi *m)
 {
@@ -451,10 +464,12 @@ static void finish(struct ref_spi *m)
         received = received * 2 + (unsigned)m->in_bit[i];
     forget_begun(m);
 
-    /* first the word received: kept if there is room, else lost, and
-     * SPIROV records the loss */
-    if (m->rx.n == depth(m)) {
+    /* first the word received: kept if it finds a place, else lost, and
+     * SPIROV records the loss; with SPIBEN so does the mark of request Four */
+    if (finds_no_place(m)) {
         m->spirov = 1;
+        if (m->spiben)
+            m->mark = 1;
     } else {
         list_append(&m->rx, received);
         event_append(m);

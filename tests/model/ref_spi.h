@@ -1,7 +1,7 @@
 /* A second model of the SPI module, written from document 01 of the purchase,
- * with requests One and Three of document 02, and from nothing else. It keeps
- * plain lists and takes one small step for each rule, so that it can be read
- * beside the paper. */
+ * with requests One, Three and Four of document 02, and from nothing else. It
+ * keeps plain lists and takes one small step for each rule, so that it can be
+ * read beside the paper. */
 #ifndef REF_SPI_H
 #define REF_SPI_H
 
@@ -45,10 +45,13 @@ struct ref_spi {
     int pulse; /* framed: a frame host is giving one now; a frame client has
                 * sampled one, and a word begins at the next transmit edge */
 
+    int mark; /* a word was lost in enhanced operation, and the module has not
+               * been turned off since */
+
     int flag; /* the interrupt flag */
 };
 
-/* The calls. Each answers 0 or the papers' refusal number, 1 to 15 but never 4
+/* The calls. Each answers 0 or the papers' refusal number, 1 to 16 but never 4
  * or 12; a tick of an unframed module may also answer REF_NO_EDGE. */
 void ref_power_up(struct ref_spi *m);
 int ref_read(struct ref_spi *m, unsigned reg, unsigned *value);

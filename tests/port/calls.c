@@ -7,7 +7,7 @@
 
 const char *const kind_name[KINDS] = {"power-up", "read",  "write",  "tick",
                                       "pins",     "clear", "linked", "clock"};
-const char *const view_name[VIEWS] = {"STAT", "CON1", "CON2", "levels"};
+const char *const view_name[VIEWS] = {"STAT", "CON1", "CON2", "BUF", "levels"};
 
 const thurafeqa_clock_report no_report = {-1, -2, -3};
 
@@ -60,9 +60,12 @@ void ask_library(thurafeqa *m, thurafeqa *other, const struct call *c,
 
 void see_library(thurafeqa *m, uint32_t seen[VIEWS])
 {
+    thurafeqa copy = *m;
+
     seen[STAT] = thurafeqa_read(m, THURAFEQA_STAT);
     seen[CON1] = thurafeqa_read(m, THURAFEQA_CON1);
     seen[CON2] = thurafeqa_read(m, THURAFEQA_CON2);
+    seen[BUF] = thurafeqa_read(&copy, THURAFEQA_BUF);
     seen[LEVELS] = thurafeqa_levels(m);
 }
 

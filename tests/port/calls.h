@@ -21,15 +21,16 @@ int concerned(const struct call *c);
 
 /* Refusal numbers are below this. Does any call give that one? Not 4 and 12,
  * which are gone, and not 9, which is of scripts. */
-#define REFUSALS 16
+#define REFUSALS 17
 int is_given(uint32_t number);
 
 void print_call(const struct call *c);
 
 /* ---- what comes of a call -------------------------------------------- */
 
-/* What is seen of a module without changing it. */
-enum view { STAT, CON1, CON2, LEVELS, VIEWS };
+/* What is seen of a module without changing it: its registers, BUF being read
+ * on a copy, and the levels. */
+enum view { STAT, CON1, CON2, BUF, LEVELS, VIEWS };
 extern const char *const view_name[VIEWS];
 
 struct outcome {
@@ -45,7 +46,8 @@ extern const thurafeqa_clock_report no_report;
 void ask_library(thurafeqa *m, thurafeqa *other, const struct call *c,
                  struct outcome *o);
 
-/* Looks at a module, by three register reads and the levels. */
+/* Looks at a module, by reads of three registers, a read of BUF on a copy, and
+ * the levels. */
 void see_library(thurafeqa *m, uint32_t seen[VIEWS]);
 
 /* Are the answers the same, the floats bit for bit? */

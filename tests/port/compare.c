@@ -1,7 +1,8 @@
 /* The exported library beside the second model (tests/model): random calls go
  * to both, and after every call the answers, the registers STAT, CON1 and CON2,
- * the levels and the interrupt flags must agree. No answer may carry a refusal
- * number that calls do not give, such as 4 or 12.
+ * what a copy answers to a read of BUF, the levels and the interrupt flags must
+ * agree. No answer may carry a refusal number that calls do not give, such as 4
+ * or 12.
  *
  * usage: compare CALLS SEED
  *
@@ -67,13 +68,14 @@ static uint32_t model_levels(const struct ref_spi *m)
     return levels;
 }
 
-static void see_model(struct ref_spi *m, uint32_t seen[VIEWS])
+static void see_model(const struct ref_spi *m, uint32_t seen[VIEWS])
 {
+    struct ref_spi copy = *m;
     int i;
 
-    for (i = STAT; i <= CON2; i++) {
+    for (i = STAT; i <= BUF; i++) {
         unsigned value = 0;
-        int r = ref_read(m, (unsigned)i, &value);
+        int r = ref_read(&copy, (unsigned)i, &value);
         seen[i] = as_answer(r, value);
     }
     seen[LEVELS] = model_levels(m);
@@ -273,6 +275,18 @@ static struct {
     unsigned long undivided[ROLES], undivided_cke;
     unsigned long raised[9]; /* the flag, by SISEL; the last one: standard */
     unsigned long overflow, filler, aborted_word, aborted_filler;
+    /* Request Four's mark, set by a word that is lost: by role, in framed
+     * modules, in linked runs at the host and at the client. Under it words
+     * are lost, SPIROV is cleared and is set again. It goes by disabling, with
+     * SPIROV cleared or left up, and by power-up. A word that is lost under it
+     * though there is room is no case here: reads are refused, so the buffer
+     * stays full. */
+    unsigned long marked[ROLES], marked_framed, marked_linked[2];
+    unsigned long lost_marked, rov_cleared, rov_again;
+    unsigned long unmarked[2], unmarked_power_up;
+    /* No mark: words lost in standard operation and read on; in enhanced
+     * operation reads of a full buffer, and reads with SPIROV up */
+    unsigned long lost_standard, read_lost, read_full, read_rov;
     unsigned long edge, no_edge, linked_edges, clock[3];
     /* finished words: enhanced, role, 16 bits, CKE, CKP */
     unsigned long words[2][ROLES][2][2][2];
@@ -414,10 +428,56 @@ static void count_framed(const struct ref_spi *before,
         reached.pulse_between++;
 }
 
+/* The mark of a module that a call has left with `after`. */
+static void count_mark(const struct ref_spi *before,
+                       const struct ref_spi *after)
+{
+    if (!before->mark && after->mark) {
+        reached.marked[role_of(after)]++;
+        if (after->frmen)
+            reached.marked_framed++;
+    }
+    if (before->mark && after->mark) {
+        if (before->spirov && !after->spirov)
+            reached.rov_cleared++;
+        if (!before->spirov && after->spirov)
+            reached.rov_again++;
+    }
+}
+
+/* A STAT write to a marked module that disabled it. */
+static void count_unmarked(const struct ref_spi *before,
+                           const struct ref_spi *after)
+{
+    if (before->mark && !after->mark)
+        reached.unmarked[after->spirov]++;
+}
+
+/* A read of BUF that was not refused. */
+static void count_read(const struct ref_spi *before)
+{
+    if (!before->spiben && before->spirov)
+        reached.read_lost++;
+    if (before->spiben && before->spirov)
+        reached.read_rov++;
+    if (before->spiben && before->rx.n == 8)
+        reached.read_full++;
+}
+
+/* A word that was finished. */
+static void count_lost(const struct ref_spi *before)
+{
+    if (before->mark)
+        reached.lost_marked++;
+    if (!before->spiben && before->rx.n == 1)
+        reached.lost_standard++;
+}
+
 /* A module that a call has left with `after`. */
 static void count_module(const struct ref_spi *before,
                          const struct ref_spi *after)
 {
+    count_mark(before, after);
     if (!before->flag && after->flag)
         reached.raised[after->spiben ? after->sisel : 8]++;
     if (!before->spirov && after->spirov)
@@ -443,8 +503,10 @@ static void count_edge(const struct ref_spi *before,
         reached.aborted_filler++;
     else if (abort && before->begun)
         reached.aborted_word++;
-    if (!abort && before->edges == word_edges(before) - 1 && !after->begun)
+    if (!abort && before->edges == word_edges(before) - 1 && !after->begun) {
         count_words(before, 1);
+        count_lost(before);
+    }
     if (before->frmen)
         count_framed(before, after);
 }
@@ -482,6 +544,18 @@ static void count(const struct call *c, const struct outcome *o,
         return;
     }
     switch (c->kind) {
+    case POWER_UP:
+        if (before[0].mark)
+            reached.unmarked_power_up++;
+        break;
+    case READ:
+        if (c->x == THURAFEQA_BUF)
+            count_read(&before[0]);
+        break;
+    case WRITE:
+        if (c->x == THURAFEQA_STAT)
+            count_unmarked(&before[0], m);
+        break;
     case TICK:
         if (edges == 0)
             reached.no_edge++;
@@ -494,6 +568,10 @@ static void count(const struct call *c, const struct outcome *o,
         reached.linked_edges += edges;
         count_words(m, ((unsigned)before[0].edges + edges) /
                            (unsigned)word_edges(m));
+        if (!before[0].mark && m->mark)
+            reached.marked_linked[0]++;
+        if (!before[1].mark && pool[c->other].mark)
+            reached.marked_linked[1]++;
         break;
     case CLOCK: reached.clock[thurafeqa_value(o->answer)]++; break;
     default: break;
@@ -617,6 +695,30 @@ static void print_enabling(void)
                    reached.undivided_cke);
 }
 
+static void print_marks(void)
+{
+    int i;
+
+    printf("\nmark set:");
+    for (i = 0; i < ROLES; i++)
+        print_count(role_name[i], reached.marked[i]);
+    print_count("framed", reached.marked_framed);
+    print_count("in linked runs, host", reached.marked_linked[0]);
+    print_count("client", reached.marked_linked[1]);
+    printf("\nmarked:");
+    print_count("words lost", reached.lost_marked);
+    print_count("SPIROV cleared", reached.rov_cleared);
+    print_count("and set again", reached.rov_again);
+    print_count("disabled with SPIROV cleared", reached.unmarked[0]);
+    print_count("and left", reached.unmarked[1]);
+    print_count("power-up", reached.unmarked_power_up);
+    printf("\nnot marked:");
+    print_count("words lost in standard operation", reached.lost_standard);
+    print_count("read there with SPIROV", reached.read_lost);
+    print_count("enhanced, read with SPIROV", reached.read_rov);
+    print_count("from a full buffer", reached.read_full);
+}
+
 static void print_reached(void)
 {
     int i;
@@ -641,6 +743,7 @@ static void print_reached(void)
     print_count("filler", reached.filler);
     print_count("abort of a word", reached.aborted_word);
     print_count("of a filler", reached.aborted_filler);
+    print_marks();
     printf("\nticks:");
     print_count("an edge", reached.edge);
     print_count("no edge", reached.no_edge);
@@ -823,7 +926,7 @@ static void set_up_alone(int i)
             return;
     }
     set_up(i, some_con1((enum role)below(ROLES), some_modes()),
-           some_con2(one_in(3)));
+           some_con2(below(5) < 2));
 }
 
 /* Partners that can be linked, but for a mode now and then. */
@@ -864,11 +967,12 @@ static void write_words(int i)
 
 static void read_words(int i)
 {
+    const struct ref_spi *m = &now.model[i];
     int n = one_in(3) ? 9 : 1 + (int)below(3);
 
     while (n-- > 0) {
         read_register(i, THURAFEQA_BUF);
-        if (now.model[i].rx.n == 0 && !one_in(4))
+        if ((m->rx.n == 0 || m->mark) && !one_in(4))
             return;
     }
 }
@@ -921,6 +1025,23 @@ static void give_edges(int i)
         give_edge(i, apart);
         if (role_of(m) == OWN_CLOCK && !m->loaded && !m->frmen && !one_in(4))
             return;
+    }
+}
+
+/* A marked module: firmware clears SPIROV alone and goes on, or it disables the
+ * module and enables it with the settings that it has; or power-up. */
+static void act_marked(int i)
+{
+    if (one_in(2)) {
+        write_register(i, THURAFEQA_STAT, some_stat() & ~THURAFEQA_STAT_SPIROV);
+        give_edges(i);
+        read_register(i, THURAFEQA_BUF);
+    } else if (one_in(6)) {
+        power_up(i);
+    } else {
+        write_register(i, THURAFEQA_STAT,
+                       any_number() & 0xFFFFu & ~THURAFEQA_STAT_SPIEN);
+        write_register(i, THURAFEQA_STAT, some_stat());
     }
 }
 
@@ -1046,6 +1167,8 @@ static void act(int i, size_t mood)
         do_else(i);
     if (m->flag && one_in(2))
         clear(i);
+    if (m->mark && one_in(5))
+        act_marked(i);
 }
 
 /* A sequence of calls, from power-up of all modules on. */
@@ -1062,7 +1185,7 @@ static void run_sequence(void)
         power_up(i);
     while (length < end && made < wanted) {
         int module = (int)below(MODULES);
-        int acts = 5 + (int)below(25);
+        int acts = 4 + (int)below(12);
         size_t mood = below(MOODS);
 
         if (linked && one_in(2))

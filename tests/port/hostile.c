@@ -10,6 +10,8 @@
  * - the answer's shape is legal, and the refusal number is the one that the
  *   table asks for, going by what the registers showed before the call;
  * - what the registers and levels show is legal;
+ * - where a read of BUF is refused with 16, which is tried on a copy, it was so
+ *   before or an edge has lost a word, and it stays so until disabling;
  * - a call that is refused, or only looks, has no effect: every number of
  *   memory is as before, the registers and levels show the same, and a third
  *   copy that is spared all such calls goes on giving the same answers;
@@ -128,10 +130,12 @@ static int guarded(const struct place *p)
 
 /* ---- what the memory holds at first ---------------------------------- */
 
-/* An enabled module as calls make it, with some words under way. */
+/* An enabled module as calls make it, with some words under way; now and then
+ * an enhanced one that has received eight, or nearly. */
 static void make_real(thurafeqa *m, uint32_t con1)
 {
     uint32_t con2 = any_number();
+    int full = one_in(8);
     uint32_t n;
 
     con1 &= ~(THURAFEQA_CON1_SMP | 1u); /* the primary prescaler is not 1:1 */
@@ -139,13 +143,17 @@ static void make_real(thurafeqa *m, uint32_t con1)
         con1 |= THURAFEQA_CON1_SSEN;
     if (!one_in(3))
         con2 &= ~THURAFEQA_CON2_FRMEN;
+    if (full) {
+        con1 &= ~THURAFEQA_CON1_MODE16;
+        con2 |= THURAFEQA_CON2_SPIBEN;
+    }
     thurafeqa_power_up(m);
     thurafeqa_write(m, THURAFEQA_CON1, con1);
     thurafeqa_write(m, THURAFEQA_CON2, con2);
     thurafeqa_write(m, THURAFEQA_STAT, any_number() | THURAFEQA_STAT_SPIEN);
     for (n = below(10); n > 0; n--)
         thurafeqa_write(m, THURAFEQA_BUF, any_number());
-    for (n = below(80); n > 0; n--) {
+    for (n = full ? 100 + below(60) : below(80); n > 0; n--) {
         uint32_t ss = con2 & THURAFEQA_CON2_FRMEN ? below(2) : 0;
 
         thurafeqa_tick(m, below(2), ss);
@@ -263,6 +271,20 @@ static uint32_t enabling_refusal(const uint32_t *seen)
     return 0;
 }
 
+/* The mark of document 02's request Four shows nowhere but in the refusal of a
+ * read, so it is taken from the one on a copy. */
+static int marked(const uint32_t *seen)
+{
+    return thurafeqa_refusal(seen[BUF]) == THURAFEQA_OVERFLOWED;
+}
+
+static uint32_t read_refusal(const uint32_t *seen)
+{
+    if (marked(seen))
+        return THURAFEQA_OVERFLOWED;
+    return receive_empty(seen) ? THURAFEQA_RECEIVE_EMPTY : 0;
+}
+
 static uint32_t register_refusal(const struct call *c, const uint32_t *seen)
 {
     if (c->x > THURAFEQA_BUF)
@@ -270,9 +292,7 @@ static uint32_t register_refusal(const struct call *c, const uint32_t *seen)
     if (c->x == THURAFEQA_BUF && !enabled(seen))
         return THURAFEQA_DISABLED;
     if (c->kind == READ)
-        return c->x == THURAFEQA_BUF && receive_empty(seen)
-                   ? THURAFEQA_RECEIVE_EMPTY
-                   : 0;
+        return c->x == THURAFEQA_BUF ? read_refusal(seen) : 0;
     if (c->x == THURAFEQA_BUF)
         return seen[STAT] & THURAFEQA_STAT_SPITBF ? THURAFEQA_TRANSMIT_FULL : 0;
     if (c->x != THURAFEQA_STAT)
@@ -381,6 +401,8 @@ static void hold_answer(const struct call *c, const struct outcome *o,
     hold(number == table_refusal(c, seen) ||
              (number == THURAFEQA_UNDIVIDED && may_be_undivided(c, seen)),
          "not the refusal that the table asks for");
+    if (c->kind == READ && c->x == THURAFEQA_BUF)
+        hold(o->answer == seen[0][BUF], "a copy answered BUF otherwise");
     if (c->kind == CLOCK)
         hold_report(c, o, seen[0]);
     if (number != 0)
@@ -393,6 +415,43 @@ static void hold_answer(const struct call *c, const struct outcome *o,
         hold(value <= c->x, "a linked run made more edges than its limit");
     else if (c->kind != READ && c->kind != CLOCK)
         hold(value == 0, "a call that tells nothing tells a value");
+}
+
+/* ---- the mark, from one call to the next ------------------------------ */
+
+static unsigned long marks_set, marks_cleared;
+
+/* A module that this call has disabled, or powered up: on a copy that is then
+ * enabled, if its settings can be, nothing is unread and no mark stands. */
+static void hold_unmarked(const thurafeqa *m)
+{
+    thurafeqa copy = *m;
+
+    if (thurafeqa_write(&copy, THURAFEQA_STAT, THURAFEQA_STAT_SPIEN) != 0)
+        return;
+    hold(thurafeqa_refusal(thurafeqa_read(&copy, THURAFEQA_BUF)) ==
+             THURAFEQA_RECEIVE_EMPTY,
+         "disabled and enabled again, BUF is not empty");
+}
+
+/* Only an edge sets the mark, with SPIROV and with SPIBEN; only disabling
+ * clears it. What memory made otherwise holds while disabled is open. */
+static void hold_mark(const struct call *c, const uint32_t *before,
+                      const uint32_t *after, const thurafeqa *m)
+{
+    if (!enabled(after) && (enabled(before) || c->kind == POWER_UP)) {
+        hold_unmarked(m);
+        marks_cleared += (unsigned long)marked(before);
+    }
+    if (!enabled(before) || !enabled(after) || marked(before) == marked(after))
+        return;
+    hold(marked(after), "a mark went without disabling");
+    hold(c->kind == TICK || c->kind == PINS || c->kind == LINKED,
+         "a call without an edge set the mark");
+    hold((after[STAT] & THURAFEQA_STAT_SPIROV) &&
+             (after[CON2] & THURAFEQA_CON2_SPIBEN),
+         "a mark without SPIROV, or in standard operation");
+    marks_set++;
 }
 
 /* ---- calls on two copies --------------------------------------------- */
@@ -463,6 +522,8 @@ static void make(void)
     see_both(after);
     for (i = 0; i < 2; i++) {
         hold_views(after[i]);
+        if (i < concerned(&now))
+            hold_mark(&now, seen[i], after[i], copies[0][i].m);
         if (spared)
             hold(memcmp(seen[i], after[i], sizeof seen[i]) == 0,
                  "what is shown changed, and should not have");
@@ -480,6 +541,16 @@ static void make(void)
 static uint32_t some_argument(void)
 {
     return one_in(2) ? below(4) : any_number();
+}
+
+/* An edge of the module's own kind, seldom with SS high. */
+static void choose_edge(void)
+{
+    now.kind = own_clock(seen[0]) ? TICK : PINS;
+    now.x = now.y = below(2);
+    if (now.kind == PINS)
+        now.x = !(seen[0][LEVELS] & THURAFEQA_LEVELS_SCK);
+    now.z = one_in(8);
 }
 
 static void choose(void)
@@ -521,7 +592,8 @@ static void read_only(const struct place *p)
 /* New memory, and some calls on it. */
 static void run_memory(void)
 {
-    uint32_t n = 1 + below(30);
+    int clocking = one_in(4); /* mostly edges, enough for a word or two */
+    uint32_t n = 1 + below(clocking ? 90 : 30);
     int i;
 
     for (i = 0; i < 4; i++)
@@ -534,6 +606,8 @@ static void run_memory(void)
     see_both(seen);
     while (n-- > 0 && made < wanted) {
         choose();
+        if (clocking && enabled(seen[0]) && !one_in(4))
+            choose_edge();
         make();
     }
 }
@@ -570,6 +644,9 @@ int main(int argc, char **argv)
         printf(" %d: %lu", i, refused[i]);
         missing += refused[i] == 0;
     }
+    printf("\nmarks: set %lu, cleared by disabling %lu", marks_set,
+           marks_cleared);
+    missing += (marks_set == 0) + (marks_cleared == 0);
     printf("\n%lu hostile calls, each made twice, all held%s\n", made,
            missing ? ", but not every case was reached" : "");
     return missing != 0;

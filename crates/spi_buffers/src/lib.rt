@@ -36,7 +36,7 @@ pub fn empty_transmit() -> Transmit
     }
 }
 
-// A receive buffer with nothing in it.
+// A receive buffer with nothing in it and no mark.
 pub fn empty_receive() -> Receive
     ensures { λ r. ⌜ r ≡ emptyReceive ⌝ }
 {
@@ -45,6 +45,7 @@ pub fn empty_receive() -> Receive
         write: SpiWrite(0),
         read: CpuRead(0),
         count: 0,
+        marked: false,
     }
 }
 

@@ -10,7 +10,7 @@ use lib.Dec.{lit≤}
 use Rattle.spi_rules.specs.declared.Module.{Module}
 use Rattle.spi_rules.specs.declared.Call.{Call}
 use Rattle.spi_rules.specs.declared.Refusal.{Refusal}
-use Rattle.spi_rules.specs.declared.Refusal.the-variants.{NoSuchRegister, Disabled, Enabled, TransmitFull, ReceiveEmpty, WrongClock, NoRate, UnreadableLine, DifferentModes, TooManyEdges, Undivided, LateSampling, UnselectedCke}
+use Rattle.spi_rules.specs.declared.Refusal.the-variants.{NoSuchRegister, Disabled, Enabled, TransmitFull, ReceiveEmpty, WrongClock, NoRate, UnreadableLine, DifferentModes, TooManyEdges, Undivided, LateSampling, UnselectedCke, Overflowed}
 use Rattle.spi_link_rules.specs.declared.LinkAnswer.{LinkAnswer}
 use Rattle.spi_link_rules.specs.declared.LinkAnswer.the-variants as linked
 use Rattle.spi_rules.specs.Refusals.{numberOf}
@@ -43,6 +43,7 @@ numbered TooManyEdges = lit≤ tt
 numbered Undivided = lit≤ tt
 numbered LateSampling = lit≤ tt
 numbered UnselectedCke = lit≤ tt
+numbered Overflowed = lit≤ tt
 
 -- An answer with the number 0 tells the edges used, and one with another number is a refusal.
 is-used : (a : LinkAnswer) → linkSaidOf a .number ≡ 0 → a ≡ linked.Used (linkSaidOf a .edges)

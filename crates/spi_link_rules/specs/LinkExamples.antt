@@ -59,12 +59,31 @@ linkLimits =
     (says (Read 3) (value 0x00A5) ∷ [])
     && linkHolds (linkedOf hostL clientL 289) (linkRefused 11) unreadHost unreadClient
 
--- Nine words of 16 bits owe 288 edges, and the limit 288 sends them all.
+-- Eight words of 16 bits owe 256 edges, and the client holds and reads them all.
+abbrev pub linkEight : Bool
+linkEight =
+    linkHolds (linkedOf (ready 0x0420 0x0001 8 0xA5C3) (ready 0x0400 0x0001 0 0) 288) (used 256)
+    (says (Tick true false) noEdge ∷ [])
+    (replicate 8 (says (Read 3) (value 0xA5C3)) ++ (says (Read 3) (refused 6) ∷ []))
+
+-- Nine owe 288 edges, and the limit 288 sends them all. Both ends overflow in enhanced operation (document 02, Four): eight
+-- words stand in each receive buffer, SPIROV is set, and a BUF read gives 16.
 abbrev pub linkNine : Bool
 linkNine =
     linkHolds (linkedOf (ready 0x0420 0x0001 9 0xA5C3) (ready 0x0400 0x0001 0 0) 288) (used 288)
-    (says (Tick true false) noEdge ∷ [])
-    (replicate 8 (says (Read 3) (value 0xA5C3)) ++ (says (Read 3) (refused 6) ∷ []))
+    (says (Tick true false) noEdge ∷ says (Read 0) (value 0x80C1) ∷ says (Read 3) (refused 16) ∷ [])
+    (says (Read 0) (value 0x87C1) ∷ says (Read 3) (refused 16) ∷ [])
+
+-- A host in standard operation with two words: a standard client loses the second and reads the first; an enhanced client of
+-- the same wire reads both.
+abbrev pub linkStandard : Bool
+linkStandard =
+    linkHolds (linkedOf (ready 0x0020 0x0000 2 0x00A5) (ready 0x0000 0x0000 0 0) 288) (used 32)
+    (says (Read 0) (value 0x8041) ∷ says (Read 3) (value 0x0000) ∷ says (Read 3) (refused 6) ∷ [])
+    (says (Read 0) (value 0x8041) ∷ says (Read 3) (value 0x00A5) ∷ says (Read 3) (refused 6) ∷ [])
+    && linkHolds (linkedOf (ready 0x0020 0x0000 2 0x00A5) (ready 0x0000 0x0001 0 0) 288) (used 32)
+    (says (Read 3) (value 0x0000) ∷ says (Read 3) (refused 6) ∷ [])
+    (says (Read 3) (value 0x00A5) ∷ says (Read 3) (value 0x00A5) ∷ says (Read 3) (refused 6) ∷ [])
 
 -- With the limit 0 nothing is used, and with 15 no word is finished.
 abbrev pub linkShort : Bool
@@ -117,4 +136,6 @@ linkFramed =
     && linkHolds (linkedOf framedHostL poweredUp 16) (linkRefused 2) unreadHost []
 
 abbrev pub linkExamples : Bool
-linkExamples = linkLimits && (linkNine && (linkShort && (linkWires && (linkRefusals && linkFramed))))
+linkExamples =
+    linkLimits
+    && (linkEight && (linkNine && (linkStandard && (linkShort && (linkWires && (linkRefusals && linkFramed))))))

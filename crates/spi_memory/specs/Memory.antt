@@ -17,7 +17,7 @@ use Rattle.spi_rules.specs.declared.Engine.{Engine}
 use Rattle.spi_rules.specs.declared.Module.{Module}
 use Rattle.spi_rules.specs.declared.Shift.the-variants.{Free, Loaded, Begun}
 use Rattle.spi_rules.specs.Choice.{if_then_else_}
-use Rattle.spi_rules.specs.Changes.{withShift}
+use Rattle.spi_rules.specs.Changes.{withReceive, withShift}
 use Rattle.spi_rules.specs.Registers.{bitOf, con1From, con2From}
 
 -- A bit and a byte in a number.
@@ -72,13 +72,14 @@ transmitAt place =
       count = byteIn (place 18);
     }
 
-abbrev pub receiveAt : (ℕ → ℕ) → Receive
-receiveAt place =
+abbrev pub receiveAt : (ℕ → ℕ) → Bool → Receive
+receiveAt place marked =
     record {
       words = wordsAt place;
       write = record { 0 = byteIn (place 16) };
       read = record { 0 = byteIn (place 17) };
       count = byteIn (place 18);
+      marked = marked;
     }
 
 -- A word that is begun.
@@ -97,12 +98,13 @@ abbrev pub pinsAt : (ℕ → ℕ) → Pins
 pinsAt place =
     record { sck = bitIn (place 69); ss = bitIn (place 70); sdo = bitIn (place 71); pulse = bitIn (place 74) }
 
--- The transmit buffer from place 24, the receive buffer from place 44, the rest from place 64.
+-- The transmit buffer from place 24, the receive buffer from place 44, the rest from place 64, and the receive buffer's mark
+-- at place 75.
 abbrev pub engineAt : (ℕ → ℕ) → Engine
 engineAt place =
     record {
       transmit = transmitAt (from 24 place);
-      receive = receiveAt (from 44 place);
+      receive = receiveAt (from 44 place) (bitIn (place 75));
       shift = shiftAt place;
       pins = pinsAt place;
       spirov = bitIn (place 72);
@@ -130,6 +132,19 @@ wentOn edges received (Begun p) = Begun (record { filler = p .filler; word = p .
 
 abbrev pub goneOn : ℕ → ℕ → Engine → Engine
 goneOn edges received n = withShift (wentOn edges received (n .shift)) n
+
+-- The receive buffer with another mark: its words stay.
+abbrev pub withMark : Bool → Engine → Engine
+withMark marked n =
+    withReceive
+    (record {
+      words = n .receive .words;
+      write = n .receive .write;
+      read = n .receive .read;
+      count = n .receive .count;
+      marked = marked;
+    })
+    n
 
 -- Memory before and after a step of the engine: the settings stay.
 pub record Steps (f : Settings → Engine → Engine) (before after : List ℕ) : Type 0 where

@@ -23,7 +23,7 @@ ghost use Rattle.spi_rules.specs.Registers.{con1From, con2From, isFree, statSet
 ghost use Rattle.spi_rules.specs.Loading.{isBegun};
 ghost use Rattle.spi_rules.specs.Calls.{poweredUp, withCon1, withCon2};
 ghost use Rattle.spi_rules.specs.declared.Shift.the-variants.{Free, Loaded, Begun};
-ghost use Rattle.spi_memory.specs.Memory.{bitIn, byteIn, placeIn, from, wordsAt, progressAt, settingsIn, engineIn, moduleIn, goneOn, Steps, Sets};
+ghost use Rattle.spi_memory.specs.Memory.{bitIn, byteIn, placeIn, from, wordsAt, progressAt, settingsIn, engineIn, moduleIn, goneOn, withMark, Steps, Sets};
 ghost use Rattle.spi_memory.specs.Writes.{writes, wordsWritten};
 
 // CON1.
@@ -88,7 +88,7 @@ pub fn transmit_in(w: &[u16; 96]) -> Transmit
     }
 }
 
-// The words received and not read.
+// The words received and not read, and the mark.
 pub fn receive_in(w: &[u16; 96]) -> Receive
     ensures { λ r. ⌜ r ≡ engineIn (now (w .entry)) .receive ⌝ }
 {
@@ -98,6 +98,7 @@ pub fn receive_in(w: &[u16; 96]) -> Receive
         write: SpiWrite((w[60] % 256) as u8),
         read: CpuRead((w[61] % 256) as u8),
         count: (w[62] % 256) as u8,
+        marked: w[75] % 2 == 1,
     }
 }
 
@@ -291,6 +292,15 @@ pub fn store_receive(w: &mut [u16; 96], r: Receive)
     w[60] = byte_number(r.write.0);
     w[61] = byte_number(r.read.0);
     w[62] = byte_number(r.count);
+    w[75] = number(r.marked);
+}
+
+// The mark of the receive buffer: its words stay where they are.
+pub fn store_mark(w: &mut [u16; 96], marked: bool)
+    ensures { λ _. ⌜ Steps (λ _. withMark marked) (now (w .entry)) (now (w .exit)) ⌝ }
+{
+    is_whole(w);
+    w[75] = number(marked);
 }
 
 // A shift register with no word.

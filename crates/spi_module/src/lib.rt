@@ -325,7 +325,7 @@ pub fn pins(w: &mut [u16; 96], sck: bool, sdi: bool, ss: bool) -> Answer
     Answer::Done
 }
 
-// A read of BUF: refused when disabled or with nothing unread.
+// A read of BUF: refused when disabled, while the receive buffer is marked, or with nothing unread.
 fn read_buf(w: &mut [u16; 96]) -> Answer
     ensures { λ r. ⌜ Answers (readBuf (moduleIn (now (w .entry)))) r (now (w .entry)) (now (w .exit)) ⌝ }
 {
@@ -334,7 +334,12 @@ fn read_buf(w: &mut [u16; 96]) -> Answer
         return Answer::Refused(Refusal::Disabled);
     }
     let r = spi_memory::receive_in(w);
-    if r.count == 0 {
+    let marked = r.marked;
+    let none = r.count == 0;
+    if marked {
+        return Answer::Refused(Refusal::Overflowed);
+    }
+    if none {
         return Answer::Refused(Refusal::ReceiveEmpty);
     }
     let word = spi_bits::low_bits(s, spi_buffers::first_unread(r));
@@ -387,7 +392,8 @@ fn write_buf(w: &mut [u16; 96], v: u16) -> Answer
     Answer::Done
 }
 
-// What a write of STAT does to the engine: enabling sets the levels and ends a pulse, disabling empties.
+// What a write of STAT does to the engine: enabling sets the levels and ends a pulse, disabling empties and
+// takes the mark away.
 fn stat_written(w: &mut [u16; 96], v: u16)
     ensures { λ _. ⌜ Steps (λ s. statWritten s v) (now (w .entry)) (now (w .exit)) ⌝ }
 {

@@ -21,7 +21,7 @@ use Rattle.spi_rules.specs.declared.Shift.the-variants.{Free, Loaded, Be
 use Rattle.spi_rules.specs.declared.Answer.{Answer}
 use Rattle.spi_rules.specs.declared.Answer.the-variants.{Done, Value, NoEdge, Edge}
 use Rattle.spi_rules.specs.declared.Refusal.{Refusal}
-use Rattle.spi_rules.specs.declared.Refusal.the-variants.{Disabled, TransmitFull, ReceiveEmpty, WrongClock}
+use Rattle.spi_rules.specs.declared.Refusal.the-variants.{Disabled, TransmitFull, ReceiveEmpty, WrongClock, Overflowed}
 use Rattle.spi_rules.specs.declared.Call.the-variants.{Read, Write, Tick, Pin}
 use Rattle.spi_rules.specs.Choice.{if_then_else_}
 use Rattle.spi_rules.specs.Changes.{withPulse}
@@ -68,22 +68,26 @@ not-unlike true = refl
 not-unlike false = refl
 
 module _ (m : Module) where
-  -- A BUF read answers a value if the module is enabled and a word is unread.
+  -- A BUF read answers a value if the module is enabled and a word is unread in a buffer without a mark.
   pub buf-read-when : (v : ℕ) → performOf m (Read 3) .answer ≡ Value v →
-      (m .settings .spien ≡ true) × (empty (m .engine .receive .count) ≡ false)
+      (m .settings .spien ≡ true) × (empty (m .engine .receive .count) ≡ false) × (m .engine .receive .marked ≡ false)
   unfolding performOf readOf readBuf if_then_else_
   buf-read-when v e =
       let p = passes m Disabled (Value v) refl (not (m .settings .spien)) _ e in
-      let q = passes m ReceiveEmpty (Value v) refl (empty (m .engine .receive .count)) _ (p .1) in
-      (not-false (m .settings .spien) (p .0), q .0)
+      let k = passes m Overflowed (Value v) refl (m .engine .receive .marked) _ (p .1) in
+      let q = passes m ReceiveEmpty (Value v) refl (empty (m .engine .receive .count)) _ (k .1) in
+      (not-false (m .settings .spien) (p .0), q .0, k .0)
 
   -- Such a BUF read shows the first unread word and takes it.
   pub buf-read-is : m .settings .spien ≡ true → empty (m .engine .receive .count) ≡ false →
+      m .engine .receive .marked ≡ false →
       performOf m (Read 3)
       ≡ answering m (Value (lowBits (m .settings) (firstUnread (m .engine .receive)))) (wordTaken (m .settings) (m .engine))
   unfolding performOf readOf readBuf if_then_else_
-  buf-read-is on some =
-      if-false (not (m .settings .spien)) _ _ (ap not on) ∙ if-false (empty (m .engine .receive .count)) _ _ some
+  buf-read-is on some plain =
+      if-false (not (m .settings .spien)) _ _ (ap not on)
+      ∙ if-false (m .engine .receive .marked) _ _ plain
+      ∙ if-false (empty (m .engine .receive .count)) _ _ some
 
   -- A BUF write is done if the module is enabled and the transmit buffer is not full.
   pub buf-write-when : (v : ℕ) → performOf m (Write 3 v) .answer ≡ Done → (m .settings .spien ≡ true) × (spitbf m ≡ false)

@@ -2,11 +2,12 @@
 --     examples-hold            its checked examples a to k and its worked script, as one list
 --     further-examples-hold    examples of rules that those do not touch
 --     frame-examples-hold      document 02, Three: frames
+--     mark-examples-hold       document 02, Four: the mark of an overflow
 -- Assumes nothing.
 use mathlib.Core.Bool.{true}
 use mathlib.Core.Path.{_≡_, refl}
 use Rattle.spi_rules.specs.Bits.{samples, shiftedIn, receivedAfter, shownBit, sdoAfter, progressed}
-use Rattle.spi_rules.specs.Buffers.{emptyTransmit, emptyReceive, firstWaiting, firstUnread, written, departed, appended, taken}
+use Rattle.spi_rules.specs.Buffers.{emptyTransmit, emptyReceive, firstWaiting, firstUnread, written, departed, appended, taken, overrun}
 use Rattle.spi_rules.specs.Calls.{refuse, answering, poweredUp, wordTaken, readBuf, readOf, turnsOn, turnsOff, statWritten, writeStat, withCon1, withCon2, configured, wordWritten, writeBuf, writeOf, tickOf, pinsOf, clearOf, performOf, interruptOf, sckOf, undriven, sdoOf, ssOf}
 use Rattle.spi_rules.specs.Choice.{if_then_else_}
 use Rattle.spi_rules.specs.Edge.{wordEdges, begun, shifted, advanced, advancedIfBegun, awaitsPulse, underWay, pulseDue, pulseAfter, pulsed, clocked, edged, stepped}
@@ -18,11 +19,11 @@ use Rattle.spi_rules.specs.Registers.{bitOf, weighed, con1From, con1Valu
 use Rattle.spi_rules.specs.Ring.{next}
 use Rattle.spi_rules.specs.Select.{selectRemembered, aborted, selectSeen}
 use Rattle.spi_rules.specs.Settings.{widthOf, depthOf}
-use Rattle.spi_rules.specs.Examples.{examples, furtherExamples, frameExamples}
+use Rattle.spi_rules.specs.Examples.{examples, furtherExamples, frameExamples, markExamples}
 
-lists : (examples ≡ true) × (furtherExamples ≡ true) × (frameExamples ≡ true)
-unfolding samples shiftedIn receivedAfter shownBit sdoAfter progressed emptyTransmit emptyReceive firstWaiting firstUnread written departed appended taken refuse answering poweredUp wordTaken readBuf readOf turnsOn turnsOff statWritten writeStat withCon1 withCon2 configured wordWritten writeBuf writeOf tickOf pinsOf clearOf performOf interruptOf sckOf undriven sdoOf ssOf if_then_else_ wordEdges begun shifted advanced advancedIfBegun awaitsPulse underWay pulseDue pulseAfter pulsed clocked edged stepped overflowed wordAppended isLost delivered sentDropped freed finished raises noted wordLeaves moved canLoad loaded nextTop sdoAt rested numberOf bitOf weighed con1From con1Value con2From con2Value lowBits spitbf spirbf srxmpt srmpt atMost7 spibec statValue statSettings spirovAfter statEngine enabledEngine disabledEngine next selectRemembered aborted selectSeen widthOf depthOf
-lists = (refl, refl, refl)
+lists : (examples ≡ true) × (furtherExamples ≡ true) × (frameExamples ≡ true) × (markExamples ≡ true)
+unfolding samples shiftedIn receivedAfter shownBit sdoAfter progressed emptyTransmit emptyReceive firstWaiting firstUnread written departed appended taken overrun refuse answering poweredUp wordTaken readBuf readOf turnsOn turnsOff statWritten writeStat withCon1 withCon2 configured wordWritten writeBuf writeOf tickOf pinsOf clearOf performOf interruptOf sckOf undriven sdoOf ssOf if_then_else_ wordEdges begun shifted advanced advancedIfBegun awaitsPulse underWay pulseDue pulseAfter pulsed clocked edged stepped overflowed wordAppended isLost delivered sentDropped freed finished raises noted wordLeaves moved canLoad loaded nextTop sdoAt rested numberOf bitOf weighed con1From con1Value con2From con2Value lowBits spitbf spirbf srxmpt srmpt atMost7 spibec statValue statSettings spirovAfter statEngine enabledEngine disabledEngine next selectRemembered aborted selectSeen widthOf depthOf
+lists = (refl, refl, refl, refl)
 
 -- Examples a to k and the worked script.
 pub examples-hold : examples ≡ true
@@ -35,3 +36,7 @@ further-examples-hold = lists .1
 -- The framed pairings.
 pub frame-examples-hold : frameExamples ≡ true
 frame-examples-hold = lists .2
+
+-- The mark of an overflow.
+pub mark-examples-hold : markExamples ≡ true
+mark-examples-hold = lists .3

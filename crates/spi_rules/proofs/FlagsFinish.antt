@@ -18,14 +18,14 @@ use Rattle.spi_rules.specs.declared.Receive.{Receive}
 use Rattle.spi_rules.specs.declared.Event.the-variants.{Taken, Appended, Left, Finished, Written}
 use Rattle.spi_rules.specs.Choice.{if_then_else_}
 use Rattle.spi_rules.specs.Settings.{depthOf, ssenClient}
-use Rattle.spi_rules.specs.Buffers.{full, empty, departed, appended, taken, written}
+use Rattle.spi_rules.specs.Buffers.{full, empty, departed, appended, taken, written, overrun}
 use Rattle.spi_rules.specs.Interrupts.{raises, noted}
 use Rattle.spi_rules.specs.Registers.{isFree}
 use Rattle.spi_rules.specs.Loading.{wordLeaves, moved, canLoad, loaded, rested, sdoAt}
 use Rattle.spi_rules.specs.Finish.{overflowed, wordAppended, isLost, delivered, sentDropped, freed, finished}
 use Rattle.spi_rules.specs.Calls.{wordTaken, wordWritten}
 use Rattle.spi_rules.specs.Flags.{raisedWhen}
-use Rattle.spi_rules.proofs.Keeps.{if-keeps, if-true, if-false, and-left, and-right, and-first, by-test, clash}
+use Rattle.spi_rules.proofs.Keeps.{if-keeps, if-true, if-false, and-left, and-right, and-first, by-test, clash, or-left}
 use Rattle.spi_rules.proofs.Parts.{queued}
 use Rattle.spi_rules.proofs.FlagsRaised.{raised-same}
 use Rattle.spi_rules.proofs.FlagsSeen.{not-set}
@@ -235,12 +235,13 @@ delivered-spirov s word n =
 -- The unread words after a received word.
 pub delivered-count : (s : Settings) (word : ℕ) (n : Engine) →
     delivered s word n .receive .count ≡ n .receive .count + boolByte (not (isLost s n))
-unfolding delivered overflowed wordAppended noted appended isLost
+unfolding delivered overflowed overrun wordAppended noted appended isLost
 delivered-count s word n =
     if-keeps (λ (x : Engine). x .receive .count ≡ n .receive .count + boolByte (not (isLost s n))) (isLost s n) _ _
     (λ e. sym (ap (λ (b : Bool). n .receive .count + boolByte (not b)) e ∙ omega arith))
     (λ e.
-    ap (λ (r : Receive). r .count) (if-false (full (depthOf s) (n .receive .count)) _ _ e)
+    ap (λ (r : Receive). r .count)
+    (if-false (full (depthOf s) (n .receive .count)) _ _ (or-left (full (depthOf s) (n .receive .count)) _ e))
     ∙ ap (λ (b : Bool). n .receive .count + boolByte (not b)) (sym e))
 
 -- A word that is written waits.

@@ -235,7 +235,9 @@ module _ (m : Module) where
       if-keeps P _ _ _ (λ e. stays-leaves _ refl)
       (λ e.
       if-keeps P _ _ _ (λ e. stays-leaves _ refl)
-      (λ e. if-keeps P _ _ _ (λ e. stays-leaves _ refl) (λ e. same-leaves _ refl (λ a b d. refl) (λ a. refl)))))))
+      (λ e.
+      if-keeps P _ _ _ (λ e. stays-leaves _ refl)
+      (λ e. if-keeps P _ _ _ (λ e. stays-leaves _ refl) (λ e. same-leaves _ refl (λ a b d. refl) (λ a. refl))))))))
 
   stat-leaves : (v : ℕ) → Leaves m (writeStat m v)
   unfolding writeStat refuse statWritten statSettings turnsOn turnsOff enabledEngine disabledEngine statEngine

@@ -114,8 +114,10 @@ module _ (m : Module) (on : m .settings .spien ≡ true) where
       (λ e.
       if-keeps P (not (m .settings .spien)) _ _ (λ e. unmoved _)
       (λ e.
+      if-keeps P (m .engine .receive .marked) _ _ (λ e. unmoved _)
+      (λ e.
       if-keeps P (empty (m .engine .receive .count)) _ _ (λ e. unmoved _)
-      (λ e. record { same = record { con1 = refl; con2 = refl }; clock = refl }))))))
+      (λ e. record { same = record { con1 = refl; con2 = refl }; clock = refl })))))))
 
   written-clock : (word : ℕ) → wordWritten (m .settings) word (m .engine) .pins .sck ≡ m .engine .pins .sck
   unfolding wordWritten rested sdoAt noted

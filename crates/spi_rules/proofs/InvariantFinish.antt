@@ -15,7 +15,7 @@ use Rattle.spi_rules.specs.declared.Shift.the-variants.{Free, Loaded, Be
 use Rattle.spi_rules.specs.declared.Event.{Event}
 use Rattle.spi_rules.specs.Settings.{widthOf, ckeOf, ssenClient}
 use Rattle.spi_rules.specs.Registers.{isFree}
-use Rattle.spi_rules.specs.Buffers.{empty}
+use Rattle.spi_rules.specs.Buffers.{empty, overrun}
 use Rattle.spi_rules.specs.Interrupts.{noted}
 use Rattle.spi_rules.specs.Loading.{wordLeaves, moved, canLoad, loaded, isBegun, rested, sdoAt}
 use Rattle.spi_rules.specs.Finish.{overflowed, wordAppended, isLost, delivered, sentDropped, freed, finished}
@@ -35,7 +35,7 @@ module _ (s : Settings) where
   -- The received word is appended if it fits the width, or lost.
   pub delivered-keeps : (word : ℕ) (n : Engine) → word < 2 ^ widthOf s → FinishHolds s n →
       FinishHolds s (delivered s word n)
-  unfolding delivered overflowed wordAppended
+  unfolding delivered overflowed overrun wordAppended
   delivered-keeps word n k h =
       let t : TransmitHolds s (n .transmit) = h .buffers .transmit in
       let r : ReceiveHolds s (n .receive) = h .buffers .receive in

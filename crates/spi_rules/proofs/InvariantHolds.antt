@@ -16,7 +16,7 @@ use Rattle.spi_rules.specs.declared.Engine.{Engine}
 use Rattle.spi_rules.specs.declared.Module.{Module}
 use Rattle.spi_rules.specs.declared.Outcome.{Outcome}
 use Rattle.spi_rules.specs.declared.Answer.{Answer}
-use Rattle.spi_rules.specs.declared.Refusal.the-variants.{NoSuchRegister, Disabled, TransmitFull, ReceiveEmpty, WrongClock}
+use Rattle.spi_rules.specs.declared.Refusal.the-variants.{NoSuchRegister, Disabled, TransmitFull, ReceiveEmpty, WrongClock, Overflowed}
 use Rattle.spi_rules.specs.declared.Call.{Call}
 use Rattle.spi_rules.specs.declared.Call.the-variants.{Read, Write, Tick, Pin, Clear}
 use Rattle.spi_rules.specs.Choice.{if_then_else_}
@@ -60,8 +60,9 @@ read-buf-keeps m h =
     (λ off. refuse-holds m Disabled h)
     (λ on.
     let s : Settings = m .settings in
-    either-keeps (empty (m .engine .receive .count)) _ _ (refuse-holds m ReceiveEmpty h)
-    (moves-holds m _ _ (not-false (s .spien) on) h (word-taken-holds s (m .engine) (engine-of m h))))
+    either-keeps (m .engine .receive .marked) _ _ (refuse-holds m Overflowed h)
+    (either-keeps (empty (m .engine .receive .count)) _ _ (refuse-holds m ReceiveEmpty h)
+    (moves-holds m _ _ (not-false (s .spien) on) h (word-taken-holds s (m .engine) (engine-of m h)))))
 
 -- A register read keeps the invariant.
 read-keeps : (m : Module) (register : ℕ) → ModuleHolds m → HoldsAfter (readOf m register)

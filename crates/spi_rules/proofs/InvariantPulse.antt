@@ -1,4 +1,4 @@
--- What a standing pulse says of an enabled module, after every call.
+-- What a standing pulse says of an enabled module, and what a mark says, after every call.
 --     unframed-pulse   no pulse stands in an unframed module
 --     call-reaches     every call keeps the whole invariant
 -- Assumes nothing.
@@ -7,11 +7,12 @@ use native.Mathlib.Nat.{le-refl}
 use mathlib.Core.Bool.{Bool, true, false, not, _&&_, Bool·beq}
 use mathlib.Core.Path.{_≡_, refl, sym, ap, subst, _∙_}
 use native.Mathlib.Omega.{arith}
-use borrow.Author.Tests.{lt-ltb, le-ltb, eqb-true, eqb-false, ne-eqb, not-true, not-false}
+use borrow.Author.Tests.{leb-true, lt-ltb, le-ltb, eqb-true, eqb-false, ne-eqb, not-true, not-false}
 use lib.Dec.{eqb, ltb}
 use Rattle.spi_rules.specs.declared.Settings.{Settings}
 use Rattle.spi_rules.specs.declared.Engine.{Engine}
 use Rattle.spi_rules.specs.declared.Transmit.{Transmit}
+use Rattle.spi_rules.specs.declared.Receive.{Receive}
 use Rattle.spi_rules.specs.declared.Module.{Module}
 use Rattle.spi_rules.specs.declared.Outcome.{Outcome}
 use Rattle.spi_rules.specs.declared.Progress.{Progress}
@@ -27,7 +28,7 @@ use Rattle.spi_rules.specs.Settings.{widthOf, depthOf, framed, frameHost
 use Rattle.spi_rules.specs.Refusals.{badSettings}
 use Rattle.spi_rules.specs.Ledger.{isQuiet}
 use Rattle.spi_rules.specs.Registers.{isFree, bitOf, spitbf, statSettings, statEngine, enabledEngine, disabledEngine}
-use Rattle.spi_rules.specs.Buffers.{full, empty, written}
+use Rattle.spi_rules.specs.Buffers.{full, empty, written, appended, overrun, emptyReceive}
 use Rattle.spi_rules.specs.Interrupts.{noted}
 use Rattle.spi_rules.specs.Loading.{wordLeaves, moved, canLoad, loaded, isBegun, sdoAt, rested}
 use Rattle.spi_rules.specs.Bits.{receivedAfter, progressed}
@@ -35,14 +36,15 @@ use Rattle.spi_rules.specs.Finish.{overflowed, wordAppended, isLost, del
 use Rattle.spi_rules.specs.Select.{selectRemembered, aborted, deselected, selectSeen}
 use Rattle.spi_rules.specs.Edge.{wordEdges, shifted, advanced, advancedIfBegun, underWay, pulseDue, active, pulseAfter, pulsed, clocked, edged, levels, stepped}
 use Rattle.spi_rules.specs.Calls.{refuse, answering, poweredUp, wordTaken, readBuf, readOf, turnsOn, turnsOff, statWritten, writeStat, withCon1, withCon2, configured, wordWritten, writeBuf, writeOf, tickOf, pinsOf, clearOf, performOf}
-use Rattle.spi_rules.specs.Invariant.{ShiftHolds, ModuleHolds, PulseFits, PulseHolds, Reached}
-use Rattle.spi_rules.proofs.Keeps.{if-keeps, if-true, if-false, clash, by-test, and-left, and-right, and-both, and-rest-first, like, unlike}
-use Rattle.spi_rules.proofs.Parts.{queued, EngineHolds}
+use Rattle.spi_rules.specs.Invariant.{ShiftHolds, ModuleHolds, PulseFits, PulseHolds, MarkFits, Reached}
+use Rattle.spi_rules.proofs.Keeps.{if-keeps, if-true, if-false, clash, by-test, and-left, and-right, and-both, and-rest-first, or-right, or-rest, or-rest-first, like, unlike}
+use Rattle.spi_rules.proofs.Parts.{queued, BuffersHold, EngineHolds}
 use Rattle.spi_rules.proofs.Sizes.{width-eight}
 use Rattle.spi_rules.proofs.InvariantParts.{engine-of}
-use Rattle.spi_rules.proofs.InvariantEdge.{selected-sck, selected-holds}
+use Rattle.spi_rules.proofs.InvariantEdge.{clocked-buffers, selected-sck, selected-holds}
 use Rattle.spi_rules.proofs.InvariantHolds.{powered-up-holds, call-keeps}
-use Rattle.spi_rules.proofs.OrderFinish.{finished-wire}
+use Rattle.spi_rules.proofs.OrderFinish.{loaded-spares, finished-wire, finished-spares}
+use Rattle.spi_rules.proofs.OrderBuf.{taken-marked}
 use Rattle.spi_rules.proofs.OrderPulse.{quiet-wire, advanced-pulse, clocked-pulse}
 
 -- A standing pulse is one of a framed module.
@@ -284,13 +286,77 @@ stepped-fits s sck sdi ss n k h =
     (unlike sck (n .pins .sck) e ∙ ap not (sym (selected-sck s ss n)))
     (selected-holds s ss n k) (selected-fits s ss n h))
 
--- What a call leaves: an outcome whose module, if enabled, has its pulse fit.
+-- The mark, step by step: only a loss sets it, and then the buffer is full.
+mark-same : (s : Settings) (n x : Engine) → x .receive ≡ n .receive → MarkFits s n → MarkFits s x
+mark-same s n x e h = subst (λ (r : Receive). r .marked ≡ true → (s .con2 .spiben ≡ true) × (r .count ≡ depthOf s)) (sym e) h
+
+delivered-mark : (s : Settings) (word : ℕ) (n : Engine) → BuffersHold s n → MarkFits s n → MarkFits s (delivered s word n)
+unfolding delivered overflowed overrun wordAppended noted appended isLost
+delivered-mark s word n b h =
+    if-keeps (MarkFits s) (isLost s n) _ _
+    (λ lost stands.
+    by-test (n .receive .marked)
+    h
+    (λ fresh.
+    let full-up : full (depthOf s) (n .receive .count) ≡ true = or-rest-first (full (depthOf s) (n .receive .count)) _ lost fresh in (
+      or-rest (n .receive .marked) _ stands fresh,
+      omega (arith, leb-true (depthOf s) (n .receive .count) full-up, b .receive .ring .fits),
+    )))
+    (λ kept.
+    if-keeps (λ (q : Receive). q .marked ≡ true → (s .con2 .spiben ≡ true) × (q .count ≡ depthOf s)) (full (depthOf s) (n .receive .count)) _ _
+    (λ e. h)
+    (λ e stands. clash (n .receive .marked) stands (or-right (full (depthOf s) (n .receive .count)) _ kept)))
+
+advanced-mark : (s : Settings) (sdi : Bool) (sh : Shift) (n : Engine) → BuffersHold s n → MarkFits s n →
+    MarkFits s (advancedIfBegun s sdi sh n)
+unfolding advancedIfBegun advanced shifted
+advanced-mark s sdi Free n b h = h
+advanced-mark s sdi (Loaded word) n b h = h
+advanced-mark s sdi (Begun p) n b h =
+    if-keeps (MarkFits s) (ltb (p .edges + 1) (wordEdges s)) _ _ (λ e. h)
+    (λ e.
+    let word : ℕ = receivedAfter s (p .edges + 1) sdi (p .received) in
+    mark-same s (delivered s word n) (finished s (p .filler) word n) (finished-spares s (p .filler) word n .receive) (delivered-mark s word n b h))
+
+edged-mark : (s : Settings) (sck sdi : Bool) (n : Engine) → BuffersHold s n → MarkFits s n → MarkFits s (edged s sck sdi n)
+unfolding edged pulsed clocked
+edged-mark s sck sdi n b h =
+    if-keeps (MarkFits s) (deselected s (n .pins .ss)) _ _ (λ d. h)
+    (λ d. advanced-mark s sdi (underWay s sck n) (clocked sck n) (clocked-buffers s sck n b) h)
+
+selected-mark : (s : Settings) (ss : Bool) (n : Engine) → MarkFits s n → MarkFits s (selectSeen s ss n)
+unfolding selectSeen aborted rested sdoAt selectRemembered
+selected-mark s ss n h = if-keeps (MarkFits s) (deselected s ss && isBegun (n .shift)) _ _ (λ e. h) (λ e. h)
+
+stepped-mark : (s : Settings) (sck sdi ss : Bool) (n : Engine) → EngineHolds s n → MarkFits s n →
+    MarkFits s (stepped s (levels sck sdi ss) n)
+unfolding stepped
+stepped-mark s sck sdi ss n k h =
+    if-keeps (MarkFits s) (Bool·beq sck (n .pins .sck)) _ _
+    (λ e. selected-mark s ss n h)
+    (λ e. edged-mark s sck sdi (selectSeen s ss n) (selected-holds s ss n k .buffers) (selected-mark s ss n h))
+
+written-mark : (s : Settings) (word : ℕ) (n : Engine) → MarkFits s n → MarkFits s (wordWritten s word n)
+unfolding wordWritten rested sdoAt noted
+written-mark s word n h = mark-same s n (loaded s (queued s word n)) (loaded-spares s (queued s word n) .receive) h
+
+-- A disabled module has no mark.
+unmarked-off : (m : Module) → ModuleHolds m → m .settings .spien ≡ false → m .engine .receive .marked ≡ false
+unfolding emptyReceive
+unmarked-off m k off = ap (λ (r : Receive). r .marked) (k .emptied off .receive)
+
+-- What a call leaves: an outcome whose module, if enabled, has its pulse fit, and its mark.
 record FitsAfter (o : Outcome) : Type 0 where
   fits : PulseHolds (o .after)
+  mark : MarkFits (o .after .settings) (o .after .engine)
 
 -- A call that leaves the module disabled, and one that moves the engine of an enabled module.
-off-fits : (o : Outcome) → o .after .settings .spien ≡ false → FitsAfter o
-off-fits o off = record { fits = λ on. clash (o .after .settings .spien) on off }
+off-fits : (o : Outcome) → o .after .settings .spien ≡ false → o .after .engine .receive .marked ≡ false → FitsAfter o
+off-fits o off unmarked =
+    record {
+      fits = λ on. clash (o .after .settings .spien) on off;
+      mark = λ stands. clash (o .after .engine .receive .marked) stands unmarked;
+    }
 
 -- STAT's bits do not count for the pulse.
 stat-same : (s : Settings) (v : ℕ) (n x : Engine) (sh : Shift) → PulseFits s n sh → n .transmit .count ≡ x .transmit .count →
@@ -300,52 +366,60 @@ stat-same s v n x Free h same = h
 stat-same s v n x (Loaded word) h same = h
 stat-same s v n x (Begun p) h same = (h .0, h .1, λ early. (h .2 early .0, omega (arith, h .2 early .1, same)))
 
-module _ (m : Module) (k : ModuleHolds m) (h : PulseHolds m) where
-  moves-fits : (a : Answer) (n : Engine) → m .settings .spien ≡ true → Fits (m .settings) n → FitsAfter (answering m a n)
+module _ (m : Module) (k : ModuleHolds m) (h : PulseHolds m) (g : MarkFits (m .settings) (m .engine)) where
+  moves-fits : (a : Answer) (n : Engine) → m .settings .spien ≡ true → Fits (m .settings) n → MarkFits (m .settings) n →
+      FitsAfter (answering m a n)
   unfolding answering
-  moves-fits a n on fits = record { fits = λ e. fits }
+  moves-fits a n on fits mark = record { fits = λ e. fits; mark = mark }
 
   refuse-fits : (r : Refusal) → FitsAfter (refuse m r)
   unfolding refuse
-  refuse-fits r = record { fits = h }
+  refuse-fits r = record { fits = h; mark = g }
 
   read-fits : (register : ℕ) → FitsAfter (readOf m register)
   unfolding readOf readBuf wordTaken noted
   read-fits register =
       if-keeps FitsAfter (ltb 3 register) _ _ (λ e. refuse-fits _)
       (λ e.
-      if-keeps FitsAfter (eqb register 0) _ _ (λ e. record { fits = h })
+      if-keeps FitsAfter (eqb register 0) _ _ (λ e. record { fits = h; mark = g })
       (λ e.
-      if-keeps FitsAfter (eqb register 1) _ _ (λ e. record { fits = h })
+      if-keeps FitsAfter (eqb register 1) _ _ (λ e. record { fits = h; mark = g })
       (λ e.
-      if-keeps FitsAfter (eqb register 2) _ _ (λ e. record { fits = h })
+      if-keeps FitsAfter (eqb register 2) _ _ (λ e. record { fits = h; mark = g })
       (λ e.
       if-keeps FitsAfter (not (m .settings .spien)) _ _ (λ e. refuse-fits _)
       (λ on.
       let enabled : m .settings .spien ≡ true = not-false (m .settings .spien) on in
+      if-keeps FitsAfter (m .engine .receive .marked) _ _ (λ e. refuse-fits _)
+      (λ unmarked.
       if-keeps FitsAfter (empty (m .engine .receive .count)) _ _ (λ e. refuse-fits _)
       (λ some.
       moves-fits _ _ enabled
-      (λ stands. fits-count (m .settings) (m .engine) _ (m .engine .shift) (le-refl _) (h enabled stands))))))))
+      (λ stands. fits-count (m .settings) (m .engine) _ (m .engine .shift) (le-refl _) (h enabled stands))
+      (λ stands.
+      clash (m .engine .receive .marked)
+      (sym (taken-marked (depthOf (m .settings)) (m .engine .receive)) ∙ stands)
+      unmarked))))))))
 
   stat-fits : (v : ℕ) → FitsAfter (writeStat m v)
-  unfolding writeStat statWritten statSettings turnsOn turnsOff enabledEngine disabledEngine statEngine
+  unfolding writeStat statWritten statSettings turnsOn turnsOff enabledEngine disabledEngine statEngine emptyReceive depthOf
   stat-fits v =
       let s : Settings = m .settings in
       let n : Engine = m .engine in
       if-keeps FitsAfter (turnsOn s v && badSettings s) _ _ (λ e. refuse-fits _)
       (λ good.
       if-keeps (λ (x : Engine). FitsAfter (record { answer = Done; after = record { settings = statSettings v s; engine = x } })) (not (s .spien) && bitOf v 15) _ _
-      (λ up. record { fits = λ on stands. clash false stands refl })
+      (λ up. record { fits = λ on stands. clash false stands refl; mark = g })
       (λ not-up.
       if-keeps (λ (x : Engine). FitsAfter (record { answer = Done; after = record { settings = statSettings v s; engine = x } })) (s .spien && not (bitOf v 15)) _ _
-      (λ down. off-fits _ (not-true (bitOf v 15) (and-right (s .spien) _ down)))
+      (λ down. off-fits _ (not-true (bitOf v 15) (and-right (s .spien) _ down)) refl)
       (λ stays.
       record {
         fits = λ on stands.
             stat-same s v n _ (n .shift)
             (h (not-false (s .spien) (and-rest-first (not (s .spien)) (bitOf v 15) not-up on)) stands)
             refl;
+        mark = g;
       })))
 
   write-fits : (register v : ℕ) → FitsAfter (writeOf m register v)
@@ -356,16 +430,16 @@ module _ (m : Module) (k : ModuleHolds m) (h : PulseHolds m) where
       if-keeps FitsAfter (eqb register 0) _ _ (λ e. stat-fits v)
       (λ e.
       if-keeps FitsAfter (eqb register 1) _ _
-      (λ e. if-keeps FitsAfter (m .settings .spien) _ _ (λ e. refuse-fits _) (λ off. off-fits _ off))
+      (λ e. if-keeps FitsAfter (m .settings .spien) _ _ (λ e. refuse-fits _) (λ off. off-fits _ off (unmarked-off m k off)))
       (λ e.
       if-keeps FitsAfter (eqb register 2) _ _
-      (λ e. if-keeps FitsAfter (m .settings .spien) _ _ (λ e. refuse-fits _) (λ off. off-fits _ off))
+      (λ e. if-keeps FitsAfter (m .settings .spien) _ _ (λ e. refuse-fits _) (λ off. off-fits _ off (unmarked-off m k off)))
       (λ e.
       if-keeps FitsAfter (not (m .settings .spien)) _ _ (λ e. refuse-fits _)
       (λ on.
       let enabled : m .settings .spien ≡ true = not-false (m .settings .spien) on in
       if-keeps FitsAfter (spitbf m) _ _ (λ e. refuse-fits _)
-      (λ room. moves-fits _ _ enabled (written-fits (m .settings) _ (m .engine) (h enabled))))))))
+      (λ room. moves-fits _ _ enabled (written-fits (m .settings) _ (m .engine) (h enabled)) (written-mark (m .settings) _ (m .engine) g)))))))
 
   tick-fits : (sdi ss : Bool) → FitsAfter (tickOf m sdi ss)
   unfolding tickOf
@@ -375,8 +449,9 @@ module _ (m : Module) (k : ModuleHolds m) (h : PulseHolds m) where
       let enabled : m .settings .spien ≡ true = not-false (m .settings .spien) on in
       if-keeps FitsAfter (not (ownClock (m .settings))) _ _ (λ e. refuse-fits _)
       (λ own.
-      if-keeps FitsAfter (clockStops (m .settings) && isFree (m .engine .shift)) _ _ (λ e. record { fits = h })
-      (λ moves. moves-fits _ _ enabled (stepped-fits (m .settings) _ sdi _ (m .engine) (engine-of m k) (h enabled)))))
+      if-keeps FitsAfter (clockStops (m .settings) && isFree (m .engine .shift)) _ _ (λ e. record { fits = h; mark = g })
+      (λ moves. moves-fits _ _ enabled (stepped-fits (m .settings) _ sdi _ (m .engine) (engine-of m k) (h enabled))
+      (stepped-mark (m .settings) _ sdi _ (m .engine) (engine-of m k) g))))
 
   pins-fit : (sck sdi ss : Bool) → FitsAfter (pinsOf m sck sdi ss)
   unfolding pinsOf
@@ -385,11 +460,12 @@ module _ (m : Module) (k : ModuleHolds m) (h : PulseHolds m) where
       (λ on.
       let enabled : m .settings .spien ≡ true = not-false (m .settings .spien) on in
       if-keeps FitsAfter (ownClock (m .settings)) _ _ (λ e. refuse-fits _)
-      (λ pin. moves-fits _ _ enabled (stepped-fits (m .settings) sck sdi ss (m .engine) (engine-of m k) (h enabled))))
+      (λ pin. moves-fits _ _ enabled (stepped-fits (m .settings) sck sdi ss (m .engine) (engine-of m k) (h enabled))
+      (stepped-mark (m .settings) sck sdi ss (m .engine) (engine-of m k) g)))
 
   clear-fits : FitsAfter (clearOf m)
   unfolding clearOf answering
-  clear-fits = record { fits = λ on stands. fits-count (m .settings) (m .engine) _ (m .engine .shift) (le-refl _) (h on stands) }
+  clear-fits = record { fits = λ on stands. fits-count (m .settings) (m .engine) _ (m .engine .shift) (le-refl _) (h on stands); mark = g }
 
   call-fits : (c : Call) → FitsAfter (performOf m c)
   unfolding performOf
@@ -401,8 +477,11 @@ module _ (m : Module) (k : ModuleHolds m) (h : PulseHolds m) where
 
 -- Power-up, and every call.
 pub powered-up-reached : Reached poweredUp
-unfolding poweredUp
-powered-up-reached = record { holds = powered-up-holds; pulse = λ on. clash false on refl }
+unfolding poweredUp emptyReceive
+powered-up-reached =
+    record { holds = powered-up-holds; pulse = λ on. clash false on refl; mark = λ stands. clash false stands refl }
 
 pub call-reaches : (m : Module) (c : Call) → Reached m → Reached (performOf m c .after)
-call-reaches m c h = record { holds = call-keeps m c (h .holds); pulse = call-fits m (h .holds) (h .pulse) c .fits }
+call-reaches m c h =
+    let after : FitsAfter (performOf m c) = call-fits m (h .holds) (h .pulse) (h .mark) c in
+    record { holds = call-keeps m c (h .holds); pulse = after .fits; mark = after .mark }

@@ -163,7 +163,7 @@ module _ (m : Module) (h : ModuleHolds m) where
   unfolding answering
   buf-read-whole v e =
       let w = buf-read-when m v e in
-      let said = ap (λ (o : Outcome). o .answer) (buf-read-is m (w .0) (w .1)) in
+      let said = ap (λ (o : Outcome). o .answer) (buf-read-is m (w .0) (w .1) (w .2)) in
       cc first-unread-whole
 
   -- What the invariant says of a shift register that is known.

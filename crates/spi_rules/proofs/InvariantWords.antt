@@ -103,7 +103,7 @@ module _ (m : Module) (h : ModuleHolds m) where
       let w = buf-read-when m v e in
       taken-takes-first (depthOf s) r (depth-most s) (h .receiveCells) (h .receive) (some-stand (r .count) (w .1))
       ∙ ap (λ (x : ℕ). x ∷ unread (depthOf s) (taken (depthOf s) r)) (sym (buf-read-whole m h v e))
-      ∙ ap (λ (o : Outcome). v ∷ unread (depthOf s) (o .after .engine .receive)) (sym (buf-read-is m (w .0) (w .1)))
+      ∙ ap (λ (o : Outcome). v ∷ unread (depthOf s) (o .after .engine .receive)) (sym (buf-read-is m (w .0) (w .1) (w .2)))
 
   -- A received word that is not lost stands last among those unread.
   pub received-word-appended : (word : ℕ) → isLost (m .settings) (m .engine) ≡ false →

@@ -38,6 +38,7 @@ pub mod OrderStep
 pub mod OrderBuf
 pub mod OrderStat
 pub mod OrderKept
+pub mod OrderLast
 -- Flags: what is seen of a call raises the flag, sets SPIROV and moves SDO, and reads show it:
 pub mod FlagsRaised
 pub mod FlagsSeen

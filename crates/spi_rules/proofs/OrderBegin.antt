@@ -71,7 +71,7 @@ module _ (s : Settings) (n : Engine) (l : Ledger) (t : TiedNow s n l) where
   unfolding clocked clockedTo
   clocked-after sck =
       same-after s _ _
-      (record { sck = refl; ss = t .ss; carries = t .carries; sending = t .sending; receiving = t .receiving; pulse = t .pulse })
+      (record { sck = refl; ss = t .ss; carries = t .carries; sending = t .sending; receiving = t .receiving; pulse = t .pulse; mark = t .mark })
 
 -- A silent module is no SSEN client, and an SSEN client is not silent.
 silent-law : (f fsd msten ssen : Bool) → (if f then not fsd else msten) ≡ true → (not msten && (not f && ssen)) ≡ false
@@ -117,6 +117,7 @@ module _ (s : Settings) (on : s .spien ≡ true) (sdo sck sdi : Bool) (n : Engin
         sending = t .sending ∙ ap (λ (q : List ℕ). sent l ++ (q ++ waiting (depthOf s) (n .transmit))) left;
         receiving = t .receiving;
         pulse = t .pulse;
+        mark = t .mark;
       })
       k (clocked-buffers s sck n (h .buffers)) sdo sdi same
 

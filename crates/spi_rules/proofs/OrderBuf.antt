@@ -17,7 +17,7 @@ use Rattle.spi_rules.specs.declared.Settings.{Settings}
 use Rattle.spi_rules.specs.declared.Engine.{Engine}
 use Rattle.spi_rules.specs.declared.Receive.{Receive}
 use Rattle.spi_rules.specs.Settings.{widthOf, depthOf}
-use Rattle.spi_rules.specs.Buffers.{firstUnread, taken, waiting, unread}
+use Rattle.spi_rules.specs.Buffers.{firstUnread, taken, waiting, unread, empty}
 use Rattle.spi_rules.specs.Interrupts.{noted}
 use Rattle.spi_rules.specs.Loading.{canLoad, loaded, rested, sdoAt}
 use Rattle.spi_rules.specs.Calls.{wordTaken, wordWritten}
@@ -32,10 +32,15 @@ use Rattle.spi_rules.proofs.BuffersOrder.{waiting-length, unread-length
 use Rattle.spi_rules.proofs.InvariantWords.{loaded-order}
 use Rattle.spi_rules.proofs.OrderTied.{TiedNow, stood, watched, standing, After, Spared}
 use Rattle.spi_rules.proofs.OrderFinish.{loaded-spares, loaded-wire}
-use Rattle.spi_rules.proofs.Keeps.{by-test}
+use Rattle.spi_rules.proofs.Keeps.{by-test, if-keeps}
 use Rattle.spi_rules.proofs.FlagsRaised.{taken-raises, write-raises}
 use Rattle.spi_rules.proofs.FlagsFinish.{raised-as, written-flag, written-count}
 use Rattle.spi_rules.proofs.FlagsSeen.{no-longer, one-longer, as-long, not-set, loses-none, leaves-none}
+
+-- A BUF read leaves the mark.
+pub taken-marked : (depth : ℕ) (r : Receive) → taken depth r .marked ≡ r .marked
+unfolding taken
+taken-marked depth r = if-keeps (λ (q : Receive). q .marked ≡ r .marked) (empty (r .count)) _ _ (λ e. refl) (λ e. refl)
 
 -- A BUF write leaves the receive buffer and SPIROV.
 written-spares : (s : Settings) (word : ℕ) (n : Engine) →
@@ -64,6 +69,7 @@ module _ (s : Settings) (n : Engine) (l : Ledger) (t : TiedNow s n l) (b : Buffe
             ∙ ap (λ (x : ℕ). x ∷ rest) (sym first))
             ∙ sym (append-assoc (l .read) (word ∷ []) rest);
         pulse = t .pulse;
+        mark = taken-marked (depthOf s) (n .receive) ∙ t .mark;
       }
 
   -- A word that fits is written into a transmit buffer that is not full.
@@ -91,6 +97,7 @@ module _ (s : Settings) (n : Engine) (l : Ledger) (t : TiedNow s n l) (b : Buffe
             (record { transmit = written-keeps s (n .transmit) (b .transmit) word fits; receive = b .receive })));
         receiving = t .receiving ∙ ap (λ (r : Receive). l .read ++ unread (depthOf s) r) (sym (spared .receive));
         pulse = t .pulse ∙ sym (spared .pulse);
+        mark = ap (λ (r : Receive). r .marked) (spared .receive) ∙ t .mark;
       }
 
 module _ (s : Settings) (on : s .spien ≡ true) (n : Engine) (l : Ledger) (t : TiedNow s n l) (b : BuffersHold s n) where

@@ -4,7 +4,7 @@
 --     advanced-after   an edge of a word under way
 -- Assumes nothing.
 use Prim.Native.Nat.{ℕ, suc, _+_, _*_, _^_, _<_, _≤_}
-use mathlib.Core.Bool.{Bool, true, false, not, _&&_, _||_}
+use mathlib.Core.Bool.{Bool, true, false, not, _&&_, _||_, or-false}
 use mathlib.Core.List.{List, [], _∷_, _++_, append-assoc}
 use mathlib.Core.Path.{_≡_, refl, sym, ap, ap₂, subst, _∙_}
 use native.Mathlib.Omega.{arith}
@@ -14,6 +14,7 @@ use lib.Dec.{eqb, ltb}
 use lib.ListN.{length, length-append}
 use Rattle.spi_rules.specs.declared.Settings.{Settings}
 use Rattle.spi_rules.specs.declared.Engine.{Engine}
+use Rattle.spi_rules.specs.declared.Receive.{Receive}
 use Rattle.spi_rules.specs.declared.Progress.{Progress}
 use Rattle.spi_rules.specs.declared.Shift.the-variants.{Begun}
 use Rattle.spi_rules.specs.Choice.{if_then_else_}
@@ -23,7 +24,7 @@ use Rattle.spi_rules.specs.Bits.{samples, shiftedIn, receivedAfter, prog
 use Rattle.spi_rules.specs.Finish.{isLost, delivered, sentDropped, finished}
 use Rattle.spi_rules.specs.Edge.{wordEdges, shifted, advanced}
 use Rattle.spi_rules.specs.Invariant.{sampled}
-use Rattle.spi_rules.specs.Ledger.{OnWire, Wire, busy, Passed, Ledger, spelled, sent, undropped, leftToSend, isDropped, counted, closed, onWire, given}
+use Rattle.spi_rules.specs.Ledger.{OnWire, Wire, busy, Passed, Ledger, spelled, sent, undropped, leftToSend, isDropped, counted, closed, onWire, given, anyMarked, hasLost}
 use Rattle.spi_rules.specs.Watch.{terms, Watched}
 use Rattle.spi_rules.specs.Words.{waitingIn, unreadIn, unfinished}
 use Rattle.spi_rules.specs.Flags.{seesAccepted, seesRead, seesFinished, seesLost, seesAdded, seesLeft}
@@ -36,11 +37,29 @@ use Rattle.spi_rules.proofs.Sampling.{sampled-more, sampled-same, sampl
 use Rattle.spi_rules.proofs.InvariantEdge.{last-edge, last-idle, last-fits}
 use Rattle.spi_rules.proofs.WordBits.{spelled-top-bits, top-bits-shifted-in}
 use Rattle.spi_rules.proofs.OrderTied.{onWireOf, Tied, stood, watched, standing, After, Spared}
-use Rattle.spi_rules.proofs.OrderLosses.{lost-as-noted, lost-is-full}
+use Rattle.spi_rules.proofs.OrderLosses.{lost-as-noted, lost-is, delivered-marked}
 use Rattle.spi_rules.proofs.OrderFinish.{unmarked-last, delivered-elsewhere, delivered-unread, sent-leaves, finished-wire, finished-order, finished-spares}
 use Rattle.spi_rules.proofs.FlagsRaised.{finish-raises}
 use Rattle.spi_rules.proofs.FlagsFinish.{raised-as, leaves, finished-count, finished-flag, delivered-spirov, delivered-count}
 use Rattle.spi_rules.proofs.FlagsSeen.{one-longer, as-long, same-after}
+
+-- A loss that is noted last.
+any-last : (l : List Passed) (a : Passed) → anyMarked (l ++ (a ∷ [])) ≡ (anyMarked l || a .marked)
+any-last [] a = or-false (a .marked)
+any-last (x ∷ l) a = ap (λ (b : Bool). x .marked || b) (any-last l a) ∙ or-assoc (x .marked) (anyMarked l) (a .marked)
+  where
+    or-assoc : (a b c : Bool) → (a || (b || c)) ≡ ((a || b) || c)
+    or-assoc true b c = refl
+    or-assoc false b c = refl
+
+-- A loss in enhanced operation.
+mark-law : (enhanced before lost : Bool) →
+    ((enhanced && before) || (lost && enhanced)) ≡ (enhanced && (before || lost))
+mark-law true true lost = refl
+mark-law true false true = refl
+mark-law true false false = refl
+mark-law false before true = refl
+mark-law false before false = refl
 
 -- What stands last behind the same list is the same.
 last-same : {A : Type 0} (l : List A) (a b : A) → l ++ (a ∷ []) ≡ l ++ (b ∷ []) → a ≡ b
@@ -133,7 +152,7 @@ module _ (s : Settings) (on : s .spien ≡ true) (n : Engine) (l : Ledger) (p : 
     spared = finished-spares s (p .filler) word n
 
     noted-lost : isDropped (terms s) l ≡ isLost s n
-    noted-lost = lost-as-noted s n l (t .receiving)
+    noted-lost = lost-as-noted s n l (t .receiving) (t .mark)
 
     -- The words not sent after it.
     unsent : waiting (depthOf s) (spent .transmit) ≡ unfinished s (x .shift) ++ waiting (depthOf s) (x .transmit)
@@ -230,10 +249,17 @@ module _ (s : Settings) (on : s .spien ≡ true) (n : Engine) (l : Ledger) (p : 
                 carries = finished-wire s (p .filler) word n;
                 sending = sending-after;
                 receiving = receiving-after;
+                mark =
+                    ap (λ (r : Receive). r .marked) (spared .receive)
+                    ∙ delivered-marked s n word
+                    ∙ ap (λ (b : Bool). b || (isLost s n && s .con2 .spiben)) (t .mark)
+                    ∙ mark-law (s .con2 .spiben) (hasLost l) (isLost s n)
+                    ∙ ap (λ (b : Bool). s .con2 .spiben && (hasLost l || b)) (sym noted-lost)
+                    ∙ ap (λ (b : Bool). s .con2 .spiben && b) (sym (any-last (l .arrivals) arrival));
                 pulse = t .pulse ∙ sym (spared .pulse ∙ ap (λ q. q .pulse) (delivered-elsewhere s n word .1));
               };
           arrival = λ a e.
-              sym (ap (λ (q : Passed). q .marked) (last-same (l .arrivals) _ a e)) ∙ noted-lost ∙ lost-is-full s n;
+              sym (ap (λ (q : Passed). q .marked) (last-same (l .arrivals) _ a e)) ∙ noted-lost ∙ lost-is s n;
           spirov =
               spared .spirov
               ∙ delivered-spirov s word n
@@ -263,6 +289,7 @@ module _ (s : Settings) (on : s .spien ≡ true) (n : Engine) (l : Ledger) (p : 
         sending = t .sending;
         receiving = t .receiving;
         pulse = t .pulse;
+        mark = t .mark;
       })
 
   -- Edge 2w.

@@ -19,7 +19,7 @@ use Rattle.spi_rules.specs.declared.Shift.the-variants.{Begun}
 use Rattle.spi_rules.specs.Choice.{if_then_else_}
 use Rattle.spi_rules.specs.Settings.{widthOf, depthOf, ssenClient}
 use Rattle.spi_rules.specs.Registers.{isFree}
-use Rattle.spi_rules.specs.Buffers.{departed, waiting, unread}
+use Rattle.spi_rules.specs.Buffers.{departed, waiting, unread, overrun}
 use Rattle.spi_rules.specs.Interrupts.{noted}
 use Rattle.spi_rules.specs.Loading.{wordLeaves, moved, canLoad, loaded, rested, sdoAt}
 use Rattle.spi_rules.specs.Finish.{overflowed, wordAppended, isLost, delivered, sentDropped, freed, finished}
@@ -101,7 +101,7 @@ module _ (s : Settings) (n : Engine) where
   pub delivered-unread : (word : ℕ) → BuffersHold s n →
       unread (depthOf s) (delivered s word n .receive)
       ≡ unread (depthOf s) (n .receive) ++ (if isLost s n then [] else word ∷ [])
-  unfolding delivered overflowed wordAppended noted
+  unfolding delivered overflowed overrun wordAppended noted unread
   delivered-unread word b =
       let before : List ℕ = unread (depthOf s) (n .receive) in
       let more : List ℕ = if isLost s n then [] else word ∷ [] in

@@ -15,7 +15,7 @@ use Rattle.spi_rules.specs.declared.Engine.{Engine}
 use Rattle.spi_rules.specs.declared.Module.{Module}
 use Rattle.spi_rules.specs.declared.Answer.{Answer}
 use Rattle.spi_rules.specs.declared.Answer.the-variants.{Done, Value, NoEdge, Edge}
-use Rattle.spi_rules.specs.declared.Refusal.the-variants.{NoSuchRegister, Disabled, TransmitFull, ReceiveEmpty, WrongClock}
+use Rattle.spi_rules.specs.declared.Refusal.the-variants.{NoSuchRegister, Disabled, TransmitFull, ReceiveEmpty, WrongClock, Overflowed}
 use Rattle.spi_rules.specs.declared.Call.{Call}
 use Rattle.spi_rules.specs.declared.Call.the-variants.{Read, Write, Tick, Pin, Clear}
 use Rattle.spi_rules.specs.Choice.{if_then_else_}
@@ -102,6 +102,9 @@ module _ (m : Module) (l : Ledger) (h : ModuleHolds m)
       if-keeps (Follows m l (Read register)) (not (s .spien)) _ _
       (λ off. refuse-follows m l (Read register) Disabled refl was)
       (λ on.
+      if-keeps (Follows m l (Read register)) (m .engine .receive .marked) _ _
+      (λ marked. refuse-follows m l (Read register) Overflowed refl was)
+      (λ unmarked.
       if-keeps (Follows m l (Read register)) (empty (m .engine .receive .count)) _ _
       (λ none. refuse-follows m l (Read register) ReceiveEmpty refl was)
       (λ some.
@@ -111,7 +114,7 @@ module _ (m : Module) (l : Ledger) (h : ModuleHolds m)
       subst (Followed m l (Read register) (Value word) _) (sym (if-true (eqb register 3) _ _ buf))
       (after-follows (Read register) (Value word) (wordTaken s (m .engine)) (readNoted word l) refl refl
       (word-taken-after s enabled (m .engine) l (was enabled) (engine-of m h .buffers) word (omega arith)
-      (first-unread-whole m h)))))
+      (first-unread-whole m h))))))
 
   -- A register read.
   read-follows : (register : ℕ) → Follows m l (Read register) (readOf m register)
@@ -217,7 +220,7 @@ module _ (m : Module) (l : Ledger) (h : ModuleHolds m)
       record {
         tied = λ on.
             let t : TiedNow (m .settings) (m .engine) l = was on in
-            record { sck = t .sck; ss = t .ss; carries = t .carries; sending = t .sending; receiving = t .receiving; pulse = t .pulse };
+            record { sck = t .sck; ss = t .ss; carries = t .carries; sending = t .sending; receiving = t .receiving; pulse = t .pulse; mark = t .mark };
         arrival = λ on a longer. no-longer (l .arrivals) a longer;
         spirov = not-set (m .engine .spirov) _
             (loses-none (record { now = m; ledger = l }) (record { now = clearOf m .after; ledger = l }) (le-refl _));

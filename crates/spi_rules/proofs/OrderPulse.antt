@@ -184,6 +184,7 @@ pulsed-after s sck shown b n l k seen plain =
             carries = t .carries;
             sending = t .sending;
             receiving = t .receiving;
+            mark = t .mark;
             pulse =
                 ap (λ (x : Bool). if terms s .gives then shown else terms s .idle sck && (terms s .active x && isQuiet (l .wire))) (t .ss)
                 ∙ ap (λ (x : Bool). if terms s .gives then shown else terms s .idle sck && (terms s .active (n .pins .ss) && x))

@@ -11,6 +11,7 @@ use borrow.Author.Tests.{not-true, not-false}
 use lib.Dec.{eqb}
 use Rattle.spi_rules.specs.declared.Settings.{Settings}
 use Rattle.spi_rules.specs.declared.Engine.{Engine}
+use Rattle.spi_rules.specs.declared.Receive.{Receive}
 use Rattle.spi_rules.specs.declared.Module.{Module}
 use Rattle.spi_rules.specs.declared.Shift.{Shift}
 use Rattle.spi_rules.specs.declared.Shift.the-variants.{Free, Loaded, Begun}
@@ -33,7 +34,7 @@ use Rattle.spi_rules.specs.Watch.{entered, Watched}
 use Rattle.spi_rules.specs.Flags.{seesRaised}
 use Rattle.spi_rules.specs.Words.{unfinished}
 use Rattle.spi_rules.specs.Demands.{wireOf}
-use Rattle.spi_rules.proofs.Keeps.{if-keeps, if-both, if-true, if-false, clash, and-left, and-right, and-rest-first}
+use Rattle.spi_rules.proofs.Keeps.{if-keeps, if-both, if-true, if-false, clash, and-left, and-right, and-rest-first, and-false}
 use Rattle.spi_rules.proofs.InvariantWords.{disabled-waiting-none, disabled-unread-none}
 use Rattle.spi_rules.proofs.OrderTied.{TiedNow, Followed, Follows}
 use Rattle.spi_rules.proofs.BuffersOrder.{waiting-length, unread-length}
@@ -110,12 +111,13 @@ module _ (v : ℕ) (s : Settings) where
             ∙ ap (λ (q : List ℕ). sent l ++ (q ++ waiting (depthOf s) (n .transmit))) (unfinished-stat (n .shift));
         receiving = t .receiving;
         pulse = t .pulse;
+        mark = t .mark;
       }
 
   -- A STAT write that enables: the module is empty, and the ledger opens.
   opened-tied : (n : Engine) → ModuleHolds (record { settings = s; engine = n }) → s .spien ≡ false →
       TiedNow (statSettings v s) (enabledEngine v (s .con1) n) (opened (s .con1 .ckp))
-  unfolding statSettings enabledEngine opened depthOf
+  unfolding statSettings enabledEngine opened depthOf emptyReceive
   opened-tied n h off =
       let m : Module = record { settings = s; engine = n } in
       let free : n .shift ≡ Free = h .emptied off .shift in
@@ -128,6 +130,7 @@ module _ (v : ℕ) (s : Settings) where
             ∙ disabled-waiting-none m h off);
         receiving = sym (disabled-unread-none m h off);
         pulse = refl;
+        mark = ap (λ (r : Receive). r .marked) (h .emptied off .receive) ∙ sym (and-false (s .con2 .spiben) false refl);
       }
 
 module _ (m : Module) (l : Ledger) (h : ModuleHolds m)

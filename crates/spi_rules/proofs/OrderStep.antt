@@ -81,6 +81,7 @@ module _ (s : Settings) (ss : Bool) (n : Engine) where
             (client-unfinished s (and-left (ssenClient s) ss d) (n .shift) (and-right (deselected s ss) _ e));
         receiving = t .receiving;
         pulse = t .pulse;
+        mark = t .mark;
       })
       (λ e.
       record {
@@ -93,6 +94,7 @@ module _ (s : Settings) (ss : Bool) (n : Engine) where
         sending = t .sending;
         receiving = t .receiving;
         pulse = t .pulse;
+        mark = t .mark;
       })
 
 -- The levels are seen.

@@ -3,7 +3,7 @@
 --     Tied         an engine, what is under way in it, a ledger and what its wire carries
 --     TiedNow      an engine and a ledger between calls
 --     Stood        what stood before a step, as far as words and flags go
---     Arrives      what a received word that is new in the ledger says: dropped exactly if the buffer was full
+--     Arrives      what a received word that is new in the ledger says: dropped exactly if the buffer was full or marked
 --     After        an engine and a ledger after a step: tied, with the new received word and the flags as they must be
 --     EdgedAfter   the same after an edge, for what is under way at that edge
 --     Followed     a module and its ledger after a call
@@ -31,7 +31,7 @@ use Rattle.spi_rules.specs.Settings.{widthOf, depthOf, ckeOf}
 use Rattle.spi_rules.specs.Buffers.{full, waiting, unread}
 use Rattle.spi_rules.specs.Edge.{advancedIfBegun, clocked}
 use Rattle.spi_rules.specs.Invariant.{sampled}
-use Rattle.spi_rules.specs.Ledger.{OnWire, Wire, Passed, Ledger, undropped, given, clockedTo, sent}
+use Rattle.spi_rules.specs.Ledger.{OnWire, Wire, Passed, Ledger, undropped, given, clockedTo, sent, hasLost}
 use Rattle.spi_rules.specs.Watch.{terms, entered, Watched, showsPulse}
 use Rattle.spi_rules.specs.Flags.{seesLost, seesRaised}
 use Rattle.spi_rules.specs.Words.{unfinished}
@@ -58,6 +58,7 @@ pub record Tied (s : Settings) (n : Engine) (sh : Shift) (l : Ledger) (wire : Wi
   pub sending : l .accepted ≡ sent l ++ (unfinished s sh ++ waiting (depthOf s) (n .transmit))
   pub receiving : undropped l ≡ l .read ++ unread (depthOf s) (n .receive)
   pub pulse : l .pulse ≡ n .pins .pulse
+  pub mark : n .receive .marked ≡ (s .con2 .spiben && hasLost l)
 
 -- Between calls what is under way stands in the shift register, and what the wire carries in the ledger.
 abbrev pub TiedNow : Settings → Engine → Ledger → Type 0
@@ -111,10 +112,10 @@ standing s b n l =
       pulse = l .pulse;
     })
 
--- What a received word that is new in the ledger says: it was dropped exactly if the buffer was full.
+-- What a received word that is new in the ledger says: it was dropped exactly if the buffer was full or marked.
 abbrev pub Arrives : Settings → Receive → List Passed → Ledger → Type 0
 Arrives s receive before l =
-    (a : Passed) → l .arrivals ≡ before ++ (a ∷ []) → a .marked ≡ full (depthOf s) (receive .count)
+    (a : Passed) → l .arrivals ≡ before ++ (a ∷ []) → a .marked ≡ (full (depthOf s) (receive .count) || receive .marked)
 
 -- An engine and a ledger after a step: tied, and the new received word and the flags as they must be.
 pub record After (s : Settings) (b : Stood) (n : Engine) (l : Ledger) : Type 0 where

@@ -22,7 +22,7 @@ use Rattle.spi_rules.specs.declared.Module.{Module}
 use Rattle.spi_rules.specs.declared.Outcome.{Outcome}
 use Rattle.spi_rules.specs.declared.Shift.the-variants.{Free}
 use Rattle.spi_rules.specs.declared.Refusal.{Refusal}
-use Rattle.spi_rules.specs.declared.Refusal.the-variants.{NoSuchRegister, Disabled, Enabled, TransmitFull, ReceiveEmpty, WrongClock}
+use Rattle.spi_rules.specs.declared.Refusal.the-variants.{NoSuchRegister, Disabled, Enabled, TransmitFull, ReceiveEmpty, WrongClock, Overflowed}
 use Rattle.spi_rules.specs.declared.Answer.{Answer}
 use Rattle.spi_rules.specs.declared.Answer.the-variants.{Refused, Done, NoEdge, Edge}
 use Rattle.spi_rules.specs.declared.Call.{Call}
@@ -73,7 +73,8 @@ module _ (m : Module) (h : ModuleHolds m) (on : m .settings .spien ≡ true) (ow
       (either-pays c (eqb register 1) _ _ (same-pays c _ m refl refl refl)
       (either-pays c (eqb register 2) _ _ (same-pays c _ m refl refl refl)
       (either-pays c (not (m .settings .spien)) _ _ (refuse-pays c Disabled)
-      (either-pays c (empty (m .engine .receive .count)) _ _ (refuse-pays c ReceiveEmpty) (same-pays c _ _ refl refl refl))))))
+      (either-pays c (m .engine .receive .marked) _ _ (refuse-pays c Overflowed)
+      (either-pays c (empty (m .engine .receive .count)) _ _ (refuse-pays c ReceiveEmpty) (same-pays c _ _ refl refl refl)))))))
 
   -- A STAT write that leaves the module enabled pays.
   stat-pays : (register v : ℕ) → Pays m (Write register v) (writeStat m v)

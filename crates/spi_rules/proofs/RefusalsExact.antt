@@ -14,7 +14,7 @@ use lib.Dec.{eqb, ltb, leb}
 use Rattle.spi_rules.specs.declared.Module.{Module}
 use Rattle.spi_rules.specs.declared.Outcome.{Outcome}
 use Rattle.spi_rules.specs.declared.Refusal.{Refusal}
-use Rattle.spi_rules.specs.declared.Refusal.the-variants.{NoSuchRegister, Disabled, Enabled, TransmitFull, ReceiveEmpty, WrongClock, NoRate, UnreadableLine, DifferentModes, TooManyEdges, Undivided, LateSampling, UnselectedCke}
+use Rattle.spi_rules.specs.declared.Refusal.the-variants.{NoSuchRegister, Disabled, Enabled, TransmitFull, ReceiveEmpty, WrongClock, NoRate, UnreadableLine, DifferentModes, TooManyEdges, Undivided, LateSampling, UnselectedCke, Overflowed}
 use Rattle.spi_rules.specs.declared.Call.{Call}
 use Rattle.spi_rules.specs.declared.Call.the-variants.{Read, Write, Tick, Pin, Clear}
 use Rattle.spi_rules.specs.Choice.{if_then_else_}
@@ -82,6 +82,7 @@ never-given TooManyEdges = ((λ e. omega (arith, e)), (λ e. omega (arith, e)))
 never-given Undivided = ((λ e. omega (arith, e)), (λ e. omega (arith, e)))
 never-given LateSampling = ((λ e. omega (arith, e)), (λ e. omega (arith, e)))
 never-given UnselectedCke = ((λ e. omega (arith, e)), (λ e. omega (arith, e)))
+never-given Overflowed = ((λ e. omega (arith, e)), (λ e. omega (arith, e)))
 
 -- A register number is one of the four, or above 3.
 register-cases : (P : ℕ → Type 0) → P 0 → P 1 → P 2 → P 3 → ((k : ℕ) → ltb 3 k ≡ true → P k) → (register : ℕ) → P register
@@ -103,8 +104,10 @@ read-refused m =
     (by-spien (Read 3)
     (elim [
       | true ↦ λ m.
+          refused-by _ Overflowed (m .engine .receive .marked) _ _ _ refl
+          (λ plain.
           refused-by _ ReceiveEmpty (empty (m .engine .receive .count)) _ _ 0
-          (ap (λ (k : ℕ). eqb k 0) (unread-length _ (m .engine .receive))) (λ some. refl)
+          (ap (λ (k : ℕ). eqb k 0) (unread-length _ (m .engine .receive))) (λ some. refl))
       | false ↦ λ m. refl
     ])
     m)

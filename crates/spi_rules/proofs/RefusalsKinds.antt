@@ -118,7 +118,9 @@ module _ (m : Module) where
       if-keeps P _ _ _ (λ e. refusal-fits (Read register) _)
       (λ e.
       if-keeps P _ _ _ (λ e. refusal-fits (Read register) _)
-      (λ e. same-fits (Read register) (Value _) _ refl refl refl refl refl))))))
+      (λ e.
+      if-keeps P _ _ _ (λ e. refusal-fits (Read register) _)
+      (λ e. same-fits (Read register) (Value _) _ refl refl refl refl refl)))))))
 
   write-fits : (register v : ℕ) → Fitting (m .settings) (Write register v) (writeOf m register v)
   unfolding writeOf writeStat configured writeBuf answering withCon1 withCon2 statSettings

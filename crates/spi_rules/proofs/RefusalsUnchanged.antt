@@ -10,7 +10,7 @@ use Rattle.spi_rules.specs.declared.Settings.{Settings}
 use Rattle.spi_rules.specs.declared.Module.{Module}
 use Rattle.spi_rules.specs.declared.Outcome.{Outcome}
 use Rattle.spi_rules.specs.declared.Refusal.{Refusal}
-use Rattle.spi_rules.specs.declared.Refusal.the-variants.{NoSuchRegister, Disabled, Enabled, TransmitFull, ReceiveEmpty, WrongClock}
+use Rattle.spi_rules.specs.declared.Refusal.the-variants.{NoSuchRegister, Disabled, Enabled, TransmitFull, ReceiveEmpty, WrongClock, Overflowed}
 use Rattle.spi_rules.specs.declared.Answer.{Answer}
 use Rattle.spi_rules.specs.declared.Answer.the-variants.{Refused, Done, Value, NoEdge, Edge}
 use Rattle.spi_rules.specs.declared.Call.{Call}
@@ -58,7 +58,8 @@ read-unmoved m register =
     (either-unmoved m (eqb register 1) _ _ (same-unmoved m _)
     (either-unmoved m (eqb register 2) _ _ (same-unmoved m _)
     (either-unmoved m (not (m .settings .spien)) _ _ (refuse-unmoved m Disabled)
-    (either-unmoved m (empty (m .engine .receive .count)) _ _ (refuse-unmoved m ReceiveEmpty) (told-unmoved m _ _))))))
+    (either-unmoved m (m .engine .receive .marked) _ _ (refuse-unmoved m Overflowed)
+    (either-unmoved m (empty (m .engine .receive .count)) _ _ (refuse-unmoved m ReceiveEmpty) (told-unmoved m _ _)))))))
 
 -- New settings are refused or taken.
 configured-unmoved : (m : Module) (s : Settings) → Unmoved m (configured m s)

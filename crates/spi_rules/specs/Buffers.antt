@@ -1,6 +1,6 @@
 -- Document 01, "Registers" and "Loading": the two buffers over the ring.
 use Prim.Native.Nat.{ℕ, _+_, _-_}
-use mathlib.Core.Bool.{Bool}
+use mathlib.Core.Bool.{Bool, false, _||_}
 use mathlib.Core.List.{List}
 use lib.Dec.{leb, eqb}
 use lib.ListN.{getD, set, replicate}
@@ -23,7 +23,13 @@ emptyTransmit =
 
 unfoldable pub emptyReceive : Receive
 emptyReceive =
-    record { words = replicate capacity 0; write = record { 0 = 0 }; read = record { 0 = 0 }; count = 0 }
+    record {
+      words = replicate capacity 0;
+      write = record { 0 = 0 };
+      read = record { 0 = 0 };
+      count = 0;
+      marked = false;
+    }
 
 -- The first waiting word.
 unfoldable pub firstWaiting : Transmit → ℕ
@@ -64,6 +70,7 @@ appended depth v r =
       write = record { 0 = next depth (r .write .0) };
       read = r .read;
       count = r .count + 1;
+      marked = r .marked;
     }
 
 -- The first unread word is taken by the CPU. An empty buffer stays as it is.
@@ -75,6 +82,19 @@ taken depth r =
       write = r .write;
       read = record { 0 = next depth (r .read .0) };
       count = r .count - 1;
+      marked = r .marked;
+    }
+
+-- A received word found no place (document 02, Four): in enhanced operation the buffer is marked, and in standard operation it
+-- stays as it is. Its words stay in both.
+unfoldable pub overrun : Bool → Receive → Receive
+overrun enhanced r =
+    record {
+      words = r .words;
+      write = r .write;
+      read = r .read;
+      count = r .count;
+      marked = r .marked || enhanced;
     }
 
 -- The words waiting to be sent, and the words received and not read, oldest first.

@@ -1,5 +1,5 @@
 -- The calls of document 01 on one module: each gives its answer and the whole module after it. Register calls test 1,
--- then 2 or 3, then 13 to 15, 5 or 6; tick and pin calls test 2, then 7. A refused call leaves the module as it was.
+-- then 2 or 3, then 13 to 15, 5 or 16 and 6; tick and pin calls test 2, then 7. A refused call leaves the module as it was.
 use Prim.Native.Nat.{ℕ}
 use mathlib.Core.Bool.{Bool, false, not, _&&_, _||_, Bool·beq}
 use mathlib.Core.List.{List, [], _∷_}
@@ -14,7 +14,7 @@ use Rattle.spi_rules.specs.declared.Outcome.{Outcome}
 use Rattle.spi_rules.specs.declared.Shift.the-variants.{Free}
 use Rattle.spi_rules.specs.declared.Event.the-variants.{Taken, Written}
 use Rattle.spi_rules.specs.declared.Refusal.{Refusal}
-use Rattle.spi_rules.specs.declared.Refusal.the-variants.{NoSuchRegister, Disabled, Enabled, TransmitFull, ReceiveEmpty, WrongClock}
+use Rattle.spi_rules.specs.declared.Refusal.the-variants.{NoSuchRegister, Disabled, Enabled, TransmitFull, ReceiveEmpty, WrongClock, Overflowed}
 use Rattle.spi_rules.specs.declared.Answer.{Answer}
 use Rattle.spi_rules.specs.declared.Answer.the-variants.{Refused, Done, Value, NoEdge, Edge}
 use Rattle.spi_rules.specs.declared.Call.{Call}
@@ -61,10 +61,11 @@ unfoldable pub wordTaken : Settings → Engine → Engine
 wordTaken s n =
     noted s (Taken (taken (depthOf s) (n .receive) .count)) (withReceive (taken (depthOf s) (n .receive)) n)
 
--- BUF read: 2, then 6; then the first unread word is taken, and shown with zeros above its width.
+-- BUF read: 2, then 16 (document 02, Four), then 6; then the first unread word is taken, and shown with zeros above its width.
 unfoldable pub readBuf : Module → Outcome
 readBuf m =
     if not (m .settings .spien) then refuse m Disabled
+    else if m .engine .receive .marked then refuse m Overflowed
     else if empty (m .engine .receive .count) then refuse m ReceiveEmpty
     else answering m (Value (lowBits (m .settings) (firstUnread (m .engine .receive)))) (wordTaken (m .settings) (m .engine))
 

@@ -3,14 +3,16 @@
 -- proofs/DemandsHold.antt proves it. The step is performOf of specs/Calls.antt, one line for each call. Linked runs, the
 -- clock report and scripts have pages of their own; crates/spi_demands gathers them.
 use Prim.Native.Nat.{ℕ, zero, suc, _+_, _*_, _-_, _≤_}
-use mathlib.Core.Bool.{Bool, true, false, not, _&&_, _||_}
+use mathlib.Core.Bool.{Bool, true, false, not, _&&_, _||_, Bool·beq}
 use mathlib.Core.List.{List, [], _∷_, _++_}
 use mathlib.Core.Path.{_≡_}
+use mir.Val.{boolByte}
 use lib.Dec.{eqb, leb}
 use lib.ListN.{length}
 use Rattle.spi_rules.specs.declared.Settings.{Settings}
 use Rattle.spi_rules.specs.declared.Module.{Module}
 use Rattle.spi_rules.specs.declared.Outcome.{Outcome}
+use Rattle.spi_rules.specs.declared.Progress.{Progress}
 use Rattle.spi_rules.specs.declared.Shift.{Shift}
 use Rattle.spi_rules.specs.declared.Shift.the-variants.{Free, Loaded, Begun}
 use Rattle.spi_rules.specs.declared.Refusal.{Refusal}
@@ -19,14 +21,14 @@ use Rattle.spi_rules.specs.declared.Call.{Call}
 use Rattle.spi_rules.specs.declared.Call.the-variants.{Read, Write, Tick, Pin, Clear}
 use Rattle.spi_rules.specs.Choice.{if_then_else_}
 use Rattle.spi_rules.specs.Refusals.{numberOf, saidOf, isDone}
-use Rattle.spi_rules.specs.Examples.{examples, furtherExamples, frameExamples}
-use Rattle.spi_rules.specs.Settings.{widthOf, depthOf, ckeOf, framed, frameHost, frameClient, unframedHost}
+use Rattle.spi_rules.specs.Examples.{examples, furtherExamples, frameExamples, markExamples}
+use Rattle.spi_rules.specs.Settings.{widthOf, depthOf, ckeOf, framed, frameHost, frameClient, ssenClient, ownClock, unframedHost}
 use Rattle.spi_rules.specs.Registers.{bitOf}
 use Rattle.spi_rules.specs.Words.{waitingIn, unreadIn, owedWords}
 use Rattle.spi_rules.specs.Calls.{poweredUp, performOf, interruptOf, sckOf, sdoOf, ssOf}
 use Rattle.spi_rules.specs.Invariant.{Reached, sampled}
 use Rattle.spi_rules.specs.RefusalTable.{firstNumber, asks, writes, isClear, rows}
-use Rattle.spi_rules.specs.Ledger.{Ledger, Wire, quiet, busy, Passed, spelled, sent, undropped, opened}
+use Rattle.spi_rules.specs.Ledger.{Ledger, Wire, quiet, busy, Passed, spelled, sent, undropped, hasLost, opened}
 use Rattle.spi_rules.specs.Watch.{Watched, watchedCall, watchedCalls, showsPulse}
 use Rattle.spi_rules.specs.Flags.{bits, statNamed, statPlaces, statBits, con1Named, con1Places, con2Named, con2Places, con2Bits, seesAccepted, seesLost, seesRaised, sdoShown, pinShown, selectShown}
 use Rattle.spi_rules.specs.Frames.{edgesGiven, unsent, FramedCall, FrameHostCall, FrameClientCall, FollowsOn}
@@ -82,12 +84,16 @@ abbrev pub allUnmarked : List ℕ → List Passed
 allUnmarked [] = []
 allUnmarked (word ∷ words) = record { word = word; marked = false } ∷ allUnmarked words
 
+-- A marked buffer has lost a word, whichever it was.
+abbrev pub lostWord : Passed
+lostWord = record { word = 0; marked = true }
+
 abbrev pub resumed : Module → Ledger
 resumed m =
     record {
       accepted = owedWords m;
       departures = [];
-      arrivals = allUnmarked (unreadIn m);
+      arrivals = allUnmarked (unreadIn m) ++ (if m .engine .receive .marked then lostWord ∷ [] else []);
       read = [];
       wire = wireOf (m .settings) (m .engine .shift);
       sck = m .engine .pins .sck;
@@ -147,12 +153,36 @@ pub record PinsShow (x : Watched) : Type 0 where
 -- Demand 3. Word order of a module that is enabled now: the accepted words are those fully sent, then the one that left the
 -- transmit buffer and is not finished, then those waiting. The received words less the dropped are those read, then those
 -- waiting, so that the k-th word read is the k-th received and undropped one, and a read with none waiting is refused with
--- 6. A finished word is dropped exactly if the buffer is full; SPIROV is set at that step (CallChanges).
+-- 6. A finished word is dropped exactly if the buffer is full or marked; SPIROV is set at that step (CallChanges). The mark
+-- stands exactly if a word was lost in enhanced operation since the module was last enabled, and while it stands no read
+-- gives a word (document 02, Four).
 pub record WordOrder (x : Watched) : Type 0 where
   pub sending : x .ledger .accepted ≡ sent (x .ledger) ++ owedWords (x .now)
   pub receiving : undropped (x .ledger) ≡ x .ledger .read ++ unreadIn (x .now)
   pub dropped : (c : Call) (a : Passed) → watchedCall x c .ledger .arrivals ≡ x .ledger .arrivals ++ (a ∷ []) →
-      a .marked ≡ leb (depthOf (x .now .settings)) (length (unreadIn (x .now)))
+      a .marked ≡ (leb (depthOf (x .now .settings)) (length (unreadIn (x .now))) || x .now .engine .receive .marked)
+  pub mark : x .now .engine .receive .marked ≡ (x .now .settings .con2 .spiben && hasLost (x .ledger))
+  pub stale : x .now .engine .receive .marked ≡ true → saidOf (performOf (x .now) (Read 3) .answer) .number ≡ 16
+
+-- The last edge of a word, of every record, reached by calls or not: the received word is dropped exactly if the buffer is full
+-- or marked, each loss sets SPIROV, and the mark in enhanced operation.
+abbrev pub drops : Module → Bool
+drops m = leb (depthOf (m .settings)) (length (unreadIn m)) || m .engine .receive .marked
+
+pub record LastEdge (m after : Module) : Type 0 where
+  pub unread : length (unreadIn after) ≡ length (unreadIn m) + boolByte (not (drops m))
+  pub spirov : after .engine .spirov ≡ (m .engine .spirov || drops m)
+  pub mark : after .engine .receive .marked ≡ (m .engine .receive .marked || (drops m && m .settings .con2 .spiben))
+
+-- A call that gives this module's word an edge: a tick of a host with its own clock, or a pin call of another with an SCK level
+-- unlike the remembered one, and with SS low for an unframed SSEN client.
+abbrev pub clocksWord : Module → Call → Bool
+clocksWord m (Read register) = false
+clocksWord m (Write register v) = false
+clocksWord m (Tick sdi ss) = ownClock (m .settings)
+clocksWord m (Pin sck sdi ss) =
+    not (ownClock (m .settings)) && (not (Bool·beq sck (sckOf m)) && not (ssenClient (m .settings) && ss))
+clocksWord m Clear = false
 
 -- Edges owed by an unframed host with its own clock, said from the history: 2w for each word accepted and not sent, less those
 -- given to the word on the wire. The clock of a framed host runs on, so that it owes no number of edges.
@@ -208,12 +238,14 @@ pub record FramesHold (x : Watched) : Type 0 where
 -- What the buyer signs for, of one module.
 pub record OneModule : Type 0 where
   pub answered : Answered
-  pub paperExamples : (examples ≡ true) × (furtherExamples ≡ true) × (frameExamples ≡ true)
+  pub paperExamples : (examples ≡ true) × (furtherExamples ≡ true) × (frameExamples ≡ true) × (markExamples ≡ true)
   pub reached : (b : Beginning) (cs : List Call) → Reached (life b cs .now)
   pub readsShow : (b : Beginning) (cs : List Call) → ReadsShow (life b cs)
   pub callChanges : (b : Beginning) (cs : List Call) (c : Call) → CallChanges (life b cs) c
   pub pinsShow : (b : Beginning) (cs : List Call) → PinsShow (life b cs)
   pub wordOrder : (b : Beginning) (cs : List Call) → life b cs .now .settings .spien ≡ true → WordOrder (life b cs)
+  pub lastEdge : (m : Module) (c : Call) (p : Progress) → m .settings .spien ≡ true → clocksWord m c ≡ true →
+      m .engine .shift ≡ Begun p → 2 * widthOf (m .settings) ≤ p .edges + 1 → LastEdge m (performOf m c .after)
   pub fallsIdle : (b : Beginning) (cs : List Call) → life b cs .now .settings .spien ≡ true →
       unframedHost (life b cs .now .settings) ≡ true → FallsIdle (life b cs)
   pub framesHold : (b : Beginning) (cs : List Call) → life b cs .now .settings .spien ≡ true →

@@ -135,10 +135,7 @@ exampleH =
 
 -- i. Those nine sent unread: eight are held, STAT is 80C1.
 abbrev pub exampleI : List Step
-exampleI =
-    exampleH ++ (tickEdges 144
-    ++ (says (Read 0) (value 0x80C1)
-    ∷ replicate 8 (says (Read 3) (value 0x00FF)) ++ (says (Read 3) (refused 6) ∷ [])))
+exampleI = exampleH ++ (tickEdges 144 ++ (says (Read 0) (value 0x80C1) ∷ []))
 
 -- j. One 8-bit word: unfinished after 15 edges, finished after 16.
 abbrev pub exampleJ : List Step
@@ -226,7 +223,7 @@ abbrev pub furtherSpirov : List Step
 furtherSpirov =
     exampleI
     ++ (says (Write 0 0x8040) ok
-    ∷ says (Read 0) (value 0x80E0)
+    ∷ says (Read 0) (value 0x80C1)
     ∷ says (Write 0 0x0040) ok
     ∷ says (Read 0) (value 0x0040)
     ∷ says (Write 0 0x8040) ok
@@ -344,6 +341,46 @@ furtherCauses =
 abbrev pub furtherExamples : Bool
 furtherExamples =
     everyHolds (furtherPowerUp ∷ furtherSpirov ∷ furtherCke1 ∷ furtherSelect ∷ furtherFlag ∷ furtherFiller ∷ furtherRegisters ∷ furtherClocks ∷ furtherCauses ∷ [])
+
+-- Document 02, Four: the mark of an overflow in enhanced operation. Eight words are held and cannot be read, not after SPIROV is
+-- cleared and not after a STAT write that leaves SPIEN 1; a further finished word sets SPIROV again; disabling takes the mark
+-- away, and reception begins anew.
+abbrev pub markedEnhanced : List Step
+markedEnhanced =
+    exampleI
+    ++ (says (Read 3) (refused 16)
+    ∷ says (Write 0 0x8000) ok
+    ∷ says (Read 0) (value 0x8081)
+    ∷ says (Read 3) (refused 16)
+    ∷ says (Read 4) (refused 1)
+    ∷ says (Write 3 0x0055) ok
+    ∷ tickEdges 16
+    ++ (says (Read 0) (value 0x80C1)
+    ∷ says (Read 3) (refused 16)
+    ∷ says (Write 0 0x0000) ok
+    ∷ says (Read 3) (refused 2)
+    ∷ says (Write 0 0x8000) ok
+    ∷ says (Read 3) (refused 6)
+    ∷ says (Write 3 0x0055) ok
+    ∷ tickEdges 16
+    ++ (says (Read 3) (value 0x00FF) ∷ [])))
+
+-- In standard operation the first word is held and read, and reception goes on.
+abbrev pub unmarkedStandard : List Step
+unmarkedStandard =
+    set-up 0x0020 0x0000
+    ++ (says (Write 3 0x0001) ok
+    ∷ says (Write 3 0x0002) ok
+    ∷ tickEdges 32
+    ++ (says (Read 0) (value 0x8041)
+    ∷ says (Read 3) (value 0x00FF)
+    ∷ says (Read 3) (refused 6)
+    ∷ says (Write 3 0x0003) ok
+    ∷ tickEdges 16
+    ++ (says (Read 3) (value 0x00FF) ∷ [])))
+
+abbrev pub markExamples : Bool
+markExamples = everyHolds (markedEnhanced ∷ unmarkedStandard ∷ [])
 
 -- Document 02, Three: frames.
 

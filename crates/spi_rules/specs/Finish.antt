@@ -1,6 +1,6 @@
 -- Document 01, "Finish, at edge 2w, in this order".
 use Prim.Native.Nat.{ℕ}
-use mathlib.Core.Bool.{Bool, true, not, _&&_}
+use mathlib.Core.Bool.{Bool, true, not, _&&_, _||_}
 use Rattle.spi_rules.specs.declared.Settings.{Settings}
 use Rattle.spi_rules.specs.declared.Engine.{Engine}
 use Rattle.spi_rules.specs.declared.Shift.the-variants.{Free}
@@ -8,26 +8,27 @@ use Rattle.spi_rules.specs.declared.Event.the-variants.{Appended, Finish
 use Rattle.spi_rules.specs.Choice.{if_then_else_}
 use Rattle.spi_rules.specs.Changes.{withReceive, withShift, withSpirov}
 use Rattle.spi_rules.specs.Settings.{depthOf, ssenClient}
-use Rattle.spi_rules.specs.Buffers.{full, appended}
+use Rattle.spi_rules.specs.Buffers.{full, appended, overrun}
 use Rattle.spi_rules.specs.Interrupts.{noted}
 use Rattle.spi_rules.specs.Loading.{wordLeaves, loaded, rested}
 
--- A received word is lost: it is dropped, and SPIROV stands from this step on.
-unfoldable pub overflowed : Engine → Engine
-overflowed n = withSpirov true n
+-- A received word is lost: it is dropped, SPIROV stands from this step on, and in enhanced operation so does the mark
+-- (document 02, Four).
+unfoldable pub overflowed : Settings → Engine → Engine
+overflowed s n = withSpirov true (withReceive (overrun (s .con2 .spiben) (n .receive)) n)
 
 -- A received word is appended, which is an event.
 unfoldable pub wordAppended : Settings → ℕ → Engine → Engine
 wordAppended s word n =
     noted s (Appended (appended (depthOf s) word (n .receive) .count)) (withReceive (appended (depthOf s) word (n .receive)) n)
 
--- When a received word is lost: it finds its buffer full.
+-- When a received word is lost: it finds its buffer full, or marked (document 02, Four).
 unfoldable pub isLost : Settings → Engine → Bool
-isLost s n = full (depthOf s) (n .receive .count)
+isLost s n = full (depthOf s) (n .receive .count) || n .receive .marked
 
 -- First: the received word.
 unfoldable pub delivered : Settings → ℕ → Engine → Engine
-delivered s word n = if isLost s n then overflowed n else wordAppended s word n
+delivered s word n = if isLost s n then overflowed s n else wordAppended s word n
 
 -- Second: an SSEN client drops its sent word from the transmit buffer, unless it was a filler.
 unfoldable pub sentDropped : Settings → Bool → Engine → Engine

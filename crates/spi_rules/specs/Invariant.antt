@@ -76,7 +76,7 @@ pub record Emptied (n : Engine) : Type 0 where
 abbrev pub RestHolds : Settings → Engine → Type 0
 RestHolds s n = s .spien ≡ true → ckeOf s ≡ true → isBegun (n .shift) ≡ false → n .pins .sdo ≡ nextTop s (n .transmit) (n .shift)
 
--- All of it but the pulse.
+-- All of it but the pulse and the mark.
 pub record ModuleHolds (m : Module) : Type 0 where
   pub settings : SettingsHold (m .settings)
   pub transmit : RingHolds (depthOf (m .settings)) (m .engine .transmit .write .0) (m .engine .transmit .read .0) (m .engine .transmit .count)
@@ -103,6 +103,11 @@ PulseFits s n (Begun p) =
 abbrev pub PulseHolds : Module → Type 0
 PulseHolds m = m .settings .spien ≡ true → m .engine .pins .pulse ≡ true → PulseFits (m .settings) (m .engine) (m .engine .shift)
 
+-- A marked receive buffer is one of enhanced operation, and full: no read takes a word from it.
+abbrev pub MarkFits : Settings → Engine → Type 0
+MarkFits s n = n .receive .marked ≡ true → (s .con2 .spiben ≡ true) × (n .receive .count ≡ depthOf s)
+
 pub record Reached (m : Module) : Type 0 where
   pub holds : ModuleHolds m
   pub pulse : PulseHolds m
+  pub mark : MarkFits (m .settings) (m .engine)

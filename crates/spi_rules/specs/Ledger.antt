@@ -4,7 +4,7 @@
 -- an edge the watcher also sees whether the module shows a frame pulse on its own SS pin.
 -- Nothing here knows registers or settings: what must be known of a module to watch it is the record Terms.
 use Prim.Native.Nat.{ℕ, _+_, _*_}
-use mathlib.Core.Bool.{Bool, true, false, _&&_}
+use mathlib.Core.Bool.{Bool, true, false, _&&_, _||_}
 use mathlib.Core.List.{List, [], _∷_, _++_}
 use mir.Val.{boolByte}
 use lib.Dec.{ltb, leb}
@@ -12,8 +12,9 @@ use lib.ListN.{length}
 use Rattle.spi_rules.specs.Choice.{if_then_else_}
 
 pub record Terms : Type 0 where
-  -- the words that the receive buffer holds
+  -- the words that the receive buffer holds, and whether nothing more is received after a loss
   pub depth : ℕ
+  pub marks : Bool
   -- the edges of a word at which SDO and SDI are sampled, and the edge that finishes it
   pub samples : ℕ → Bool
   pub last : ℕ
@@ -84,9 +85,18 @@ opened idle =
 unfoldable pub leftToSend : Ledger → Bool
 leftToSend l = ltb (length (sent l)) (length (l .accepted))
 
--- When a received word is dropped: the words received and not read are as many as the buffer holds.
+-- A word was lost: an arrival has its mark.
+abbrev pub anyMarked : List Passed → Bool
+anyMarked [] = false
+anyMarked (a ∷ rest) = a .marked || anyMarked rest
+
+abbrev pub hasLost : Ledger → Bool
+hasLost l = anyMarked (l .arrivals)
+
+-- When a received word is dropped: the words received and not read are as many as the buffer holds, or one was lost where
+-- nothing more is received then.
 unfoldable pub isDropped : Terms → Ledger → Bool
-isDropped t l = leb (length (l .read) + t .depth) (length (undropped l))
+isDropped t l = leb (length (l .read) + t .depth) (length (undropped l)) || (t .marks && hasLost l)
 
 -- A word that begins: the next accepted word, or a filler if none is left and the module is not silent then.
 unfoldable pub firstOnWire : Terms → Ledger → Wire

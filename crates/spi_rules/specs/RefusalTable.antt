@@ -1,4 +1,4 @@
--- Document 01, "What each refusal number says", with document 02, One and Three: the rows in the order of the tests, each in the
+-- Document 01, "What each refusal number says", with document 02, One, Three and Four: the rows in the order of the tests, each in the
 -- paper's words and by what a call asks for. specs/Demands.antt says that a call is refused exactly so.
 use Prim.Native.Nat.{ℕ}
 use mathlib.Core.Bool.{Bool, not, _&&_, _||_}
@@ -62,7 +62,7 @@ enables m c = not (m .settings .spien) && (writes 0 c && bitOf (asks c .value) 1
 abbrev pub clocksItself : Con1 → Bool
 clocksItself con1 = con1 .msten && not (con1 .dissck)
 
--- Register calls test 1, then 2 or 3, then 13, 14 and 15, 5 or 6; tick and pin calls test 2, then 7.
+-- Register calls test 1, then 2 or 3, then 13, 14 and 15, 5 or 16 and 6; tick and pin calls test 2, then 7.
 abbrev pub rows : Module → Call → List Row
 rows m c =
     let con1 : Con1 = m .settings .con1 in
@@ -80,6 +80,8 @@ rows m c =
     ∷ row 15 (enables m c && (not (m .settings .con2 .frmen) && (not (con1 .msten) && (con1 .cke && not (con1 .ssen)))))
     -- BUF write with the transmit buffer full
     ∷ row 5 (writes 3 c && leb (depthOf (m .settings)) (length (waitingIn m)))
+    -- BUF read with the receive buffer marked
+    ∷ row 16 (reads 3 c && m .engine .receive .marked)
     -- BUF read with the receive buffer empty
     ∷ row 6 (reads 3 c && eqb (length (unreadIn m)) 0)
     -- tick on a module clocked from its pin, pin call on a host with its own clock

@@ -5,7 +5,7 @@ use mathlib.Core.List.{List, [], _∷_}
 use lib.Dec.{eqb}
 use Rattle.spi_rules.specs.declared.Settings.{Settings}
 use Rattle.spi_rules.specs.declared.Refusal.{Refusal}
-use Rattle.spi_rules.specs.declared.Refusal.the-variants.{NoSuchRegister, Disabled, Enabled, TransmitFull, ReceiveEmpty, WrongClock, NoRate, UnreadableLine, DifferentModes, TooManyEdges, Undivided, LateSampling, UnselectedCke}
+use Rattle.spi_rules.specs.declared.Refusal.the-variants.{NoSuchRegister, Disabled, Enabled, TransmitFull, ReceiveEmpty, WrongClock, NoRate, UnreadableLine, DifferentModes, TooManyEdges, Undivided, LateSampling, UnselectedCke, Overflowed}
 use Rattle.spi_rules.specs.declared.Answer.{Answer}
 use Rattle.spi_rules.specs.declared.Answer.the-variants.{Refused, Done, Value, NoEdge, Edge}
 use Rattle.spi_rules.specs.declared.Said.{Said}
@@ -43,6 +43,8 @@ numberOf Undivided = 13
 numberOf LateSampling = 14
 -- an unframed client has CKE and no SSEN
 numberOf UnselectedCke = 15
+-- Request Four: a BUF read while the receive buffer is marked
+numberOf Overflowed = 16
 
 -- What an answer says in the paper's numbers. Its kind has a number of its own, so that no two answers say the same.
 abbrev pub saidOf : Answer → Said

@@ -20,13 +20,14 @@ use Rattle.spi_rules.specs.Edge.{Levels, levels}
 use Rattle.spi_rules.specs.Calls.{performOf, ssOf}
 use Rattle.spi_rules.specs.Ledger.{Terms, Ledger, opened, selectNoted, edgeNoted, acceptedNoted, readNoted}
 
--- A word takes 2w edges and begins at one that is not to the level CKP; an unframed host and a frame host send no fillers; an
+-- In enhanced operation a loss ends reception (document 02, Four). A word takes 2w edges and begins at one that is not to the level CKP; an unframed host and a frame host send no fillers; an
 -- SSEN client is deaf while its select is high. A framed module begins nothing without a pulse: a frame host with FRMDLY 1
 -- with the pulse that it shows after the edge, the others with the one that stood before it.
 abbrev pub terms : Settings → Terms
 terms s =
     record {
       depth = depthOf s;
+      marks = s .con2 .spiben;
       samples = samples (ckeOf s);
       last = 2 * widthOf s;
       idle = λ sck. Bool·beq sck (s .con1 .ckp);

@@ -22,12 +22,14 @@ pub struct Transmit {
     pub count: u8,
 }
 
-// The received words not yet read: `count` of them, the first at `read`.
+// The received words not yet read: `count` of them, the first at `read`. The mark stands from an overflow in enhanced
+// operation until the module is disabled.
 pub struct Receive {
     pub words: [u16; 8],
     pub write: SpiWrite,
     pub read: CpuRead,
     pub count: u8,
+    pub marked: bool,
 }
 
 // A word between its first edge and its last: a filler or an accepted word, the edges it was given, and the bits
@@ -129,6 +131,7 @@ pub enum Refusal {
     Undivided,
     LateSampling,
     UnselectedCke,
+    Overflowed,
 }
 
 // What a call answers: a refusal, nothing to tell, a register's value, no edge, or one edge made.

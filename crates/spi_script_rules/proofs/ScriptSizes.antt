@@ -17,7 +17,7 @@ use lib.ListN.{length, length-append}
 use Rattle.spi_rules.specs.declared.Module.{Module}
 use Rattle.spi_script_rules.specs.declared.Session.{Session}
 use Rattle.spi_rules.specs.declared.Refusal.{Refusal}
-use Rattle.spi_rules.specs.declared.Refusal.the-variants.{NoSuchRegister, Disabled, Enabled, TransmitFull, ReceiveEmpty, WrongClock, NoRate, UnreadableLine, DifferentModes, TooManyEdges, Undivided, LateSampling, UnselectedCke}
+use Rattle.spi_rules.specs.declared.Refusal.the-variants.{NoSuchRegister, Disabled, Enabled, TransmitFull, ReceiveEmpty, WrongClock, NoRate, UnreadableLine, DifferentModes, TooManyEdges, Undivided, LateSampling, UnselectedCke, Overflowed}
 use Rattle.spi_rules.specs.declared.Answer.{Answer}
 use Rattle.spi_rules.specs.declared.Answer.the-variants.{Refused, Done, Value, NoEdge, Edge}
 use Rattle.spi_rules.specs.declared.Call.{Call}
@@ -61,6 +61,7 @@ number-below TooManyEdges = omega arith
 number-below Undivided = omega arith
 number-below LateSampling = omega arith
 number-below UnselectedCke = omega arith
+number-below Overflowed = omega arith
 
 pub refused-length : (r : Refusal) → length (refusedText r) ≤ 4
 unfolding refusedText decimalOf

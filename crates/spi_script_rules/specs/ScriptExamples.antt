@@ -1,10 +1,11 @@
--- Document 01, "The script program": its worked example, and scripts for what the rules say besides, with document 02, Three,
--- each with the output that the papers give it. proofs/ScriptExamplesHold.antt proves them together, as one list.
-use Prim.Native.Nat.{ℕ}
+-- Document 01, "The script program": its worked example, and scripts for what the rules say besides, with document 02, Three
+-- and Four, each with the output that the papers give it. proofs/ScriptExamplesHold.antt proves them together.
+use Prim.Native.Nat.{ℕ, zero, suc, _-_}
 use Prim.Native.String.{String}
 use mathlib.Core.Bool.{Bool, true, false, _&&_}
-use mathlib.Core.List.{List, [], _∷_}
+use mathlib.Core.List.{List, [], _∷_, _++_}
 use lib.Dec.{eqb}
+use lib.ListN.{length, drop}
 use Rattle.spi_script_rules.specs.Script.{bytes, scriptOutput}
 
 -- A script and what it prints.
@@ -72,6 +73,45 @@ scripts =
     ∷ record { input = "W 1 003F\nW 2 8000\nW 0 8000\nW 1 0200\nW 0 8000\nW 1 0100\nW 0 8000\nW 0 0000\nW 2 0000\nW 0 8000\n"; output = "1 OK\n2 OK\n3 E 13\n4 OK\n5 E 14\n6 OK\n7 OK\n8 OK\n9 OK\n10 E 15\n" }
     ∷ []
 
+-- Document 02, Four: long scripts, of parts that repeat, and what they print last.
+pub record LongScript : Type 0 where
+  pub input : List ℕ
+  pub last : String
+
+abbrev pub repeated : ℕ → String → List ℕ
+repeated zero part = []
+repeated (suc count) part = bytes part ++ repeated count part
+
+abbrev pub endsIn : List ℕ → List ℕ → Bool
+endsIn output last = sameBytes (drop (length output - length last) output) last
+
+abbrev pub allEnd : List LongScript → Bool
+allEnd [] = true
+allEnd (s ∷ rest) = endsIn (scriptOutput (s .input)) (bytes (s .last)) && allEnd rest
+
+-- An enhanced host sends nine words and eight are held: their read gives 16, also after SPIROV is cleared.
+abbrev pub overflowing : List ℕ
+overflowing =
+    bytes "W 1 0020\nW 2 0001\nW 0 8000\n"
+    ++ (repeated 9 "W 3 0001\n" ++ (repeated 144 "T 1\n" ++ bytes "R 0\nR 3\nW 0 8000\nR 0\nR 3\n"))
+
+abbrev pub longScripts : List LongScript
+longScripts =
+    record { input = overflowing; last = "156 0 1 0\n157 80C1\n158 E 16\n159 OK\n160 8081\n161 E 16\n" }
+    -- a word that finishes then is dropped and sets SPIROV again; disabling takes the mark away
+    ∷ record {
+      input =
+          overflowing
+          ++ (bytes "W 3 0055\n" ++ (repeated 16 "T 1\n" ++ bytes "R 0\nR 3\nW 0 0000\nR 3\nW 0 8000\nR 3\nR 0\n"));
+      last = "178 0 1 0\n179 80C1\n180 E 16\n181 OK\n182 E 2\n183 OK\n184 E 6\n185 80A0\n";
+    }
+    -- in standard operation the first word is read after an overflow
+    ∷ record {
+      input = bytes "W 1 0020\nW 0 8000\nW 3 0001\nW 3 0002\n" ++ (repeated 32 "T 1\n" ++ bytes "R 0\nR 3\nR 3\n");
+      last = "36 0 0 1\n37 8041\n38 00FF\n39 E 6\n";
+    }
+    ∷ []
+
 -- All of them.
 abbrev pub scriptExamples : Bool
-scriptExamples = allPrint scripts
+scriptExamples = allPrint scripts && allEnd longScripts

@@ -29,6 +29,7 @@ pub fn refusal_number(r: Refusal) -> u8
         Refusal::Undivided => 13,
         Refusal::LateSampling => 14,
         Refusal::UnselectedCke => 15,
+        Refusal::Overflowed => 16,
     }
 }
 

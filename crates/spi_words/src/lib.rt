@@ -86,14 +86,16 @@ pub fn accept_word(w: &mut [u16; 96], word: u16)
     rest(w);
 }
 
-// A received word is appended, or lost with SPIROV set.
+// A received word is appended. A full or marked buffer takes none: the word is lost, which sets SPIROV and in enhanced operation
+// the mark.
 fn deliver(w: &mut [u16; 96], word: u16)
     ensures { λ _. ⌜ Steps (λ s. delivered s word) (now (w .entry)) (now (w .exit)) ⌝ }
 {
     let s = spi_memory::settings_in(w);
     let r = spi_memory::receive_in(w);
     let depth = spi_settings::depth(s);
-    if depth <= r.count {
+    if (depth <= r.count) | r.marked {
+        spi_memory::store_mark(w, r.marked | s.con2.spiben);
         spi_memory::store_spirov(w, true);
     } else {
         let more = spi_buffers::with_appended(depth, word, r);

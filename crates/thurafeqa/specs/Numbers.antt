@@ -78,10 +78,10 @@ pub record ClockTells (s : ClockSaid) (r : ℕ) (before after : List Float) : Ty
   pub number : r ≡ clockNumber s
   pub report : after ≡ (if eqb (s .number) 0 then clockFloats s else before)
 
--- The library's version, 3.0.0: the major number times 65,536, the minor one times 256, and the patch.
+-- The library's version, 4.0.0: the major number times 65,536, the minor one times 256, and the patch.
 abbrev pub versionNumber : ℕ
-versionNumber = 3 * 65536 + 0 * 256 + 0
+versionNumber = 4 * 65536 + 0 * 256 + 0
 
 -- The number of the memory's format: it rises wherever the meaning of memory (crates/spi_memory/specs/Memory.antt) changes.
 abbrev pub formatNumber : ℕ
-formatNumber = 2
+formatNumber = 3

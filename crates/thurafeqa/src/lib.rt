@@ -161,7 +161,7 @@ pub extern "C" fn thurafeqa_clock(w: &[u16; 96], rate: u32, report: &mut [f64; 3
 pub extern "C" fn thurafeqa_version() -> u32
     ensures { λ r. ⌜ r ≡ versionNumber ⌝ }
 {
-    196608
+    262144
 }
 
 // The number of the memory's format: it rises wherever the meaning of the 96 numbers changes.
@@ -169,5 +169,5 @@ pub extern "C" fn thurafeqa_version() -> u32
 pub extern "C" fn thurafeqa_format() -> u32
     ensures { λ r. ⌜ r ≡ formatNumber ⌝ }
 {
-    2
+    3
 }

@@ -1,13 +1,13 @@
 -- The definition, part by part.
 use borrow.Author.Needs.{needs}
-use Rattle.spi_memory.specs.Memory.{byteIn, engineIn}
+use Rattle.spi_memory.specs.Memory.{bitIn, byteIn, engineIn}
 use Rattle.spi_memory.proofs.receive_in.Statement.{statement}
 use Rattle.spi_memory.proofs.receive_in.Tie as tie
 
 returns : tie.Need-returns
-unfolding byteIn engineIn
+unfolding bitIn byteIn engineIn
 returns c =
-    let words-in = c .before .before .before .words-in .ensures in
+    let words-in = c .before .before .before .before .words-in .ensures in
     rw words-in
 
 pub receive-in-spec : {M : Type 1} → statement M
@@ -15,5 +15,5 @@ receive-in-spec =
     tie.close
     (tie.spec
     (λ c κs. search needs) (λ c. search needs) (λ c. search needs) (λ c. search needs) (λ c. search needs)
-    (λ c. search needs) (λ c. search needs)
+    (λ c. search needs) (λ c. search needs) (λ c. search needs)
     returns)

@@ -1,36 +1,38 @@
 -- The branch is the choice of the definition.
 use borrow.Author.Needs.{needs}
-use mathlib.Core.Path.{refl}
+use Rattle.spi_rules.specs.Buffers.{overrun}
 use Rattle.spi_rules.specs.Finish.{overflowed, wordAppended, isLost, delivered}
-use Rattle.spi_rules.proofs.Choices.{so-le, not-so-le}
+use Rattle.spi_rules.proofs.Choices.{so, not-so}
 use Rattle.spi_memory.proofs.Taken.{_then_, alike}
 use Rattle.spi_words.proofs.deliver.Statement.{statement}
 use Rattle.spi_words.proofs.deliver.Tie as tie
 
 returns : tie.Need-returns
-unfolding overflowed isLost delivered
+unfolding overrun overflowed isLost delivered
 returns c =
-    let depth = c .before .before .before .before .depth .ensures in
-    let settings-in = c .before .before .before .before .before .before .before .settings-in .ensures in
-    let receive-in = c .before .before .before .before .before .receive-in .ensures in
-    alike (c .store-spirov .ensures) (so-le _ _ _ _ (rw (depth, settings-in, receive-in) at (c .before .before .if1 .taken)) refl)
+    let depth = c .before .before .before .before .before .before .before .before .before .depth .ensures in
+    let settings-in = c .before .before .before .before .before .before .before .before .before .before .before .before .settings-in .ensures in
+    let receive-in = c .before .before .before .before .before .before .before .before .before .before .receive-in .ensures in
+    let if1 = c .before .before .before .before .before .before .if1 .taken in
+    alike ((c .before .before .store-mark .ensures) then (c .store-spirov .ensures))
+    (so _ _ _ (rw (depth, settings-in, receive-in) at if1) (rw (receive-in, settings-in)))
 
 returns-2 : tie.Need-returns-2
 unfolding wordAppended isLost delivered
 returns-2 c =
-    let depth = c .before .before .before .before .before .before .before .depth .ensures in
-    let settings-in = c .before .before .before .before .before .before .before .before .before .before .settings-in .ensures in
-    let receive-in = c .before .before .before .before .before .before .before .before .receive-in .ensures in
+    let depth = c .before .before .before .before .before .before .before .before .depth .ensures in
+    let settings-in = c .before .before .before .before .before .before .before .before .before .before .before .settings-in .ensures in
+    let receive-in = c .before .before .before .before .before .before .before .before .before .receive-in .ensures in
     let if1 = c .before .before .before .before .before .if1 .left in
     let with-appended = c .before .before .before .before .with-appended .ensures in
     alike ((c .before .before .store-receive .ensures) then (c .note .ensures))
-    (not-so-le _ _ _ _ (rw (depth, settings-in, receive-in) at if1) (rw (with-appended, receive-in, depth, settings-in)))
+    (not-so _ _ _ (rw (depth, settings-in, receive-in) at if1) (rw (with-appended, receive-in, depth, settings-in)))
 
 pub deliver-spec : {M : Type 1} → statement M
 deliver-spec =
     tie.close
     (tie.spec
     (λ c κs. search needs) (λ c κs. search needs) (λ c κs. search needs) (λ c κs. search needs)
-    (λ c κs. search needs) (λ c κs. search needs) (λ c κs. search needs)
+    (λ c κs. search needs) (λ c κs. search needs) (λ c κs. search needs) (λ c κs. search needs)
     returns
     returns-2)
