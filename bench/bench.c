@@ -21,6 +21,8 @@ static const struct {
     {"SSEN client, 16 bits, CKE 1", "edge", 2000},
     {"linked pair, 8 words of 16 bits", "edge", 150},
     {"register calls", "call", 1000},
+    {"trace, sections played", "call", 6},
+    {"trace of 16,000 records", "call", 4},
 };
 
 static const struct side *const sides[2] = {&library_side, &plain_side};

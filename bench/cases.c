@@ -174,6 +174,114 @@ static struct outcome registers(uint32_t times)
     return o;
 }
 
+/* ---- traces -------------------------------------------------------------- */
+
+/* A file with up to three sections, and the length of each in bytes. */
+struct file {
+    size_t length;
+    uint8_t byte[65535];
+};
+
+enum { KIND_WRITE, KIND_READ, KIND_TICK, KIND_PINS, KIND_CLEAR, KIND_PLAY };
+
+static void put(struct file *f, uint32_t kind, uint32_t argument,
+                uint32_t value)
+{
+    f->byte[f->length++] = (uint8_t)kind;
+    f->byte[f->length++] = (uint8_t)argument;
+    f->byte[f->length++] = (uint8_t)value;
+    f->byte[f->length++] = (uint8_t)(value >> 8);
+}
+
+/* The table of contents, the sections' lengths being known. */
+static void begin(struct file *f, uint32_t sections, const uint32_t *length)
+{
+    uint32_t at = 2 + 8 * sections, s;
+
+    f->byte[0] = (uint8_t)sections;
+    f->byte[1] = 0;
+    f->length = 2;
+    for (s = 0; s < sections; s++) {
+        put(f, at & 0xFF, at >> 8, 0);
+        put(f, length[s] & 0xFF, length[s] >> 8, 0);
+        at += length[s];
+    }
+}
+
+static void put_host(struct file *f)
+{
+    put(f, KIND_WRITE, CON1, MSTEN);
+    put(f, KIND_WRITE, CON2, SPIBEN);
+    put(f, KIND_WRITE, STAT, 0x8000);
+}
+
+/* Plays a file many times; the units are the calls that it makes. */
+static struct outcome played(const struct file *f, uint32_t times)
+{
+    struct outcome o = {0, 0};
+    uint32_t calls;
+    module m;
+
+    power_up(OF(m));
+    while (times-- > 0) {
+        calls = play(OF(m), f->byte, f->length);
+        o.units += calls;
+        o.sum = SEEN(m, mixed(o.sum, calls));
+    }
+    return o;
+}
+
+/* A host that sends and reads 200 words of 8 bits: a section for a word plays
+ * 16 times a section for an edge and a look at STAT. */
+static struct outcome trace_played(uint32_t times)
+{
+    static const uint32_t length[] = {16, 12, 8};
+    static struct file f;
+
+    if (f.length == 0) {
+        begin(&f, 3, length);
+        put_host(&f);
+        put(&f, KIND_PLAY, 1, 200);
+        put(&f, KIND_WRITE, BUF, 0xA5);
+        put(&f, KIND_PLAY, 2, 16);
+        put(&f, KIND_READ, BUF, 0);
+        put(&f, KIND_TICK, 1, 0);
+        put(&f, KIND_READ, STAT, 0);
+    }
+    return played(&f, times);
+}
+
+/* The same without sections that are played: each record is one call. */
+static struct outcome trace_long(uint32_t times)
+{
+    static const uint32_t length = 4 * 16000;
+    static struct file f;
+    uint32_t i;
+
+    if (f.length == 0) {
+        begin(&f, 1, &length);
+        put_host(&f);
+        for (i = 3; i < 16000; i++) {
+            switch (i % 34) {
+            case 3:
+                put(&f, KIND_WRITE, BUF, i);
+                break;
+            case 2:
+                put(&f, KIND_READ, BUF, 0);
+                break;
+            default:
+                if (i % 2 == 0)
+                    put(&f, KIND_TICK, i >> 1 & 1, 0);
+                else
+                    put(&f, KIND_READ, STAT, 0);
+                break;
+            }
+        }
+    }
+    return played(&f, times);
+}
+
 const struct side EITHER(library_side, plain_side) = {
     EITHER("library", "plain C"),
-    {busy_host, frame_host, client_8, client_16, linked_pair, registers}};
+    {busy_host, frame_host, client_8, client_16, linked_pair, registers,
+     trace_played, trace_long}};

@@ -18,6 +18,8 @@ enum {
     CLIENT_16,
     LINKED_PAIR,
     REGISTERS,
+    TRACE_PLAYED,
+    TRACE_LONG,
     CASES
 };
 

@@ -1,12 +1,14 @@
 /* Random calls to the plain C module, to the second model in tests/model and,
- * if built with LIBRARY, to the proved library: after every call the answers,
- * the registers and the levels must be the same. So what is measured is one
- * module, written twice.
+ * if built with LIBRARY, to the proved library, plays of trace files among them:
+ * after every call the answers, the registers and the levels must be the same.
+ * So what is measured is one module, written twice.
  *
  * usage: check [seed] [calls]
  */
-#include "plain_spi.h"
+#include "plain_trace.h"
 #include "ref_spi.h"
+#include "some_trace.h"
+#include "trace.h"
 #ifdef LIBRARY
 #include "library.h"
 #endif
@@ -17,9 +19,25 @@
 
 #define MODULES 3
 
-enum kind { READ, WRITE, TICK, PINS, CLEAR, LEVELS, LINKED, CLOCK, KINDS };
-static const char *const names[KINDS] = {"read",  "write",  "tick",   "pins",
-                                         "clear", "levels", "linked", "clock"};
+enum kind {
+    READ,
+    WRITE,
+    TICK,
+    PINS,
+    CLEAR,
+    LEVELS,
+    LINKED,
+    CLOCK,
+    PLAY,
+    KINDS
+};
+static const char *const names[KINDS] = {
+    "read", "write", "tick", "pins", "clear", "levels", "linked", "clock",
+    "play"};
+
+/* The file of a play, made from the call's first number. */
+static uint8_t file[SOME_TRACE_BYTES];
+static size_t length;
 
 /* A call on module i, and in a linked run on module j. */
 struct call {
@@ -44,7 +62,7 @@ static uint64_t told(uint32_t number, uint32_t kind, double rate,
 }
 
 static struct ref_spi ref[MODULES];
-static unsigned long refused[17], edges, overflows, fillers, aborts;
+static unsigned long refused[20], plays, edges, overflows, fillers, aborts;
 static unsigned long given, sampled, framed_words, marks, unmarked;
 
 static uint64_t ask_ref(const struct call *c)
@@ -80,6 +98,10 @@ static uint64_t ask_ref(const struct call *c)
         break;
     case LINKED:
         number = ref_linked(m, &ref[c->j], c->a, &value);
+        break;
+    case PLAY:
+        number = trace_play(m, file, length, &value);
+        plays += number == 0;
         break;
     default:
         number = ref_clock(m, c->a, &kind, &rate, &bittime);
@@ -117,6 +139,8 @@ static uint64_t ask_plain(const struct call *c)
         return plain_levels(m);
     case LINKED:
         return plain_linked(m, &plain[c->j], c->a);
+    case PLAY:
+        return plain_play(m, file, length);
     default:
         said = plain_report(m, c->a);
         return told(said.number, said.kind, said.rate, said.bittime,
@@ -149,6 +173,8 @@ static uint64_t ask_library(const struct call *c)
         return thurafeqa_levels(m);
     case LINKED:
         return thurafeqa_linked(m, library[c->j], c->a);
+    case PLAY:
+        return thurafeqa_play(m, file, length);
     default:
         answer = thurafeqa_clock(m, c->a, &said);
         return told(answer >> 16, answer & 0xFFFF, said.rate, said.bittime,
@@ -187,6 +213,8 @@ static uint64_t ask(enum kind kind, int i, int j, uint32_t a, uint32_t b,
     call.a = a;
     call.b = b;
     call.c = c;
+    if (kind == PLAY)
+        length = some_trace(a, file);
     want = ask_ref(&call);
     marks += (!marked && ref[i].mark) + (!other && ref[j].mark && j != i);
     unmarked += marked && !ref[i].mark;
@@ -318,6 +346,8 @@ static void any(int i)
         break;
     case 5:
         ask(CLOCK, i, 0, one_in(9) ? 0 : value, 0, 0);
+        if (one_in(20))
+            ask(PLAY, i, 0, value, 0, 0);
         break;
     case 6:
         if (one_in(4)) /* fill, or read all */
@@ -355,11 +385,12 @@ int main(int argc, char **argv)
 
     printf("check: ok: %lu random calls: %lu edges, %lu fillers, %lu aborts, "
            "%lu overflows, %lu marks set and %lu cleared; framed: "
-           "%lu words, %lu pulses given, %lu sampled; refused",
+           "%lu words, %lu pulses given, %lu sampled; %lu traces played; "
+           "refused",
            calls, edges, fillers, aborts, overflows, marks, unmarked,
-           framed_words, given, sampled);
-    for (i = 1; i < 17; i++)
+           framed_words, given, sampled, plays);
+    for (i = 1; i < 20; i++)
         if (i != 4 && i != 9 && i != 12) /* no call gives these */
-            printf(" %d: %lu%s", i, refused[i], i < 16 ? "," : "\n");
+            printf(" %d: %lu%s", i, refused[i], i < 19 ? "," : "\n");
     return 0;
 }

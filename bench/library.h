@@ -3,6 +3,7 @@
 #ifndef LIBRARY_H
 #define LIBRARY_H
 
+#include <stddef.h>
 #include <stdint.h>
 
 #define THURAFEQA_NUMBERS 96
@@ -21,5 +22,6 @@ struct thurafeqa_clock {
 };
 uint32_t thurafeqa_clock(const uint16_t *m, uint32_t rate,
                          struct thurafeqa_clock *report);
+uint32_t thurafeqa_play(uint16_t *m, const uint8_t *file, size_t length);
 
 #endif

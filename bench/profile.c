@@ -19,7 +19,11 @@ static uint32_t answers;
 
 int main(void)
 {
-    module host, client, other, framed;
+    static const uint8_t empty[10] = {1, 0, 10};
+    static const uint8_t few[26] = {1, 0, 10, 0,  0, 0, 16,   0, 0, 0, 0, 1, 0x20,
+                                    0, 0, 0,  0, 0x80, 0, 3, 0xA5, 0, 2, 1};
+    static const uint8_t wrong[14] = {1, 0, 10, 0, 0, 0, 4, 0, 0, 0, 6};
+    module host, client, other, framed, played;
     int i;
 
     START(host, MSTEN | MODE16);
@@ -59,6 +63,11 @@ int main(void)
     CALL("frame host: tick, last bit", tick(OF(framed), 1, 0));
     CALL("frame host: tick, last edge", tick(OF(framed), 1, 0));
     CALL("frame host: levels", levels(OF(framed)));
+
+    power_up(OF(played));
+    CALL("play of an empty trace", play(OF(played), empty, sizeof empty));
+    CALL("play of 4 calls", play(OF(played), few, sizeof few));
+    CALL("play that is refused, 18", play(OF(played), wrong, sizeof wrong));
 
     START(client, SSEN);
     CALL("SSEN client: BUF write", write_register(OF(client), BUF, 0xA5));

@@ -16,8 +16,9 @@ typedef uint16_t module[THURAFEQA_NUMBERS];
 #define clear thurafeqa_clear
 #define levels thurafeqa_levels
 #define linked thurafeqa_linked
+#define play thurafeqa_play
 #else
-#include "plain_spi.h"
+#include "plain_trace.h"
 #define EITHER(library, plain) plain
 typedef struct plain_spi module;
 #define OF(m) (&(m))
@@ -29,6 +30,7 @@ typedef struct plain_spi module;
 #define clear plain_clear
 #define levels plain_levels
 #define linked plain_linked
+#define play plain_play
 #endif
 
 enum { STAT, CON1, CON2, BUF };

@@ -58,7 +58,7 @@ pub mod register {
 
 /// The version of this file: major, minor and patch numbers. [`version`] tells the library's.
 #[allow(dead_code)]
-pub const VERSION: (u8, u8, u8) = (4, 0, 0);
+pub const VERSION: (u8, u8, u8) = (4, 1, 0);
 
 /// The format of a module's words. It rises wherever their meaning changes, so save it beside them.
 #[allow(dead_code)]
@@ -78,7 +78,8 @@ struct ClockReport {
 }
 
 // Each takes any module and any numbers, and ends. What else a caller owes, Rust's references bring along: no null, no
-// call on a module while another changes it, and two different modules in a linked run. So all are safe.
+// call on a module while another changes it, and two different modules in a linked run. So all are safe but one, which
+// takes a slice apart: its pointer must have as many bytes as its length says, and none of them in the module.
 unsafe extern "C" {
     safe fn thurafeqa_power_up(m: &mut Module);
     safe fn thurafeqa_read(m: &mut Module, register: u32) -> u32;
@@ -89,6 +90,7 @@ unsafe extern "C" {
     safe fn thurafeqa_levels(m: &Module) -> u32;
     safe fn thurafeqa_linked(host: &mut Module, client: &mut Module, limit: u32) -> u32;
     safe fn thurafeqa_clock(m: &Module, rate: u32, report: &mut ClockReport) -> u32;
+    unsafe fn thurafeqa_play(m: &mut Module, file: *const u8, length: usize) -> u32;
     safe fn thurafeqa_version() -> u32;
     safe fn thurafeqa_format() -> u32;
 }
@@ -126,6 +128,12 @@ pub enum Refusal {
     /// BUF is read in enhanced operation, and a received word was lost since the module was enabled. Disable it and enable it
     /// again.
     Overflowed = 16,
+    /// A trace's section count, its table of contents or its length is wrong.
+    BadContents = 17,
+    /// A record of a trace is wrong.
+    BadRecord = 18,
+    /// A trace would make more than 65,535 calls.
+    TooManyCalls = 19,
 }
 
 impl Refusal {
@@ -134,7 +142,8 @@ impl Refusal {
         use Refusal::*;
         #[rustfmt::skip]
         let all = [NoSuchRegister, Disabled, Enabled, TransmitFull, ReceiveEmpty, WrongClock, NoRate, UnreadableLine,
-            DifferentModes, TooManyEdges, Undivided, LateSampling, UnselectedCke, Overflowed];
+            DifferentModes, TooManyEdges, Undivided, LateSampling, UnselectedCke, Overflowed, BadContents, BadRecord,
+            TooManyCalls];
         all.iter().copied().find(|r| *r as u32 == number)
     }
 
@@ -154,6 +163,9 @@ impl Refusal {
             Refusal::LateSampling => "late sampling is not modelled",
             Refusal::UnselectedCke => "a client with CKE needs SSEN",
             Refusal::Overflowed => "received words were lost in enhanced operation",
+            Refusal::BadContents => "the trace's table of contents or length is wrong",
+            Refusal::BadRecord => "a record of the trace is wrong",
+            Refusal::TooManyCalls => "the trace would make more than 65,535 calls",
         }
     }
 }
@@ -327,6 +339,16 @@ impl Module {
         value(thurafeqa_linked(self, client, limit))
     }
 
+    /// Plays a trace file: this module is powered up, then section 0 is played on it. How many calls were made, refused ones
+    /// and each repeat of a section included? A call in it that is refused changes nothing, and play goes on. If the trace
+    /// itself is refused, this module is as it was.
+    ///
+    /// Refused: `BadContents`, `BadRecord`, `TooManyCalls`.
+    pub fn play(&mut self, file: &[u8]) -> Result<u16, Refusal> {
+        // SAFETY: the pointer and the length are a slice's, which no module that can be changed overlaps
+        value(unsafe { thurafeqa_play(self, file.as_ptr(), file.len()) })
+    }
+
     /// The clock report for an instruction rate.
     ///
     /// Refused: `NoRate`.
@@ -355,10 +377,11 @@ mod thurafeqa_tests {
 
     #[test]
     fn numbers_mean_what_the_header_says() {
-        assert_eq!((1..17).filter_map(Refusal::from_number).map(|r| r as u32).sum::<u32>(), 136 - 4 - 12);
-        assert_eq!([0, 4, 12, 17].map(Refusal::from_number), [None; 4]);
+        assert_eq!((1..20).filter_map(Refusal::from_number).map(|r| r as u32).sum::<u32>(), 190 - 4 - 12);
+        assert_eq!([0, 4, 12, 20].map(Refusal::from_number), [None; 4]);
         assert_eq!((value(0), value(0xFFFF), value(0x6_0000)), (Ok(0), Ok(0xFFFF), Err(Refusal::ReceiveEmpty)));
         assert_eq!(value(0x10_0000), Err(Refusal::Overflowed));
+        assert_eq!(value(0x13_0000), Err(Refusal::TooManyCalls));
         assert_eq!([3, 7, 8, 11, 12].map(sdo), [Sdo::Undriven, Sdo::Undriven, Sdo::Low, Sdo::Low, Sdo::High]);
         assert_eq!([15, 31, 32, 47, 48].map(ss), [Ss::Undriven, Ss::Undriven, Ss::Low, Ss::Low, Ss::High]);
         let said = |answer| clock(answer, ClockReport { rate: 5e6, bittime: 2e-7, below: 4e7 });

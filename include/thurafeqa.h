@@ -36,7 +36,8 @@
  * THURAFEQA_FORMAT: memory of another format must not be restored.
  *
  * Every call takes any module and any argument, and ends. It asks only this:
- * - pointers are not null, and each points to a whole thurafeqa;
+ * - pointers are not null, and each points to a whole thurafeqa, a whole report
+ *   or, in thurafeqa_play, as many bytes as it says, outside of the module;
  * - the two modules of a linked run are two different objects;
  * - no call runs on a module while another changes it. Calls on different
  *   modules may run at the same time.
@@ -49,6 +50,7 @@
 #ifndef THURAFEQA_H
 #define THURAFEQA_H
 
+#include <stddef.h>
 #include <stdint.h>
 
 #ifdef __cplusplus
@@ -59,7 +61,7 @@ extern "C" {
  * must have the same major number, and the library's minor number must not be
  * lower. */
 #define THURAFEQA_VERSION_MAJOR 4u
-#define THURAFEQA_VERSION_MINOR 0u
+#define THURAFEQA_VERSION_MINOR 1u
 #define THURAFEQA_VERSION_PATCH 0u
 #define THURAFEQA_VERSION                                                      \
     (THURAFEQA_VERSION_MAJOR << 16 | THURAFEQA_VERSION_MINOR << 8 |            \
@@ -95,6 +97,9 @@ typedef char thurafeqa_has_192_bytes[sizeof(thurafeqa) == 192 ? 1 : -1];
 #define THURAFEQA_LATE_SAMPLING 14u   /* enabling: SMP is set */
 #define THURAFEQA_UNSELECTED_CKE 15u  /* enabling: client, CKE, no SSEN */
 #define THURAFEQA_OVERFLOWED 16u      /* BUF read: words lost with SPIBEN */
+#define THURAFEQA_BAD_CONTENTS 17u    /* trace: table of contents, length */
+#define THURAFEQA_BAD_RECORD 18u      /* trace: a record is wrong */
+#define THURAFEQA_TOO_MANY_CALLS 19u  /* trace: more than 65,535 calls */
 
 /* The refusal number of an answer, 0 if the call was done. */
 static inline uint16_t thurafeqa_refusal(uint32_t answer)
@@ -102,7 +107,7 @@ static inline uint16_t thurafeqa_refusal(uint32_t answer)
     return (uint16_t)(answer >> 16);
 }
 
-/* What an answer tells: a register's value, or a number of edges. */
+/* What an answer tells: a register's value, or a number of edges or calls. */
 static inline uint16_t thurafeqa_value(uint32_t answer)
 {
     return (uint16_t)(answer & 0xFFFFu);
@@ -233,6 +238,18 @@ typedef struct {
  * it was. */
 uint32_t thurafeqa_clock(const thurafeqa *m, uint32_t rate,
                          thurafeqa_clock_report *report);
+
+/* Plays a trace file: a list of register calls, ticks, pin calls and clears in
+ * sections, which can play each other; docs/PORTING.md has its form. `file`
+ * points to its `length` bytes, and is not null even if there are none. The
+ * module is powered up, then section 0 is played on it; the answer's value is
+ * the number of calls made, refused ones and each repeat of a section included.
+ * A call in it that is refused changes nothing, and play goes on.
+ * All is tested before anything is played: a refused play leaves the module as
+ * it was, without power-up.
+ * Refusals: 17 (the section count, the table of contents or the file's length),
+ * then 18 (a record), then 19 (it would make more than 65,535 calls). */
+uint32_t thurafeqa_play(thurafeqa *m, const uint8_t *file, size_t length);
 
 /* The version of the library, in the form of THURAFEQA_VERSION, and the number
  * of the format that it reads and writes. */

@@ -1,12 +1,14 @@
 /* The library's calls as records, and random numbers. */
 #include "calls.h"
+#include "some_trace.h"
 
 #include <inttypes.h>
 #include <stdio.h>
 #include <string.h>
 
-const char *const kind_name[KINDS] = {"power-up", "read",  "write",  "tick",
-                                      "pins",     "clear", "linked", "clock"};
+const char *const kind_name[KINDS] = {"power-up", "read",   "write",
+                                      "tick",     "pins",   "clear",
+                                      "linked",   "clock",  "play"};
 const char *const view_name[VIEWS] = {"STAT", "CON1", "CON2", "BUF", "levels"};
 
 const thurafeqa_clock_report no_report = {-1, -2, -3};
@@ -20,6 +22,34 @@ int is_given(uint32_t number)
 {
     return number >= 1 && number < REFUSALS && number != 4 && number != 12 &&
            number != THURAFEQA_UNREADABLE_LINE;
+}
+
+void bring_file(struct call *c)
+{
+    static uint8_t file[SOME_TRACE_BYTES];
+    static uint32_t number;
+    static size_t length;
+    static int there;
+
+    if (!there || number != c->x)
+        length = some_trace(c->x, file);
+    there = 1;
+    number = c->x;
+    c->file = file;
+    c->length = length;
+}
+
+static void print_file(const struct call *c)
+{
+    struct call d = *c;
+    size_t i;
+
+    bring_file(&d);
+    printf(" file %" PRIu32 ", %lu bytes:", d.x, (unsigned long)d.length);
+    for (i = 0; i < d.length && i < 600; i++)
+        printf(" %02x", d.file[i]);
+    if (i < d.length)
+        printf(" ..");
 }
 
 void print_call(const struct call *c)
@@ -36,6 +66,7 @@ void print_call(const struct call *c)
     case LINKED:
         printf(" with client %d, limit %" PRIu32, c->other, c->x);
         break;
+    case PLAY: print_file(c); break;
     default: break;
     }
 }
@@ -54,6 +85,7 @@ void ask_library(thurafeqa *m, thurafeqa *other, const struct call *c,
     case CLEAR: thurafeqa_clear(m); break;
     case LINKED: o->answer = thurafeqa_linked(m, other, c->x); break;
     case CLOCK: o->answer = thurafeqa_clock(m, c->x, &o->report); break;
+    case PLAY: o->answer = thurafeqa_play(m, c->file, c->length); break;
     case KINDS: break;
     }
 }

@@ -7,23 +7,42 @@
 
 /* ---- calls ----------------------------------------------------------- */
 
-enum kind { POWER_UP, READ, WRITE, TICK, PINS, CLEAR, LINKED, CLOCK, KINDS };
+enum kind {
+    POWER_UP,
+    READ,
+    WRITE,
+    TICK,
+    PINS,
+    CLEAR,
+    LINKED,
+    CLOCK,
+    PLAY,
+    KINDS
+};
 extern const char *const kind_name[KINDS];
 
 struct call {
     enum kind kind;
     int module, other; /* the other one: a linked run's client */
-    uint32_t x, y, z;  /* the arguments in their order */
+    uint32_t x, y, z;  /* the arguments in their order; of a play x is the
+                        * number from which its file is made */
+    const uint8_t *file; /* of a play, its file; see bring_file */
+    size_t length;
 };
+
+/* The file of a play, made from its number: sets `file` and `length`. It is
+ * there until another number's is brought. */
+void bring_file(struct call *c);
 
 /* How many modules a call is made on. */
 int concerned(const struct call *c);
 
 /* Refusal numbers are below this. Does any call give that one? Not 4 and 12,
  * which are gone, and not 9, which is of scripts. */
-#define REFUSALS 17
+#define REFUSALS 20
 int is_given(uint32_t number);
 
+/* Of a play also the file, or its beginning, in hexadecimal. */
 void print_call(const struct call *c);
 
 /* ---- what comes of a call -------------------------------------------- */

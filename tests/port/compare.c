@@ -2,21 +2,25 @@
  * to both, and after every call the answers, the registers STAT, CON1 and CON2,
  * what a copy answers to a read of BUF, the levels and the interrupt flags must
  * agree. No answer may carry a refusal number that calls do not give, such as 4
- * or 12.
+ * or 12. Trace files are played too, right and wrong ones, and calls go on with
+ * the module that a play has left.
  *
  * usage: compare CALLS SEED
  *
- * It prints how often each case was reached. Exit 0: no difference, and every
- * case was reached. Exit 1: a case was not reached, or a difference; then it
- * prints a short list of calls that shows the difference from power-up on.
+ * It prints how often each case was reached. Exit 0: no difference, every case
+ * was reached, and no costly trace took more than a second. Exit 1: not so; of a
+ * difference it prints a short list of calls that shows it from power-up on.
  * Exit 2: bad usage. */
 #include "calls.h"
 #include "ref_spi.h"
+#include "some_trace.h"
+#include "trace.h"
 
 #include <inttypes.h>
 #include <stdio.h>
 #include <stdlib.h>
 #include <string.h>
+#include <time.h>
 
 /* Modules 0 and 1 are partners in linked runs, and so are 2 and 3. */
 #define MODULES 4
@@ -100,6 +104,7 @@ static void ask_model(struct ref_spi *m, struct ref_spi *other,
     case CLEAR: ref_clear(m); break;
     case LINKED: r = ref_linked(m, other, c->x, &value); break;
     case CLOCK: r = model_report(m, c->x, &value, &o->report); break;
+    case PLAY: r = trace_play(m, c->file, c->length, &value); break;
     case KINDS: break;
     }
     o->answer = as_answer(r, value);
@@ -134,10 +139,13 @@ static int ask_both(struct sides *s, const struct call *c, struct outcome *l,
                     struct outcome *m)
 {
     const int at[2] = {c->module, c->other};
+    struct call d = *c;
     int i, same;
 
-    ask_library(&s->library[c->module], &s->library[c->other], c, l);
-    ask_model(&s->model[c->module], &s->model[c->other], c, m);
+    if (c->kind == PLAY)
+        bring_file(&d);
+    ask_library(&s->library[c->module], &s->library[c->other], &d, l);
+    ask_model(&s->model[c->module], &s->model[c->other], &d, m);
     same = same_answer(c, l, m);
     for (i = 0; i < concerned(c); i++) {
         see_library(&s->library[at[i]], l->seen[i]);
@@ -304,6 +312,15 @@ static struct {
     unsigned long framed_filler[SSEN_CLIENT], clock_alone;
     /* linked runs refused as the host, the client, or both are framed */
     unsigned long linked_framed[3];
+    /* traces: what was wrong with them; of those refused, on modules that were
+     * enabled; the deepest level played; played with no call, with 65,535, with
+     * repeats, with plays that lead to no call, and to a module that is enabled,
+     * has words unread, is marked, has its flag up */
+    unsigned long faults[TRACE_FAULTS], refused_enabled;
+    unsigned long levels[TRACE_LEVELS + 1];
+    unsigned long no_call, all_calls, repeats, idle_plays;
+    unsigned long left_enabled, left_unread, left_marked, left_flag;
+    double costliest; /* seconds that the library took for a costly one */
 } reached;
 
 static enum role role_of(const struct ref_spi *m)
@@ -523,6 +540,62 @@ static void count_unlinked(const struct ref_spi *host,
         reached.linked_framed[client->frmen]++;
 }
 
+/* What a right trace has: how deep play goes from a section, and whether there
+ * are repeats and plays that lead to no call. */
+static int count_depth(const struct trace *t, int s, int done[TRACE_SECTIONS],
+                       int *repeats, int *idle)
+{
+    const struct trace_section *here = &t->section[s];
+    size_t at;
+
+    if (done[s])
+        return done[s];
+    done[s] = 1;
+    for (at = here->start; at < here->start + here->length; at += 4) {
+        const uint8_t *r = t->file + at;
+        int depth;
+
+        if (r[0] != TRACE_PLAY)
+            continue;
+        if (r[2] == 0 && r[3] == 0) {
+            *idle = 1;
+            continue;
+        }
+        *idle |= t->section[r[1]].calls == 0;
+        *repeats |= r[2] > 1 || r[3] > 0;
+        depth = count_depth(t, r[1], done, repeats, idle);
+        if (done[s] < 1 + depth)
+            done[s] = 1 + depth;
+    }
+    return done[s];
+}
+
+static void count_trace(const struct call *c, const struct ref_spi *before,
+                        const struct ref_spi *after)
+{
+    static struct trace t;
+    int done[TRACE_SECTIONS] = {0}, repeats = 0, idle = 0;
+    struct call d = *c;
+    enum trace_fault fault;
+
+    bring_file(&d);
+    fault = trace_open(&t, d.file, d.length);
+    reached.faults[fault]++;
+    if (fault != TRACE_RIGHT) {
+        reached.refused_enabled += (unsigned long)before->spien;
+        return;
+    }
+    reached.levels[count_depth(&t, 0, done, &repeats, &idle)]++;
+    reached.no_call += t.section[0].calls == 0;
+    reached.all_calls += t.section[0].calls == TRACE_CALLS;
+    reached.repeats += (unsigned long)repeats;
+    reached.idle_plays += (unsigned long)idle;
+    reached.left_enabled += (unsigned long)after->spien;
+    reached.left_unread += after->rx.n > 0;
+    reached.left_marked += (unsigned long)after->mark;
+    reached.left_flag += (unsigned long)after->flag;
+}
+
 static void count(const struct call *c, const struct outcome *o,
                   const struct ref_spi *before, const struct ref_spi *pool)
 {
@@ -531,6 +604,11 @@ static void count(const struct call *c, const struct outcome *o,
     unsigned edges = thurafeqa_value(o->answer);
 
     reached.kinds[c->kind]++;
+    if (c->kind == PLAY) { /* its calls are not counted one by one */
+        count_trace(c, &before[0], m);
+        reached.refused[number] += number != 0;
+        return;
+    }
     count_module(&before[0], m);
     if (concerned(c) == 2)
         count_module(&before[1], &pool[c->other]);
@@ -719,6 +797,33 @@ static void print_marks(void)
     print_count("from a full buffer", reached.read_full);
 }
 
+static void print_traces(void)
+{
+    int i;
+
+    printf("\ntraces:");
+    for (i = 0; i < TRACE_FAULTS; i++) {
+        printf("%s", i > 0 ? "," : "");
+        print_count(trace_fault_text[i], reached.faults[i]);
+    }
+    printf("\ntraces refused:");
+    print_count("on an enabled module", reached.refused_enabled);
+    printf("\ntraces played, by levels:");
+    for (i = 1; i <= TRACE_LEVELS; i++)
+        print_numbered("", i, reached.levels[i]);
+    printf("\nof these:");
+    print_count("no call", reached.no_call);
+    print_count("65,535 calls", reached.all_calls);
+    print_count("repeats", reached.repeats);
+    print_count("plays that lead to no call", reached.idle_plays);
+    print_count("left enabled", reached.left_enabled);
+    print_count("words unread", reached.left_unread);
+    print_count("marked", reached.left_marked);
+    print_count("flag up", reached.left_flag);
+    printf("\ncostly traces: the slowest took %.0f ms",
+           reached.costliest * 1000);
+}
+
 static void print_reached(void)
 {
     int i;
@@ -753,6 +858,7 @@ static void print_reached(void)
     print_count("internal", reached.clock[THURAFEQA_CLOCK_INTERNAL]);
     print_count("external", reached.clock[THURAFEQA_CLOCK_EXTERNAL]);
     print_framed();
+    print_traces();
     printf("\n%-40s %9s %9s %9s %9s\n", "words finished, by CKE and CKP:",
            "0 0", "0 1", "1 0", "1 1");
     for (i = 0; i < 4 * ROLES; i++)
@@ -778,7 +884,7 @@ static void make(enum kind kind, int module, int other, uint32_t x, uint32_t y,
 {
     struct ref_spi before[2];
     struct outcome l, m;
-    struct call c;
+    struct call c = {0};
 
     if (length == LONGEST || made == wanted)
         return;
@@ -814,6 +920,7 @@ static void make(enum kind kind, int module, int other, uint32_t x, uint32_t y,
 }
 
 static void power_up(int i) { make(POWER_UP, i, i, 0, 0, 0); }
+static void play_trace(int i) { make(PLAY, i, i, any_number(), 0, 0); }
 static void clear(int i) { make(CLEAR, i, i, 0, 0, 0); }
 static void clock_report(int i, uint32_t f) { make(CLOCK, i, i, f, 0, 0); }
 static void read_register(int i, uint32_t n) { make(READ, i, i, n, 0, 0); }
@@ -1127,6 +1234,10 @@ static void do_else(int i)
         if (one_in(20))
             power_up(i);
         break;
+    case 13:
+        if (one_in(2))
+            play_trace(i);
+        break;
     default: do_anything(i); break;
     }
 }
@@ -1171,6 +1282,16 @@ static void act(int i, size_t mood)
         act_marked(i);
 }
 
+/* Some traces, one after the other. The last that is not refused leaves the
+ * module for what comes. */
+static void play_traces(int i)
+{
+    uint32_t n;
+
+    for (n = one_in(3) ? 1 + below(8) : 0; n > 0; n--)
+        play_trace(i);
+}
+
 /* A sequence of calls, from power-up of all modules on. */
 static void run_sequence(void)
 {
@@ -1188,6 +1309,7 @@ static void run_sequence(void)
         int acts = 4 + (int)below(12);
         size_t mood = below(MOODS);
 
+        play_traces(module);
         if (linked && one_in(2))
             set_up_partners(module);
         else if (!one_in(4))
@@ -1198,6 +1320,48 @@ static void run_sequence(void)
                 module ^= 1;
                 link_modules(module);
             }
+        }
+    }
+}
+
+/* ---- costly traces --------------------------------------------------- */
+
+/* Each is answered as the model answers it, and in less than a second. */
+static void play_costly(void)
+{
+    static uint8_t file[SOME_TRACE_BYTES];
+    static struct sides s;
+    int i;
+
+    for (i = 0; i < COSTLY_TRACES; i++) {
+        unsigned calls;
+        size_t n = costly_trace(i, file, &calls);
+        struct call c = {0};
+        struct outcome l, m;
+        clock_t began;
+        double took;
+
+        power_up_all(&s, 0);
+        c.kind = PLAY;
+        c.file = file;
+        c.length = n;
+        began = clock();
+        ask_library(&s.library[0], &s.library[0], &c, &l);
+        took = (double)(clock() - began) / CLOCKS_PER_SEC;
+        ask_model(&s.model[0], &s.model[0], &c, &m);
+        see_library(&s.library[0], l.seen[0]);
+        see_model(&s.model[0], m.seen[0]);
+        if (took > reached.costliest)
+            reached.costliest = took;
+        if (l.answer != m.answer ||
+            memcmp(l.seen[0], m.seen[0], sizeof l.seen[0]) != 0) {
+            printf("costly trace %d: library and model differ\n", i);
+            print_differences(&c, &l, &m);
+            exit(1);
+        }
+        if (took > 1) {
+            printf("costly trace %d took %.1f s\n", i, took);
+            exit(1);
         }
     }
 }
@@ -1214,6 +1378,7 @@ int main(int argc, char **argv)
     start_numbers(seed);
     while (made < wanted)
         run_sequence();
+    play_costly();
     print_reached();
     if (not_reached > 0) {
         printf("%lu calls, 0 differences, but %d cases were not reached\n",

@@ -16,11 +16,17 @@
  *   memory is as before, the registers and levels show the same, and a third
  *   copy that is spared all such calls goes on giving the same answers;
  * - the calls on constant memory leave it as it is, and work on memory that
- *   cannot be written.
+ *   cannot be written;
+ * - a play, of a trace or of any bytes, is refused as the second model's check
+ *   of the file says, or makes as many calls, and shows then what its calls
+ *   show, made one by one from power-up. Its file lies in memory that cannot be
+ *   written, right behind or right before a page that cannot be touched.
  * Exit 0: all held. Exit 1: something did not, or a refusal was not reached.
  * Exit 2: bad usage. */
 #define _DEFAULT_SOURCE
 #include "calls.h"
+#include "some_trace.h"
+#include "trace.h"
 
 #include <signal.h>
 #include <stdio.h>
@@ -77,9 +83,9 @@ struct place {
 #define NUMBERS (sizeof(thurafeqa) / sizeof(uint16_t))
 #define AREA (FENCE / sizeof(uint16_t))
 
-static uint16_t *new_area(void)
+static void *new_area(size_t bytes)
 {
-    unsigned char *p = mmap(0, 4 * FENCE, PROT_NONE,
+    unsigned char *p = mmap(0, bytes + 3 * FENCE, PROT_NONE,
                             MAP_PRIVATE | MAP_ANONYMOUS, -1, 0);
     uintptr_t start;
 
@@ -89,11 +95,11 @@ static uint16_t *new_area(void)
     }
     start = ((uintptr_t)p + 2 * FENCE - 1) / FENCE * FENCE;
     p += start - (uintptr_t)p;
-    if (mprotect(p, FENCE, PROT_READ | PROT_WRITE) != 0) {
+    if (mprotect(p, bytes, PROT_READ | PROT_WRITE) != 0) {
         perror("mprotect");
         exit(1);
     }
-    return (uint16_t *)(void *)p;
+    return p;
 }
 
 /* Puts a module near one fence or the other, most often right beside it. */
@@ -126,6 +132,87 @@ static int guarded(const struct place *p)
             return 0;
     }
     return 1;
+}
+
+/* ---- the file of a play ---------------------------------------------- */
+
+/* Two copies, one from the start of its area, one up to its end; and what the
+ * second model finds in it. */
+static uint8_t *file_area[2];
+static const uint8_t *file[2];
+static struct trace trace;
+static uint32_t file_refusal;
+
+static void place_file(void)
+{
+    int i;
+
+    bring_file(&now);
+    for (i = 0; i < 2; i++) {
+        uint8_t *at = file_area[i];
+
+        if (i == 1)
+            at += SOME_TRACE_BYTES - now.length;
+        if (mprotect(file_area[i], SOME_TRACE_BYTES, PROT_READ | PROT_WRITE) !=
+            0)
+            fail("mprotect");
+        memcpy(at, now.file, now.length);
+        if (mprotect(file_area[i], SOME_TRACE_BYTES, PROT_READ) != 0)
+            fail("mprotect");
+        file[i] = at;
+    }
+    now.file = file[0];
+    file_refusal =
+        (uint32_t)trace_number(trace_open(&trace, now.file, now.length));
+}
+
+/* Makes the calls of a section one by one, as long as not too many records are
+ * passed: was it so? */
+static int walk(thurafeqa *m, int s, long *patience)
+{
+    const struct trace_section *here = &trace.section[s];
+    size_t at;
+
+    for (at = here->start; at < here->start + here->length; at += 4) {
+        const uint8_t *r = trace.file + at;
+        uint32_t value = r[2] + 256u * r[3];
+
+        if (--*patience < 0)
+            return 0;
+        switch (r[0]) {
+        case TRACE_WRITE: thurafeqa_write(m, r[1], value); break;
+        case TRACE_READ: thurafeqa_read(m, r[1]); break;
+        case TRACE_TICK: thurafeqa_tick(m, r[1] & 1, r[1] & 4); break;
+        case TRACE_PINS:
+            thurafeqa_pins(m, r[1] & 2, r[1] & 1, r[1] & 4);
+            break;
+        case TRACE_CLEAR: thurafeqa_clear(m); break;
+        default:
+            while (value-- > 0)
+                if (--*patience < 0 || !walk(m, r[1], patience))
+                    return 0;
+            break;
+        }
+    }
+    return 1;
+}
+
+static unsigned long walked;
+
+/* A module that a play has left shows this. */
+static void hold_play(const uint32_t *shown)
+{
+    long patience = 20000;
+    uint32_t seen[VIEWS];
+    thurafeqa m;
+
+    thurafeqa_power_up(&m);
+    if (!walk(&m, 0, &patience))
+        return;
+    see_library(&m, seen);
+    hold(memcmp(seen, shown, sizeof seen) == 0,
+         "a play did not do what its calls do one by one");
+    walked++;
 }
 
 /* ---- what the memory holds at first ---------------------------------- */
@@ -330,6 +417,7 @@ static uint32_t table_refusal(const struct call *c,
                                                        : THURAFEQA_WRONG_CLOCK;
     case LINKED: return linked_refusal(c, seen[0], seen[1]);
     case CLOCK: return c->x == 0 ? THURAFEQA_NO_RATE : 0;
+    case PLAY: return file_refusal;
     default: return 0;
     }
 }
@@ -413,6 +501,8 @@ static void hold_answer(const struct call *c, const struct outcome *o,
         hold(value <= 1, "a tick made more than one edge");
     else if (c->kind == LINKED)
         hold(value <= c->x, "a linked run made more edges than its limit");
+    else if (c->kind == PLAY)
+        hold(value == trace.section[0].calls, "a play made other calls");
     else if (c->kind != READ && c->kind != CLOCK)
         hold(value == 0, "a call that tells nothing tells a value");
 }
@@ -439,6 +529,8 @@ static void hold_unmarked(const thurafeqa *m)
 static void hold_mark(const struct call *c, const uint32_t *before,
                       const uint32_t *after, const thurafeqa *m)
 {
+    if (c->kind == PLAY)
+        return; /* many calls in one */
     if (!enabled(after) && (enabled(before) || c->kind == POWER_UP)) {
         hold_unmarked(m);
         marks_cleared += (unsigned long)marked(before);
@@ -508,6 +600,8 @@ static void make(void)
     made++;
     for (i = 0; i < 2; i++) {
         before[i] = *copies[0][i].m;
+        if (now.kind == PLAY)
+            now.file = file[i];
         ask_library(copies[i][0].m, copies[i][1].m, &now, &o[i]);
     }
     hold(same_answer(&now, &o[0], &o[1]), "two copies were answered otherwise");
@@ -520,6 +614,8 @@ static void make(void)
              "a call before this one had an effect that it should not have");
     }
     see_both(after);
+    if (now.kind == PLAY && !spared)
+        hold_play(after[0]);
     for (i = 0; i < 2; i++) {
         hold_views(after[i]);
         if (i < concerned(&now))
@@ -555,7 +651,7 @@ static void choose_edge(void)
 
 static void choose(void)
 {
-    now.kind = one_in(50) ? POWER_UP : (enum kind)(READ + below(KINDS - READ));
+    now.kind = one_in(50) ? POWER_UP : (enum kind)(READ + below(PLAY - READ));
     now.module = 0;
     now.other = 1;
     now.x = some_argument();
@@ -571,6 +667,11 @@ static void choose(void)
         now.kind = WRITE;
         now.x = THURAFEQA_STAT;
         now.y = any_number() | THURAFEQA_STAT_SPIEN;
+    }
+    if (one_in(40)) {
+        now.kind = PLAY;
+        now.x = any_number();
+        place_file();
     }
 }
 
@@ -629,7 +730,9 @@ int main(int argc, char **argv)
     printf("a hostile caller, seed %lu\n", seed);
     start_numbers(seed);
     for (i = 0; i < 4; i++)
-        copies[i / 2][i % 2].area = new_area();
+        copies[i / 2][i % 2].area = new_area(FENCE);
+    for (i = 0; i < 2; i++)
+        file_area[i] = new_area(SOME_TRACE_BYTES);
     while (made < wanted)
         run_memory();
     printf("done:");
@@ -646,7 +749,8 @@ int main(int argc, char **argv)
     }
     printf("\nmarks: set %lu, cleared by disabling %lu", marks_set,
            marks_cleared);
-    missing += (marks_set == 0) + (marks_cleared == 0);
+    printf("\nplays made again call by call: %lu", walked);
+    missing += (marks_set == 0) + (marks_cleared == 0) + (walked == 0);
     printf("\n%lu hostile calls, each made twice, all held%s\n", made,
            missing ? ", but not every case was reached" : "");
     return missing != 0;

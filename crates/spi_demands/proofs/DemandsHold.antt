@@ -6,6 +6,7 @@ use Rattle.spi_rules.proofs.DemandsHold.{one-module}
 use Rattle.spi_link_rules.proofs.LinkDemandsHold.{linked-runs}
 use Rattle.spi_clock_rules.proofs.ClockDemandsHold.{clock-reports}
 use Rattle.spi_script_rules.proofs.ScriptDemandsHold.{scripts-hold}
+use Rattle.spi_trace_rules.proofs.TraceDemandsHold.{traces-hold}
 
 pub demands-hold : Demands
 demands-hold =
@@ -14,4 +15,5 @@ demands-hold =
       linkedRuns = linked-runs;
       clockReports = clock-reports;
       scripts = scripts-hold;
+      traces = traces-hold;
     }

@@ -1,12 +1,14 @@
--- What the buyer signs for, all of it: the demands on one module, on two modules on one wire, on the clock report and on the
--- script program. Each page says its part in the crate of its rules.
+-- What the buyer signs for, all of it: the demands on one module, on two modules on one wire, on the clock report, on the
+-- script program and on trace files. Each page says its part in the crate of its rules.
 use Rattle.spi_rules.specs.Demands.{OneModule}
 use Rattle.spi_link_rules.specs.LinkDemands.{LinkedRuns}
 use Rattle.spi_clock_rules.specs.ClockDemands.{ClockReports}
 use Rattle.spi_script_rules.specs.ScriptDemands.{Scripts}
+use Rattle.spi_trace_rules.specs.TraceDemands.{Traces}
 
 pub record Demands : Type 0 where
   pub oneModule : OneModule
   pub linkedRuns : LinkedRuns
   pub clockReports : ClockReports
   pub scripts : Scripts
+  pub traces : Traces

@@ -2,6 +2,7 @@
 --     told        a call on one module
 --     link-told   a linked run
 --     clock-refused, clock-told   a clock report
+--     play-told   playing a trace file
 -- Assumes nothing.
 use Prim.Native.Nat.{ℕ, _+_, _*_}
 use mathlib.Core.List.{List, [], _∷_}
@@ -16,7 +17,10 @@ use Rattle.spi_clock_rules.specs.declared.ClockSaid.{ClockSaid}
 use Rattle.spi_rules.proofs.Choices.{so-eq, not-so-eq}
 use Rattle.spi_module.specs.Answered.{untouching, Answers}
 use Rattle.spi_link.specs.Wire.{isRefused, Links}
-use Rattle.thurafeqa.specs.Numbers.{answerNumber, Tells, linkNumber, LinkTells, kindNumber, clockNumber, clockFloats, ClockTells}
+use Rattle.spi_trace_rules.specs.declared.Played.{Played}
+use Rattle.spi_trace_rules.specs.Trace.{isMade}
+use Rattle.spi_trace.specs.Playing.{Plays}
+use Rattle.thurafeqa.specs.Numbers.{answerNumber, Tells, linkNumber, LinkTells, kindNumber, clockNumber, clockFloats, ClockTells, playNumber, PlayTells}
 
 pub told : {o : Outcome} {x : Answer} {r : ℕ} {a b : List ℕ} → Answers o x a b → r ≡ answerNumber x → Tells o r a b
 told h e =
@@ -59,4 +63,12 @@ clock-told {s} {t} e none kind =
           ∙ ap (λ (x : ℕ). x * 65536 + kindNumber (t .internal) (t .external)) (sym none)
           ∙ ap clockNumber e;
       report = so-eq (s .number) 0 _ _ (sym (ap (λ (x : ClockSaid). x .number) e) ∙ none) (ap clockFloats e);
+    }
+
+pub play-told : {f : List ℕ} {x : Played} {r : ℕ} {a b : List ℕ} → Plays f x a b → r ≡ playNumber x → PlayTells f r a b
+play-told h e =
+    record {
+      number = e ∙ ap playNumber (h .answer);
+      holds = h .ends;
+      untouched = λ t. h .untouched (ap isMade (h .answer) ∙ t);
     }

@@ -1,6 +1,6 @@
 -- What a caller is told: answers as the one number that a call returns, and the memory after it.
 use Prim.Native.Nat.{ℕ, _+_, _*_}
-use mathlib.Core.Bool.{Bool, true, not}
+use mathlib.Core.Bool.{Bool, true, false, not}
 use mathlib.Core.List.{List, [], _∷_}
 use mathlib.Core.Path.{_≡_}
 use lib.Dec.{eqb}
@@ -17,6 +17,9 @@ use Rattle.spi_rules.specs.Choice.{if_then_else_}
 use Rattle.spi_rules.specs.Refusals.{saidOf}
 use Rattle.spi_link_rules.specs.Link.{linkSaidOf}
 use Rattle.spi_rules.specs.Calls.{interruptOf, sckOf, sdoOf, ssOf}
+use Rattle.spi_trace_rules.specs.declared.Played.{Played}
+use Rattle.spi_trace_rules.specs.Trace.{playedOf, isMade, playedModule}
+use Rattle.spi_trace_rules.specs.TraceDemands.{numberIn, countIn}
 use Rattle.spi_memory.specs.Memory.{moduleIn}
 use Rattle.spi_module.specs.Answered.{untouching}
 use Rattle.spi_link.specs.Wire.{isRefused}
@@ -78,9 +81,21 @@ pub record ClockTells (s : ClockSaid) (r : ℕ) (before after : List Float) : Ty
   pub number : r ≡ clockNumber s
   pub report : after ≡ (if eqb (s .number) 0 then clockFloats s else before)
 
--- The library's version, 4.0.0: the major number times 65,536, the minor one times 256, and the patch.
+-- What playing a trace file answers: the upper 16 bits are the refusal number, 0 if the file is played, the lower 16 bits the calls
+-- made.
+unfoldable pub playNumber : Played → ℕ
+playNumber p = numberIn p * 65536 + countIn p
+
+-- Playing a file returns its number, and memory holds the module that the file's calls reach from power-up. A refused play leaves
+-- every number of memory as it was.
+pub record PlayTells (f : List ℕ) (r : ℕ) (before after : List ℕ) : Type 0 where
+  pub number : r ≡ playNumber (playedOf f)
+  pub holds : moduleIn after ≡ playedModule (moduleIn before) f
+  pub untouched : isMade (playedOf f) ≡ false → after ≡ before
+
+-- The library's version, 4.1.0: the major number times 65,536, the minor one times 256, and the patch.
 abbrev pub versionNumber : ℕ
-versionNumber = 4 * 65536 + 0 * 256 + 0
+versionNumber = 4 * 65536 + 1 * 256 + 0
 
 -- The number of the memory's format: it rises wherever the meaning of memory (crates/spi_memory/specs/Memory.antt) changes.
 abbrev pub formatNumber : ℕ

@@ -1,8 +1,9 @@
-// The model for a program in C or Rust to link: the calls of one module, linked runs and clock reports over memory that the
+// The model for a program in C or Rust to link: the calls of one module, linked runs, clock reports and trace files over memory that the
 // caller holds, 96 numbers of 16 bits a module. Only numbers cross the boundary, and any numbers are answered.
 use spi_link_rules::LinkAnswer;
 use spi_rules::Answer;
 use spi_rules::Output;
+use spi_trace_rules::Played;
 ghost use Prim.Native.Nat.{_%_, _≤_};
 ghost use mathlib.Core.Path.{_≡_};
 ghost use Rattle.spi_rules.specs.Choice.{if_then_else_};
@@ -10,7 +11,7 @@ ghost use Rattle.spi_rules.specs.Calls.{poweredUp, readOf, writeOf, tickOf, pin
 ghost use Rattle.spi_link_rules.specs.Link.{linkedOf};
 ghost use Rattle.spi_clock_rules.specs.Clock.{reportOf, saidClock};
 ghost use Rattle.spi_memory.specs.Memory.{moduleIn};
-ghost use Rattle.thurafeqa.specs.Numbers.{Tells, LinkTells, levelIn, answerNumber, linkNumber, outputBits, levelsNumber, kindNumber, ClockTells, versionNumber, formatNumber};
+ghost use Rattle.thurafeqa.specs.Numbers.{Tells, LinkTells, levelIn, answerNumber, linkNumber, outputBits, levelsNumber, kindNumber, ClockTells, playNumber, PlayTells, versionNumber, formatNumber};
 
 // An answer as a number.
 fn answer_number(a: Answer) -> u32
@@ -156,12 +157,31 @@ pub extern "C" fn thurafeqa_clock(w: &[u16; 96], rate: u32, report: &mut [f64; 3
     kind
 }
 
+// What playing a trace file answers as a number.
+fn play_number(p: Played) -> u32
+    ensures { λ r. ⌜ r ≡ playNumber p ⌝ }
+{
+    match p {
+        Played::Refused(fault) => spi_trace::fault_number(fault) as u32 * 65536,
+        Played::Made(count) => count as u32,
+    }
+}
+
+// Plays a trace file on a fresh module. A refused play leaves the memory as it was.
+#[no_mangle]
+pub extern "C" fn thurafeqa_play(w: &mut [u16; 96], file: &[u8]) -> u32
+    ensures { λ r. ⌜ PlayTells (now (file .entry)) r (now (w .entry)) (now (w .exit)) ⌝ }
+{
+    let played = spi_trace::play(file, w);
+    play_number(played)
+}
+
 // The library's version: the major number times 65,536, the minor one times 256, and the patch.
 #[no_mangle]
 pub extern "C" fn thurafeqa_version() -> u32
     ensures { λ r. ⌜ r ≡ versionNumber ⌝ }
 {
-    262144
+    262400
 }
 
 // The number of the memory's format: it rises wherever the meaning of the 96 numbers changes.

@@ -1,0 +1,274 @@
+-- Playing a record and playing a section call each other. The measures are twice the levels left, and one more for a record: it plays
+-- a section with as many levels left, and a section plays its records with one fewer. A record's loop: the repeats left still make
+-- their calls. A section's loop: the records left still make theirs, and lie at the section's end.
+-- Assumes nothing.
+use Prim.Native.Nat.{ℕ, _+_, _*_, _-_, _/_, _%_, _<_, _≤_}
+use mathlib.Core.Bool.{true, false}
+use mathlib.Core.List.{List}
+use mathlib.Core.Path.{_≡_, refl, sym, ap, ap₂, _∙_}
+use native.Mathlib.Omega.{arith}
+use borrow.Author.Needs.{needs}
+use borrow.Author.Tests.{eq-eqb, ne-eqb}
+use borrow.Fn.Kinds.{In}
+use borrow.Fn.PlainCycle.{Measures, is, falls, and}
+use lib.ListN.{getD}
+use Rattle.spi_rules.specs.declared.Module.{Module}
+use Rattle.spi_rules.specs.declared.Call.{Call}
+use Rattle.spi_rules.specs.Calls.{afterCalls}
+use Rattle.spi_memory.specs.Memory.{moduleIn}
+use Rattle.spi_trace_rules.specs.declared.Entry.{Entry}
+use Rattle.spi_trace_rules.specs.Trace.{startOf, sizeOf, isPlay, rightRecord, times, callsBy, callsOf}
+use Rattle.spi_trace_files.specs.Places.{entriesAt}
+use Rattle.spi_trace.specs.Playing.{entryCalls}
+use Rattle.spi_trace.proofs.Playing.{repeated, repeated-none, entry-plays, entry-makes, no-levels, names-one, section-records, Next, upcoming, played-out, played-on, none-left}
+use Rattle.spi_trace.proofs.play_entry.Reads as play-entry
+use Rattle.spi_trace.proofs.play_entry.Kinds as play-entry-kinds
+use Rattle.spi_trace.proofs.+play_entry+play_section.Lts-play_entry as play-entry-lts
+use Rattle.spi_trace.proofs.play_section.Reads as play-section
+use Rattle.spi_trace.proofs.play_section.Kinds as play-section-kinds
+use Rattle.spi_trace.proofs.+play_entry+play_section.Lts-play_section as play-section-lts
+use Rattle.spi_trace.proofs.make.Reads as make-reads
+use Rattle.spi_trace_files.proofs.entry_at.Reads as entry-at-reads
+use Rattle.spi_trace_files.proofs.first_record.Reads as first-record-reads
+use Rattle.spi_trace_files.proofs.record_count.Reads as record-count-reads
+use Rattle.spi_trace.proofs.+play_entry+play_section.{statement}
+use Rattle.spi_trace.proofs.+play_entry+play_section.Tie.{close}
+
+abbrev μ-play-entry : Measures 3 play-entry-kinds.ps ℕ
+μ-play-entry κs a = 2 * a .1 .1 .1 .0 + 1
+
+abbrev μ-play-section : Measures 3 play-section-kinds.ps ℕ
+μ-play-section κs a = 2 * a .1 .1 .1 .1 .0
+
+-- What each is given at the measure t, and what a call of it asks below t.
+abbrev play-entry-at : ℕ → In 3 play-entry-kinds.ps
+play-entry-at t = and 3 play-entry-kinds.ps (is 3 play-entry-kinds.ps μ-play-entry t) play-entry.Pre
+
+abbrev play-entry-below : ℕ → In 3 play-entry-kinds.ps
+play-entry-below t = and 3 play-entry-kinds.ps (falls 3 play-entry-kinds.ps _<_ μ-play-entry t) play-entry.Pre
+
+abbrev play-section-at : ℕ → In 3 play-section-kinds.ps
+play-section-at t = and 3 play-section-kinds.ps (is 3 play-section-kinds.ps μ-play-section t) play-section.Pre
+
+abbrev play-section-below : ℕ → In 3 play-section-kinds.ps
+play-section-below t = and 3 play-section-kinds.ps (falls 3 play-section-kinds.ps _<_ μ-play-section t) play-section.Pre
+
+-- What the callees of each ask and ensure.
+abbrev play-entry-callees : ℕ → play-entry-lts.Claims
+play-entry-callees t = (make-reads.Asked, make-reads.Learnt, play-section-below t, play-section.Post)
+
+abbrev play-section-callees : ℕ → play-section-lts.Claims
+play-section-callees t = (
+  first-record-reads.Asked,
+  first-record-reads.Learnt,
+  record-count-reads.Asked,
+  record-count-reads.Learnt,
+  entry-at-reads.Asked,
+  entry-at-reads.Learnt,
+  play-entry-below t,
+  play-entry.Post,
+)
+
+-- A record.
+abbrev repeats-inv : play-entry-lts.InvT-loop
+repeats-inv f next w₀ left kind named times₀ w repeats =
+    afterCalls (moduleIn w₀) (times times₀ (callsOf f left named)) ≡ afterCalls (moduleIn w) (times repeats (callsOf f left named))
+
+abbrev repeats-left : play-entry-lts.MeasureT-loop
+repeats-left f next w₀ left kind named times₀ w repeats = repeats
+
+makes : (t : ℕ) → play-entry-lts.Need-returns (play-entry-callees t) (play-entry-at t) play-entry.Post repeats-inv repeats-left
+unfolding isPlay
+makes t c =
+    let b = c .before .before .before .before in
+    let call : isPlay (b .args .e) ≡ false = ne-eqb (b .args .e .kind) 5 (c .before .before .if1 .taken) in
+    c .make .ensures
+    ∙ sym (ap (afterCalls (moduleIn (b .args .w .now))) (entry-makes (b .args .f .now) (b .args .left) (b .args .e) call))
+
+plays-requires : (t : ℕ) → play-entry-lts.Need-play-section-requires (play-entry-callees t) (play-entry-at t) play-entry.Post repeats-inv repeats-left
+unfolding isPlay
+plays-requires t c κs =
+    let b = c .before .before .before .before .before .before in (
+      omega (arith, b .pre .0),
+      (b .pre .1 .0, b .pre .1 .1 (eq-eqb (b .args .e .kind) 5 (c .before .before .before .before .if1 .left))),
+    )
+
+plays-again : (t : ℕ) → play-entry-lts.Need-loop-again (play-entry-callees t) (play-entry-at t) play-entry.Post repeats-inv repeats-left
+plays-again t c =
+    let l = c .before .before .before in
+    let b = l .before .before .before .before in
+    let cs : List Call = callsOf (b .args .f .now) (b .args .left) (b .args .e .argument) in
+    l .loop .inv
+    ∙ repeated (moduleIn (l .loop .w)) (l .loop .times) cs (c .before .before .loop-test .taken)
+    ∙ ap (λ (m : Module). afterCalls m (times (l .loop .times - 1) cs)) (sym (c .play-section .ensures))
+
+plays-all : (t : ℕ) → play-entry-lts.Need-returns-2 (play-entry-callees t) (play-entry-at t) play-entry.Post repeats-inv repeats-left
+unfolding isPlay
+plays-all t c =
+    let l = c .before in
+    let b = l .before .before .before .before in
+    let f = b .args .f .now in
+    let play : isPlay (b .args .e) ≡ true = eq-eqb (b .args .e .kind) 5 (l .before .before .if1 .left) in
+    sym
+    (ap (afterCalls (moduleIn (b .args .w .now))) (entry-plays f (b .args .left) (b .args .e) play)
+    ∙ l .loop .inv
+    ∙ repeated-none (moduleIn (l .loop .w)) (l .loop .times) (callsOf f (b .args .left) (b .args .e .argument)) (c .loop-test .left))
+
+-- A section.
+abbrev records-inv : play-section-lts.InvT-loop
+records-inv f next w₀ k left at₀ records₀ w at records =
+    (0 < left) × (records ≤ sizeOf f k / 4 % 65536)
+    × (at + 4 * records ≡ startOf f k % 65536 + 4 * (sizeOf f k / 4 % 65536))
+    × (afterCalls (moduleIn w₀) (callsOf f left k) ≡ afterCalls (moduleIn w) (callsBy (callsOf f (left - 1)) (entriesAt f records at)))
+
+abbrev records-left : play-section-lts.MeasureT-loop
+records-left f next w₀ k left at₀ records₀ w at records = records
+
+-- The next record of the section that makes a call.
+there : (t : ℕ) (l : play-section-lts.At-loop (play-section-callees t) (play-section-at t) play-section.Post records-inv records-left) →
+    0 < l .loop .records →
+    Next (l .before .before .before .before .before .args .f .now) (l .before .before .before .before .before .args .k) (l .loop .at)
+    (l .loop .records) (getD (l .before .before .before .before .before .args .next .now) (l .loop .at / 4) 0)
+there t l some =
+    let b = l .before .before .before .before .before in
+    upcoming (b .args .f .now) (b .pre .1 .0 .0) (b .pre .1 .0 .1) (b .args .k) (b .pre .1 .1) (l .loop .at) (l .loop .records)
+    (l .loop .inv .1) (l .loop .inv .2) (b .args .next .now) (b .pre .1 .0 .3) some
+
+no-level : (t : ℕ) → play-section-lts.Need-returns (play-section-callees t) (play-section-at t) play-section.Post records-inv records-left
+no-level t c =
+    let b = c .before .before in
+    sym (ap (afterCalls (moduleIn (b .args .w .now))) (no-levels (b .args .f .now) (b .args .left) (b .args .k) (c .if1 .taken)))
+
+records-first : (t : ℕ) → play-section-lts.Need-loop-holds (play-section-callees t) (play-section-at t) play-section.Post records-inv records-left
+records-first t c =
+    let b = c .before .before .before .before in
+    let f = b .args .f .now in
+    let some : 0 < b .args .left = omega (arith, c .before .before .if1 .left) in (
+      some,
+      omega arith,
+      omega arith,
+      ap (afterCalls (moduleIn (b .args .w .now)))
+          (section-records f (b .pre .1 .0 .0) (b .pre .1 .0 .1) (b .args .k) (b .pre .1 .1) (b .args .left) some
+          ∙ ap₂ (λ (n i : ℕ). callsBy (callsOf f (b .args .left - 1)) (entriesAt f n i)) (sym (c .record-count .ensures))
+          (sym (c .before .first-record .ensures))),
+    )
+
+cast-slot : (t : ℕ) → play-section-lts.Need-cast-slot (play-section-callees t) (play-section-at t) play-section.Post records-inv records-left
+cast-slot t c = omega arith
+
+mul-to : (t : ℕ) → play-section-lts.Need-mul-to (play-section-callees t) (play-section-at t) play-section.Post records-inv records-left
+mul-to t c = omega arith
+
+copy-to : (t : ℕ) → play-section-lts.Need-element-copy-out-to (play-section-callees t) (play-section-at t) play-section.Post records-inv records-left
+copy-to t c = omega (arith, there t (c .before) (c .loop-test .taken) .inside, there t (c .before) (c .loop-test .taken) .short)
+
+sub-passed : (t : ℕ) → play-section-lts.Need-sub-passed (play-section-callees t) (play-section-at t) play-section.Post records-inv records-left
+sub-passed t c = there t (c .before .before) (c .before .loop-test .taken) .least
+
+nothing-more : (t : ℕ) → play-section-lts.Need-returns-2 (play-section-callees t) (play-section-at t) play-section.Post records-inv records-left
+nothing-more t c =
+    let l = c .before .before .before in
+    let b = l .before .before .before .before .before in
+    sym
+    (l .loop .inv .3
+    ∙ ap (afterCalls (moduleIn (l .loop .w)))
+    (played-out (there t l (c .before .before .loop-test .taken)) (b .args .left - 1) (omega (arith, b .pre .1 .0 .2)) (c .if2 .taken)))
+
+cast-entry : (t : ℕ) → play-section-lts.Need-cast-entry-at (play-section-callees t) (play-section-at t) play-section.Post records-inv records-left
+cast-entry t c =
+    let u = there t (c .before .before .before) (c .before .before .loop-test .taken) in
+    omega (arith, c .if2 .left, u .least, u .whole, u .inside, u .short)
+
+sub-left : (t : ℕ) → play-section-lts.Need-sub-play-entry (play-section-callees t) (play-section-at t) play-section.Post records-inv records-left
+sub-left t c = c .before .before .before .before .before .loop .inv .0
+
+entry-requires : (t : ℕ) → play-section-lts.Need-play-entry-requires (play-section-callees t) (play-section-at t) play-section.Post records-inv records-left
+entry-requires t c κs =
+    let l = c .before .before .before .before .before in
+    let b = l .before .before .before .before .before in
+    let u = there t l (c .before .before .before .before .loop-test .taken) in
+    let right = ap (rightRecord (b .args .f .now) (b .args .k)) (c .before .entry-at .ensures) ∙ u .right (c .before .before .if2 .left) in (
+      omega (arith, b .pre .0, l .loop .inv .0),
+      (
+        (b .pre .1 .0 .0, b .pre .1 .0 .1, omega (arith, b .pre .1 .0 .2), b .pre .1 .0 .3),
+        names-one (b .args .f .now) (b .args .k) (c .before .entry-at .result) right,
+      ),
+    )
+
+add-records : (t : ℕ) → play-section-lts.Need-add-records (play-section-callees t) (play-section-at t) play-section.Post records-inv records-left
+add-records t c =
+    let u = there t (c .before .before .before .before .before .before) (c .before .before .before .before .before .loop-test .taken) in
+    omega (arith, c .before .before .before .if2 .left, u .least, u .whole, u .inside, u .short)
+
+sub-records : (t : ℕ) → play-section-lts.Need-sub-records (play-section-callees t) (play-section-at t) play-section.Post records-inv records-left
+sub-records t c =
+    let u = there t (c .before .before .before .before .before .before) (c .before .before .before .before .before .loop-test .taken) in
+    omega (arith, c .before .before .before .if2 .left, u .least, u .whole, u .inside, u .short)
+
+add-at : (t : ℕ) → play-section-lts.Need-add-at (play-section-callees t) (play-section-at t) play-section.Post records-inv records-left
+add-at t c =
+    let u = there t (c .before .before .before .before .before .before) (c .before .before .before .before .before .loop-test .taken) in
+    omega (arith, c .before .before .before .if2 .left, u .least, u .whole, u .inside, u .short)
+
+records-again : (t : ℕ) → play-section-lts.Need-loop-again (play-section-callees t) (play-section-at t) play-section.Post records-inv records-left
+records-again t c =
+    let l = c .before .before .before .before .before .before in
+    let b = l .before .before .before .before .before in
+    let f = b .args .f .now in
+    let left = b .args .left - 1 in
+    let m : Module = moduleIn (l .loop .w) in
+    let to = getD (b .args .next .now) (l .loop .at / 4) 0 in
+    let below = c .before .before .before .if2 .left in
+    let u = there t l (c .before .before .before .before .before .loop-test .taken) in (
+      l .loop .inv .0,
+      omega (arith, l .loop .inv .1),
+      omega (arith, l .loop .inv .2, below, u .least, u .whole),
+      l .loop .inv .3
+          ∙ played-on u left (omega (arith, b .pre .1 .0 .2)) m below
+          ∙ ap (λ (x : Module). afterCalls x (callsBy (callsOf f left) (entriesAt f (l .loop .records - ((to - l .loop .at) / 4 + 1)) (to + 4))))
+          (sym (c .play-entry .ensures ∙ ap (λ (e : Entry). afterCalls m (entryCalls f left e)) (c .before .before .entry-at .ensures))),
+    )
+
+records-done : (t : ℕ) → play-section-lts.Need-returns-3 (play-section-callees t) (play-section-at t) play-section.Post records-inv records-left
+records-done t c =
+    let l = c .before in
+    let b = l .before .before .before .before .before in
+    sym
+    (l .loop .inv .3
+    ∙ none-left (b .args .f .now) (b .args .left - 1) (l .loop .records) (l .loop .at) (moduleIn (l .loop .w)) (c .loop-test .left))
+
+pub +play-entry+play-section-spec : {M : Type 1} → statement M
++play-entry+play-section-spec =
+    close μ-play-entry μ-play-section
+    (λ t.
+    play-entry-lts.spec (play-entry-callees t) (play-entry-at t) play-entry.Post repeats-inv repeats-left
+    (λ c κs. search needs)
+    (makes t)
+    (λ c. omega arith)
+    (λ c. refl)
+    (plays-requires t)
+    (λ c. omega arith)
+    (λ c. omega arith)
+    (plays-again t)
+    (plays-all t))
+    (λ t.
+    play-section-lts.spec (play-section-callees t) (play-section-at t) play-section.Post records-inv records-left
+    (no-level t)
+    (λ c κs. search needs)
+    (λ c κs. search needs)
+    (records-first t)
+    (cast-slot t)
+    (mul-to t)
+    (copy-to t)
+    (sub-passed t)
+    (nothing-more t)
+    (cast-entry t)
+    (λ c κs. search needs)
+    (sub-left t)
+    (entry-requires t)
+    (add-records t)
+    (sub-records t)
+    (add-at t)
+    (λ c. omega arith)
+    (records-again t)
+    (records-done t))

@@ -1,0 +1,2 @@
+-- What playing a trace file over a module in memory comes to.
+pub mod Playing

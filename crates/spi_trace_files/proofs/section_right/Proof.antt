@@ -1,0 +1,117 @@
+-- `spi_trace_files::section_right` meets its contract. The loop's invariant: the records left decide, and with the levels
+-- so far they give the levels behind the section. The measure is the records left. Assumes nothing.
+use Prim.Native.Nat.{ℕ, _+_, _*_, _-_, _≤_}
+use mathlib.Core.Bool.{false}
+use mathlib.Core.List.{List}
+use mathlib.Core.Path.{_≡_, refl, ap, ap₂, sym, _∙_}
+use native.Mathlib.Omega.{arith}
+use borrow.Author.Needs.{needs}
+use borrow.Author.Tests.{not-true, not-false}
+use lib.ListN.{getD}
+use Rattle.spi_rules.proofs.Keeps.{and-first, clash}
+use Rattle.spi_trace_rules.specs.Trace.{recordsOf, levelOf, rightRecord, allRight}
+use Rattle.spi_trace_files.specs.Places.{entryAt, entriesAt}
+use Rattle.spi_trace_files.specs.Passes.{raisedOne, raisedBy}
+use Rattle.spi_trace_files.proofs.Contents.{and-skip}
+use Rattle.spi_trace_files.proofs.Records.{section-at, section-below}
+use Rattle.spi_trace_files.proofs.Levels.{right-more, raised-more, right-none, raised-none, play-safe}
+use Rattle.spi_trace_files.proofs.section_right.Statement.{statement}
+use Rattle.spi_trace_files.proofs.section_right.Tie as tie
+use Rattle.spi_trace_files.proofs.section_right.Reads as reads
+use Rattle.spi_trace_files.proofs.section_right.Lts as lts
+
+abbrev Inv-loop : tie.InvT-loop
+Inv-loop f k levels₀ own level at₀ left₀ levels at left =
+    (at + 4 * left ≤ 65535) × (level ≡ levelOf f k)
+    × (allRight f k (recordsOf f k) ≡ allRight f k (entriesAt f left at))
+    × (raisedBy level levels₀ (recordsOf f k) ≡ raisedBy level levels (entriesAt f left at))
+
+abbrev μ-loop : tie.MeasureT-loop
+μ-loop f k levels₀ own level at₀ left₀ levels at left = left
+
+element-copy-out-level : tie.Need-element-copy-out-level Inv-loop μ-loop
+element-copy-out-level c = section-below (c .before .args .f .now) (c .before .pre .0 .0) (c .before .args .k) (c .before .pre .0 .1)
+
+record-right-requires : tie.Need-record-right-requires Inv-loop μ-loop
+record-right-requires c κs = c .before .before .before .before .before .before .before .pre .1
+
+raise-requires : tie.Need-raise-requires Inv-loop μ-loop
+raise-requires c κs =
+    let b = c .before .before .before .before .before .before .before .before .before .before in
+    let right = sym (c .before .before .record-right .ensures) ∙ not-false (c .before .before .record-right .result) (c .before .if1 .left) in
+    λ play.
+    let safe = play-safe (b .args .f .now) (b .pre .0 .0) (b .args .k) (c .before .before .before .entry-at .result) right play in
+    (omega (arith, safe .0, b .pre .1), safe .1)
+
+loop-holds : tie.Need-loop-holds Inv-loop μ-loop
+loop-holds c =
+    let b = c .before .before .before .before in
+    let f = b .args .f .now in
+    let at = section-at f (b .pre .0 .0) (b .args .k) (b .pre .0 .1) in
+    let records = at .are ∙ ap₂ (entriesAt f) (sym (c .record-count .ensures)) (sym (c .before .first-record .ensures)) in
+    (omega (arith, at .short), b .pre .1, ap (allRight f (b .args .k)) records, ap (raisedBy _ (b .args .levels .now)) records)
+
+returns : tie.Need-returns Inv-loop μ-loop
+returns c =
+    let l = c .before .before .before .before in
+    let b = l .before .before .before .before .before in
+    let f = b .args .f .now in
+    let wrong = ap (rightRecord f (b .args .k)) (sym (c .before .before .entry-at .ensures)) ∙ sym (c .before .record-right .ensures) ∙ not-true (c .before .record-right .result) (c .if1 .taken) in (
+      sym
+          (l .loop .inv .2
+          ∙ right-more f (b .args .k) (l .loop .left) (l .loop .at) (omega arith)
+          ∙ and-first (rightRecord f (b .args .k) (entryAt f (l .loop .at))) _ wrong),
+      λ e. clash false e refl,
+    )
+
+loop-again : tie.Need-loop-again Inv-loop μ-loop
+loop-again c =
+    let l = c .before .before .before .before .before .before in
+    let b = l .before .before .before .before .before in
+    let f = b .args .f .now in
+    let e = c .before .before .before .before .entry-at .ensures in
+    let right = ap (rightRecord f (b .args .k)) (sym e) ∙ sym (c .before .before .before .record-right .ensures) ∙ not-false (c .before .before .before .record-right .result) (c .before .before .if1 .left) in (
+      omega arith,
+      b .pre .1,
+      l .loop .inv .2
+          ∙ right-more f (b .args .k) (l .loop .left) (l .loop .at) (omega arith)
+          ∙ and-skip (rightRecord f (b .args .k) (entryAt f (l .loop .at))) _ right,
+      l .loop .inv .3
+          ∙ raised-more f (b .args .k) (l .loop .left) (l .loop .at) (omega arith) _ (l .loop .levels)
+          ∙ ap (λ (ls : List ℕ). raisedBy (getD (b .args .levels .now) (b .args .k) 0) ls (entriesAt f (l .loop .left - 1) (l .loop .at + 4)))
+          (sym (c .raise .ensures ∙ ap (raisedOne _ (l .loop .levels)) e)),
+    )
+
+returns-2 : tie.Need-returns-2 Inv-loop μ-loop
+returns-2 c =
+    let l = c .before in
+    let b = l .before .before .before .before .before in
+    let f = b .args .f .now in (
+      sym (l .loop .inv .2 ∙ right-none f (b .args .k) (l .loop .left) (l .loop .at) (omega arith)),
+      λ e.
+          sym
+          (ap (λ (n : ℕ). raisedBy n (b .args .levels .now) (recordsOf f (b .args .k))) (sym (b .pre .1))
+          ∙ l .loop .inv .3
+          ∙ raised-none f (b .args .k) (l .loop .left) (l .loop .at) (omega arith) _ (l .loop .levels)),
+    )
+
+pub section-right-spec : {M : Type 1} → statement M
+section-right-spec =
+    tie.close
+    (tie.spec
+    Inv-loop
+    μ-loop
+    element-copy-out-level
+    (λ c κs. search needs)
+    (λ c κs. search needs)
+    loop-holds
+    (λ c. omega arith)
+    (λ c κs. search needs)
+    record-right-requires
+    returns
+    raise-requires
+    (λ c. omega arith)
+    (λ c. omega arith)
+    (λ c. omega arith)
+    loop-again
+    returns-2)

@@ -1,0 +1,41 @@
+-- What is known of a file's sections while the file is gone through, record by record.
+use Prim.Native.Nat.{ℕ, suc, _+_, _*_, _<_, _≤_}
+use mathlib.Core.Bool.{Bool, true, false}
+use mathlib.Core.List.{List, [], _∷_}
+use mathlib.Core.Path.{_≡_}
+use lib.Dec.{leb}
+use lib.ListN.{length, getD, set}
+use Rattle.spi_rules.specs.Choice.{if_then_else_}
+use Rattle.spi_trace_rules.specs.declared.Entry.{Entry}
+use Rattle.spi_trace_rules.specs.Trace.{sectionCount, countOf, isPlay, higher, highestPlayer, levelsBelow}
+
+-- Levels, a number for each section: a play record in a section of some level raises the section that it names above that level.
+unfoldable pub raisedOne : ℕ → List ℕ → Entry → List ℕ
+raisedOne level levels e =
+    if isPlay e then set levels (e .argument) (higher (getD levels (e .argument) 0) (level + 1)) else levels
+
+unfoldable pub raisedBy : ℕ → List ℕ → List Entry → List ℕ
+raisedBy level levels [] = levels
+raisedBy level levels (e ∷ es) = raisedBy level (raisedOne level levels e) es
+
+-- With all sections below number `k` gone through, each section stands one above the highest of them that plays it.
+pub record LevelsAt (f : List ℕ) (k : ℕ) (levels : List ℕ) : Type 0 where
+  pub all : length levels ≡ 64
+  pub each : (j : ℕ) → j < 64 → getD levels j 0 ≡ 1 + highestPlayer f (levelsBelow f k) j k
+
+-- Counts, a number for each section, that stop at 65,536: more than may be made is too much, however much.
+unfoldable pub capped : ℕ → ℕ
+capped n = if leb n 65536 then n else 65536
+
+-- What a record adds, if the sections that it plays count so much.
+unfoldable pub weightOf : List ℕ → Entry → ℕ
+weightOf counts e = if isPlay e then e .value * (1 + getD counts (e .argument) 0) else 1
+
+unfoldable pub addedBy : List ℕ → ℕ → List Entry → ℕ
+addedBy counts total [] = total
+addedBy counts total (e ∷ es) = addedBy counts (capped (total + weightOf counts e)) es
+
+-- The counts of the sections from number `k` on, each with all its levels.
+pub record CountsFrom (f : List ℕ) (k : ℕ) (counts : List ℕ) : Type 0 where
+  pub all : length counts ≡ 256
+  pub each : (j : ℕ) → k ≤ j → j < sectionCount f → getD counts j 0 ≡ capped (countOf f 8 j)

@@ -1,0 +1,431 @@
+// A trace file before it is played: its numbers, its contents, its records, and what it would make. None of it needs a module.
+use spi_trace_rules::Entry;
+use spi_trace_rules::Fault;
+use spi_trace_rules::Played;
+ghost use Prim.Native.Nat.{ℕ, min, _+_, _*_, _/_, _%_, _≤_, _<_};
+ghost use mathlib.Core.Bool.{true, false};
+ghost use mathlib.Core.Path.{_≡_};
+ghost use lib.ListN.{length, getD};
+ghost use Rattle.spi_rules.specs.Choice.{if_then_else_};
+ghost use Rattle.spi_trace_rules.specs.TraceDemands.{sizesBelow};
+ghost use Rattle.spi_trace_rules.specs.Trace.{tableEnd, byteAt, halfAt, wordAt, sectionCount, startOf, sizeOf, gapless, contentsRight, bodyOf, recordsOf, isPlay, levelOf, rightRecord, allRight, recordsRight, countOf, fileCount, playedOf};
+ghost use Rattle.spi_trace_files.specs.Places.{entryAt};
+ghost use Rattle.spi_trace_files.specs.Passes.{raisedOne, raisedBy, capped, weightOf, addedBy};
+ghost use Rattle.spi_trace_files.specs.Idle.{idleBy, landingOf, SilentFrom, PassedFrom};
+
+// The byte at a place, and 0 beyond the end.
+pub fn byte_at(f: &[u8], i: usize) -> u8
+    ensures { λ r. ⌜ r ≡ byteAt (now (f .entry)) i ⌝ }
+{
+    if i < f.len() {
+        return f[i];
+    }
+    0
+}
+
+// The number in two bytes, the lower first.
+pub fn half_at(f: &[u8], i: usize) -> u16
+    ensures { λ r. ⌜ r ≡ halfAt (now (f .entry)) i ⌝ }
+{
+    if i < f.len() {
+        let low = byte_at(f, i);
+        let high = byte_at(f, i + 1);
+        return low as u16 + 256 * (high as u16);
+    }
+    0
+}
+
+// The number in four bytes, the lowest first.
+pub fn word_at(f: &[u8], i: usize) -> u32
+    ensures { λ r. ⌜ r ≡ wordAt (now (f .entry)) i ⌝ }
+{
+    if f.len() <= i {
+        return 0;
+    }
+    let low = half_at(f, i);
+    let high = half_at(f, i + 2);
+    low as u32 + 65536 * (high as u32)
+}
+
+// The number of sections.
+pub fn count(f: &[u8]) -> u16
+    ensures { λ r. ⌜ r ≡ sectionCount (now (f .entry)) ⌝ }
+{
+    half_at(f, 0)
+}
+
+// Where a section starts.
+pub fn start(f: &[u8], k: u16) -> u32
+    ensures { λ r. ⌜ r ≡ startOf (now (f .entry)) k ⌝ }
+{
+    word_at(f, 2 + 8 * (k as usize))
+}
+
+// How many bytes a section has.
+pub fn size(f: &[u8], k: u16) -> u32
+    ensures { λ r. ⌜ r ≡ sizeOf (now (f .entry)) k ⌝ }
+{
+    word_at(f, 6 + 8 * (k as usize))
+}
+
+// Whether the sections lie one behind the other, the first behind the table and the last ending the file.
+fn lies_gapless(f: &[u8], n: u16) -> bool
+    ensures { λ r. ⌜ r ≡ gapless (now (f .entry)) n 0 (2 + 8 * n) ⌝ }
+{
+    let mut at: u64 = 2 + 8 * (n as u64);
+    let mut k: u16 = 0;
+    while k < n {
+        let here = start(f, k) as u64;
+        let bytes = size(f, k);
+        if here != at {
+            return false;
+        }
+        if bytes % 4 != 0 {
+            return false;
+        }
+        at += bytes as u64;
+        k += 1;
+    }
+    at == f.len() as u64
+}
+
+// Whether the contents are right, and the file is not too long.
+pub fn contents_right(f: &[u8]) -> bool
+    ensures { λ r. ⌜ r ≡ contentsRight (now (f .entry)) ⌝ }
+{
+    if 65535 < f.len() {
+        return false;
+    }
+    let n = count(f);
+    if n < 1 {
+        return false;
+    }
+    if 64 < n {
+        return false;
+    }
+    if f.len() < 2 + 8 * (n as usize) {
+        return false;
+    }
+    lies_gapless(f, n)
+}
+
+// The record at a place, of zeros beyond the end.
+pub fn entry_at(f: &[u8], at: usize) -> Entry
+    ensures { λ r. ⌜ r ≡ entryAt (now (f .entry)) at ⌝ }
+{
+    if f.len() <= at {
+        return Entry {
+            kind: 0,
+            argument: 0,
+            value: 0,
+        };
+    }
+    let kind = byte_at(f, at);
+    let argument = byte_at(f, at + 1);
+    let value = half_at(f, at + 2);
+    Entry {
+        kind: kind,
+        argument: argument,
+        value: value,
+    }
+}
+
+// Where the first record of a section lies, and how many records the section has, in a file that is not too long.
+pub fn first_record(f: &[u8], k: u16) -> u16
+    ensures { λ r. ⌜ r ≡ startOf (now (f .entry)) k % 65536 ⌝ }
+{
+    (start(f, k) % 65536) as u16
+}
+
+pub fn record_count(f: &[u8], k: u16) -> u16
+    ensures { λ r. ⌜ r ≡ sizeOf (now (f .entry)) k / 4 % 65536 ⌝ }
+{
+    (size(f, k) / 4 % 65536) as u16
+}
+
+// Whether a record of a section of some level is right.
+fn record_right(f: &[u8], k: u16, level: u8, e: Entry) -> bool
+    requires { ⌜ level ≡ levelOf (now f) k ⌝ }
+    ensures { λ r. ⌜ r ≡ rightRecord (now (f .entry)) k e ⌝ }
+{
+    let kind = e.kind;
+    let argument = e.argument;
+    let value = e.value;
+    if kind == 0 {
+        return argument <= 3;
+    }
+    if kind == 1 {
+        return (argument <= 3) & (value == 0);
+    }
+    if kind == 2 {
+        return ((argument < 8) & !(argument / 2 % 2 == 1)) & (value == 0);
+    }
+    if kind == 3 {
+        return (argument < 8) & (value == 0);
+    }
+    if kind == 4 {
+        return (argument == 0) & (value == 0);
+    }
+    if kind == 5 {
+        let named = argument as u16;
+        let n = count(f);
+        return (k < named) & ((named < n) & (level < 8));
+    }
+    false
+}
+
+// A play record raises the section that it names above the level of its own.
+fn raise(levels: &mut [u8; 64], level: u8, e: Entry)
+    requires { ⌜ (isPlay e ≡ true → (level < 8) × (e .argument < 64)) ⌝ }
+    ensures { λ _. ⌜ now (levels .exit) ≡ raisedOne level (now (levels .entry)) e ⌝ }
+{
+    let kind = e.kind;
+    if kind != 5 {
+        return;
+    }
+    let named = e.argument as usize;
+    if 64 <= named {
+        return;
+    }
+    if level < levels[named] {
+        return;
+    }
+    levels[named] = level + 1;
+}
+
+// Whether every record of a section is right. If so, the sections that it plays are raised.
+fn section_right(f: &[u8], k: u16, levels: &mut [u8; 64]) -> bool
+    requires { ⌜ (contentsRight (now f) ≡ true) × (k < sectionCount (now f)) ⌝ }
+    requires { ⌜ getD (now levels) k 0 ≡ levelOf (now f) k ⌝ }
+    ensures { λ r. ⌜ r ≡ allRight (now (f .entry)) k (recordsOf (now (f .entry)) k) ⌝ }
+    ensures { λ r. ⌜ (r ≡ true → now (levels .exit) ≡ raisedBy (levelOf (now (f .entry)) k) (now (levels .entry)) (recordsOf (now (f .entry)) k)) ⌝ }
+{
+    let own = k as usize;
+    let level = levels[own];
+    let mut at = first_record(f, k);
+    let mut left = record_count(f, k);
+    while 0 < left {
+        let e = entry_at(f, at as usize);
+        if !record_right(f, k, level, e) {
+            return false;
+        }
+        raise(levels, level, e);
+        at += 4;
+        left -= 1;
+    }
+    true
+}
+
+// Whether every record of a file with right contents is right.
+fn records_right(f: &[u8]) -> bool
+    requires { ⌜ contentsRight (now f) ≡ true ⌝ }
+    ensures { λ r. ⌜ r ≡ recordsRight (now (f .entry)) ⌝ }
+{
+    let n = count(f);
+    let mut levels = [1u8; 64];
+    let mut k: u16 = 0;
+    while k < n {
+        if !section_right(f, k, &mut levels) {
+            return false;
+        }
+        k += 1;
+    }
+    true
+}
+
+// A count as a wider number.
+fn wide(n: u32) -> u64
+    ensures { λ r. ⌜ (r ≡ n) × (r ≤ 4294967295) ⌝ }
+{
+    n as u64
+}
+
+// What a record counts, if each section that may be played counts so much.
+fn weight(counts: &[u32; 256], e: Entry) -> u64
+    ensures { λ r. ⌜ r ≡ weightOf (now (counts .entry)) e ⌝ }
+    ensures { λ r. ⌜ r ≤ 281470681743360 ⌝ }
+{
+    let kind = e.kind;
+    let value = e.value as u64;
+    let named = e.argument as usize;
+    if kind != 5 {
+        return 1;
+    }
+    value * (1 + wide(counts[named]))
+}
+
+// A total and what a record counts, up to 65,536.
+fn added(counts: &[u32; 256], total: u32, e: Entry) -> u32
+    ensures { λ r. ⌜ r ≡ capped (total + weightOf (now (counts .entry)) e) ⌝ }
+{
+    let sum = total as u64 + weight(counts, e);
+    if sum <= 65536 {
+        return sum as u32;
+    }
+    65536
+}
+
+// What the records of a section count.
+fn section_total(f: &[u8], k: u16, counts: &[u32; 256]) -> u32
+    requires { ⌜ (contentsRight (now f) ≡ true) × (k < sectionCount (now f)) ⌝ }
+    ensures { λ r. ⌜ r ≡ addedBy (now (counts .entry)) 0 (recordsOf (now (f .entry)) k) ⌝ }
+{
+    let mut total: u32 = 0;
+    let mut at = first_record(f, k);
+    let mut left = record_count(f, k);
+    while 0 < left {
+        let e = entry_at(f, at as usize);
+        total = added(counts, total, e);
+        at += 4;
+        left -= 1;
+    }
+    total
+}
+
+// What playing a right file counts, up to 65,536: each section after those that it may play.
+fn file_total(f: &[u8]) -> u32
+    requires { ⌜ (contentsRight (now f) ≡ true) × (recordsRight (now f) ≡ true) ⌝ }
+    ensures { λ r. ⌜ r ≡ capped (fileCount (now (f .entry))) ⌝ }
+{
+    let mut counts = [0u32; 256];
+    let mut k = count(f);
+    while 0 < k {
+        k -= 1;
+        let total = section_total(f, k, &counts);
+        let own = k as usize;
+        counts[own] = total;
+    }
+    counts[0]
+}
+
+// What playing a file answers.
+pub fn answer(f: &[u8]) -> Played
+    ensures { λ r. ⌜ r ≡ playedOf (now (f .entry)) ⌝ }
+{
+    if !contents_right(f) {
+        return Played::Refused(Fault::BadContents);
+    }
+    if !records_right(f) {
+        return Played::Refused(Fault::BadRecord);
+    }
+    let total = file_total(f);
+    if 65535 < total {
+        return Played::Refused(Fault::TooManyCalls);
+    }
+    Played::Made(total as u16)
+}
+
+// Whether a record makes no call, if these sections make none.
+fn is_idle(silent: &[bool; 256], e: Entry) -> bool
+    ensures { λ r. ⌜ r ≡ idleBy (λ j. getD (now (silent .entry)) j false) e ⌝ }
+{
+    let kind = e.kind;
+    let value = e.value;
+    let named = e.argument as usize;
+    (kind == 5) & ((value == 0) | silent[named])
+}
+
+// Where the first record from one on lies that makes a call: at its own place, or further behind.
+fn lands(silent: &[bool; 256], e: Entry, at: u16, behind: u16) -> u16
+    ensures { λ r. ⌜ r ≡ (if idleBy (λ j. getD (now (silent .entry)) j false) e then behind else at) ⌝ }
+{
+    if is_idle(silent, e) {
+        return behind;
+    }
+    at
+}
+
+// Goes through a section from its end: the table says of each record where the first one from there on lies that makes a call.
+// The answer is where the first one from the section's start on lies.
+fn pass_section(f: &[u8], k: u16, silent: &[bool; 256], next: &mut [u16; 16384], behind: u16) -> u16
+    requires { ⌜ (contentsRight (now f) ≡ true) × (recordsRight (now f) ≡ true) × (k < sectionCount (now f)) ⌝ }
+    requires { ⌜ SilentFrom (now f) (k + 1) (now silent) ⌝ }
+    requires { ⌜ PassedFrom (now f) (tableEnd (now f) + sizesBelow (now f) (k + 1)) (now next) ⌝ }
+    requires { ⌜ behind ≡ landingOf (now f) (tableEnd (now f) + sizesBelow (now f) (k + 1)) ⌝ }
+    ensures { λ r. ⌜ r ≡ landingOf (now (f .entry)) (tableEnd (now (f .entry)) + sizesBelow (now (f .entry)) k) ⌝ }
+    ensures { λ _. ⌜ PassedFrom (now (f .entry)) (tableEnd (now (f .entry)) + sizesBelow (now (f .entry)) k) (now (next .exit)) ⌝ }
+{
+    let mut left = record_count(f, k);
+    let mut at = first_record(f, k) + 4 * left;
+    let mut to = behind;
+    while 0 < left {
+        left -= 1;
+        at -= 4;
+        let e = entry_at(f, at as usize);
+        to = lands(silent, e, at, to);
+        let slot = (at / 4) as usize;
+        next[slot] = to;
+    }
+    to
+}
+
+// Where a section ends.
+fn section_end(f: &[u8], k: u16) -> u16
+    requires { ⌜ (contentsRight (now f) ≡ true) × (k < sectionCount (now f)) ⌝ }
+    ensures { λ r. ⌜ r ≡ tableEnd (now (f .entry)) + sizesBelow (now (f .entry)) (k + 1) ⌝ }
+{
+    first_record(f, k) + 4 * record_count(f, k)
+}
+
+// Goes through all sections, each after those that it may play.
+fn pass_sections(f: &[u8], next: &mut [u16; 16384])
+    requires { ⌜ (contentsRight (now f) ≡ true) × (recordsRight (now f) ≡ true) × (length (now next) ≡ 16384) ⌝ }
+    ensures { λ _. ⌜ PassedFrom (now (f .entry)) (tableEnd (now (f .entry))) (now (next .exit)) ⌝ }
+{
+    let mut silent = [false; 256];
+    let mut to = (f.len() % 65536) as u16;
+    let mut k = count(f);
+    while 0 < k {
+        k -= 1;
+        to = pass_section(f, k, &silent, next, to);
+        let end = section_end(f, k);
+        let own = k as usize;
+        silent[own] = end <= to;
+    }
+}
+
+// The table has 16,384 places. Nothing is done at run time: this is for proofs.
+fn counted(next: [u16; 16384]) -> bool
+    ensures { λ r. ⌜ (r ≡ true) × (length next ≡ 16384) ⌝ }
+{
+    true
+}
+
+fn is_whole(next: &[u16; 16384]) -> bool
+    ensures { λ r. ⌜ (r ≡ true) × (length (now (next .entry)) ≡ 16384) ⌝ }
+{
+    counted(*next)
+}
+
+// For each record of a right file, where the first one from there on lies that makes a call.
+pub fn pass(f: &[u8], next: &mut [u16; 16384])
+    ensures { λ _. ⌜ (contentsRight (now (f .entry)) ≡ true → recordsRight (now (f .entry)) ≡ true → PassedFrom (now (f .entry)) (tableEnd (now (f .entry))) (now (next .exit))) ⌝ }
+{
+    if !contents_right(f) {
+        return;
+    }
+    if !records_right(f) {
+        return;
+    }
+    is_whole(next);
+    pass_sections(f, next);
+}
+
+// The lesser of two numbers.
+fn lesser(a: usize, b: usize) -> usize
+    ensures { λ r. ⌜ r ≡ min a b ⌝ }
+{
+    if a <= b {
+        return a;
+    }
+    b
+}
+
+// A section's body, as part of the file itself.
+pub fn section_body(f: &[u8], k: u16) -> &[u8]
+    ensures { λ r. ⌜ now r ≡ bodyOf (now (f .entry)) k ⌝ }
+{
+    let from = lesser(start(f, k) as usize, f.len());
+    let to = from + lesser(size(f, k) as usize, f.len() - from);
+    &f[from..to]
+}

@@ -1,0 +1,4 @@
+-- Document 02's rules of trace files, and the demands on them.
+pub mod Trace
+pub mod TraceExamples
+pub mod TraceDemands

@@ -1,0 +1,188 @@
+-- Document 02, Five: a trace file. A file is a list of bytes. It has a table of contents and sections of records; a record is a
+-- call, or plays another section. Playing section 0 on a fresh module makes the file's calls in order.
+use Prim.Native.Nat.{ℕ, zero, suc, _+_, _*_, _/_, _%_}
+use mathlib.Core.Bool.{Bool, true, false, not, _&&_, _||_}
+use mathlib.Core.List.{List, [], _∷_, _++_}
+use lib.Dec.{eqb, leb, ltb}
+use lib.ListN.{length, take, drop, getD}
+use Rattle.spi_rules.specs.declared.Module.{Module}
+use Rattle.spi_rules.specs.declared.Call.{Call}
+use Rattle.spi_rules.specs.declared.Call.the-variants.{Read, Write, Tick, Pin, Clear}
+use Rattle.spi_rules.specs.Choice.{if_then_else_}
+use Rattle.spi_rules.specs.Calls.{poweredUp, afterCalls}
+use Rattle.spi_trace_rules.specs.declared.Entry.{Entry}
+use Rattle.spi_trace_rules.specs.declared.Fault.{Fault}
+use Rattle.spi_trace_rules.specs.declared.Fault.the-variants.{BadContents, BadRecord, TooManyCalls}
+use Rattle.spi_trace_rules.specs.declared.Played.{Played}
+use Rattle.spi_trace_rules.specs.declared.Played.the-variants.{Refused, Made}
+
+-- Numbers of two and four bytes, the lowest byte first.
+unfoldable pub byteAt : List ℕ → ℕ → ℕ
+byteAt f i = getD f i 0
+
+unfoldable pub halfAt : List ℕ → ℕ → ℕ
+halfAt f i = byteAt f i + 256 * byteAt f (i + 1)
+
+unfoldable pub wordAt : List ℕ → ℕ → ℕ
+wordAt f i = halfAt f i + 65536 * halfAt f (i + 2)
+
+-- The table of contents: the number of sections, then the start and the length of each. A start counts from the file's first
+-- byte.
+unfoldable pub sectionCount : List ℕ → ℕ
+sectionCount f = halfAt f 0
+
+unfoldable pub tableEnd : List ℕ → ℕ
+tableEnd f = 2 + 8 * sectionCount f
+
+unfoldable pub startOf : List ℕ → ℕ → ℕ
+startOf f k = wordAt f (2 + 8 * k)
+
+unfoldable pub sizeOf : List ℕ → ℕ → ℕ
+sizeOf f k = wordAt f (6 + 8 * k)
+
+-- `n` sections from number `k` on lie one behind the other, the first at `at` and the last ending the file, each of whole
+-- records.
+unfoldable pub gapless : List ℕ → ℕ → ℕ → ℕ → Bool
+gapless f zero k at = eqb at (length f)
+gapless f (suc n) k at =
+    eqb (startOf f k) at && (eqb (sizeOf f k % 4) 0 && gapless f n (k + 1) (at + sizeOf f k))
+
+-- The contents are right: at most 65,535 bytes, 1 to 64 sections, a whole table, and no gap, behind the table neither.
+unfoldable pub contentsRight : List ℕ → Bool
+contentsRight f =
+    leb (length f) 65535
+    && (leb 1 (sectionCount f)
+    && (leb (sectionCount f) 64 && (leb (tableEnd f) (length f) && gapless f (sectionCount f) 0 (tableEnd f))))
+
+-- A section's body is part of the file itself, and its records have four bytes each.
+unfoldable pub bodyOf : List ℕ → ℕ → List ℕ
+bodyOf f k = take (sizeOf f k) (drop (startOf f k) f)
+
+unfoldable pub entriesIn : List ℕ → List Entry
+entriesIn [] = []
+entriesIn (a ∷ []) = []
+entriesIn (a ∷ (b ∷ [])) = []
+entriesIn (a ∷ (b ∷ (c ∷ []))) = []
+entriesIn (a ∷ (b ∷ (c ∷ (d ∷ rest)))) = record { kind = a; argument = b; value = c + 256 * d } ∷ entriesIn rest
+
+unfoldable pub recordsOf : List ℕ → ℕ → List Entry
+recordsOf f k = entriesIn (bodyOf f k)
+
+-- A record plays a section, and these records do.
+unfoldable pub isPlay : Entry → Bool
+isPlay e = eqb (e .kind) 5
+
+unfoldable pub playsAny : List Entry → ℕ → Bool
+playsAny [] k = false
+playsAny (e ∷ es) k = (isPlay e && eqb (e .argument) k) || playsAny es k
+
+-- The level of a section is one more than the highest among the lower-numbered ones that play it, zero times included, or 1 if
+-- none does. `levels` are those of the sections below `n`.
+unfoldable pub higher : ℕ → ℕ → ℕ
+higher a b = if leb a b then b else a
+
+unfoldable pub highestPlayer : List ℕ → List ℕ → ℕ → ℕ → ℕ
+highestPlayer f levels k zero = 0
+highestPlayer f levels k (suc j) =
+    higher (highestPlayer f levels k j) (if playsAny (recordsOf f j) k then getD levels j 0 else 0)
+
+unfoldable pub levelsBelow : List ℕ → ℕ → List ℕ
+levelsBelow f zero = []
+levelsBelow f (suc n) = levelsBelow f n ++ ((1 + highestPlayer f (levelsBelow f n) n n) ∷ [])
+
+unfoldable pub levelOf : List ℕ → ℕ → ℕ
+levelOf f k = 1 + highestPlayer f (levelsBelow f k) k k
+
+-- The levels of the wires in an argument: bit 0 is SDI, bit 1 SCK, bit 2 SS.
+unfoldable pub wireIn : ℕ → ℕ → Bool
+wireIn argument weight = eqb (argument / weight % 2) 1
+
+-- A right record of section `k`: kinds 0 to 5 are write, read, tick, pins, clear and play. A write and a read name a register
+-- from 0 to 3, a tick has no SCK, and what a kind does not use is 0. A play names a higher-numbered section that exists, and
+-- stands in a section below level 8.
+unfoldable pub rightRecord : List ℕ → ℕ → Entry → Bool
+rightRecord f k e =
+    if eqb (e .kind) 0 then leb (e .argument) 3
+    else if eqb (e .kind) 1 then leb (e .argument) 3 && eqb (e .value) 0
+    else if eqb (e .kind) 2 then (ltb (e .argument) 8 && not (wireIn (e .argument) 2)) && eqb (e .value) 0
+    else if eqb (e .kind) 3 then ltb (e .argument) 8 && eqb (e .value) 0
+    else if eqb (e .kind) 4 then eqb (e .argument) 0 && eqb (e .value) 0
+    else if isPlay e then ltb k (e .argument) && (ltb (e .argument) (sectionCount f) && ltb (levelOf f k) 8)
+    else false
+
+unfoldable pub allRight : List ℕ → ℕ → List Entry → Bool
+allRight f k [] = true
+allRight f k (e ∷ es) = rightRecord f k e && allRight f k es
+
+-- Every record of `n` sections from number `k` on is right, played or not.
+unfoldable pub sectionsRight : List ℕ → ℕ → ℕ → Bool
+sectionsRight f zero k = true
+sectionsRight f (suc n) k = allRight f k (recordsOf f k) && sectionsRight f n (k + 1)
+
+unfoldable pub recordsRight : List ℕ → Bool
+recordsRight f = sectionsRight f (sectionCount f) 0
+
+-- The call of a record that is one.
+unfoldable pub callOf : Entry → Call
+callOf e =
+    if eqb (e .kind) 0 then Write (e .argument) (e .value)
+    else if eqb (e .kind) 1 then Read (e .argument)
+    else if eqb (e .kind) 2 then Tick (wireIn (e .argument) 1) (wireIn (e .argument) 4)
+    else if eqb (e .kind) 3 then Pin (wireIn (e .argument) 2) (wireIn (e .argument) 1) (wireIn (e .argument) 4)
+    else Clear
+
+-- A list so many times over.
+unfoldable pub times : ℕ → List Call → List Call
+times zero cs = []
+times (suc n) cs = cs ++ times n cs
+
+-- The calls of records, with those of each section that they play; and of a section with so many levels left. Each nested play
+-- has one level fewer.
+unfoldable pub callsBy : (ℕ → List Call) → List Entry → List Call
+callsBy sub [] = []
+callsBy sub (e ∷ es) = (if isPlay e then times (e .value) (sub (e .argument)) else callOf e ∷ []) ++ callsBy sub es
+
+unfoldable pub callsOf : List ℕ → ℕ → ℕ → List Call
+callsOf f zero k = []
+callsOf f (suc left) k = callsBy (callsOf f left) (recordsOf f k)
+
+-- What counts: each call, and each repeat of a play before its calls.
+unfoldable pub countBy : (ℕ → ℕ) → List Entry → ℕ
+countBy sub [] = 0
+countBy sub (e ∷ es) = (if isPlay e then e .value * (1 + sub (e .argument)) else 1) + countBy sub es
+
+unfoldable pub countOf : List ℕ → ℕ → ℕ → ℕ
+countOf f zero k = 0
+countOf f (suc left) k = countBy (countOf f left) (recordsOf f k)
+
+-- A file: section 0, with eight levels.
+unfoldable pub fileCalls : List ℕ → List Call
+fileCalls f = callsOf f 8 0
+
+unfoldable pub fileCount : List ℕ → ℕ
+fileCount f = countOf f 8 0
+
+-- The table's number for each fault.
+unfoldable pub faultNumberOf : Fault → ℕ
+-- the contents or the file's length are wrong
+faultNumberOf BadContents = 17
+-- a record is wrong
+faultNumberOf BadRecord = 18
+-- the next call would be number 65,536
+faultNumberOf TooManyCalls = 19
+
+-- Playing a file: 17, then 18, then 19; else the calls that counted.
+unfoldable pub playedOf : List ℕ → Played
+playedOf f =
+    if not (contentsRight f) then Refused BadContents
+    else if not (recordsRight f) then Refused BadRecord
+    else if ltb 65535 (fileCount f) then Refused TooManyCalls
+    else Made (fileCount f)
+
+-- The module after it: a fresh one after the file's calls. A refused play leaves the module of before.
+abbrev pub isMade : Played → Bool
+isMade (Refused w) = false
+isMade (Made count) = true
+
+unfoldable pub playedModule : Module → List ℕ → Module
+playedModule m f = if isMade (playedOf f) then afterCalls poweredUp (fileCalls f) else m
