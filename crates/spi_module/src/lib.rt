@@ -218,7 +218,15 @@ pub fn turn(w: &mut [u16; 96], sdi: bool)
     edge(w, !pins.sck, sdi);
 }
 
-// The same of an unframed module.
+// The same of a framed module, and of an unframed one.
+fn framed_turn(w: &mut [u16; 96], sdi: bool)
+    requires { ⌜ framed (settingsIn (now w)) ≡ true ⌝ }
+    ensures { λ _. ⌜ Steps (λ s. turned s sdi) (now (w .entry)) (now (w .exit)) ⌝ }
+{
+    let pins = spi_memory::pins_in(w);
+    framed_edge(w, !pins.sck, sdi);
+}
+
 fn plain_turn(w: &mut [u16; 96], sdi: bool)
     requires { ⌜ framed (settingsIn (now w)) ≡ false ⌝ }
     ensures { λ _. ⌜ Steps (λ s. turned s sdi) (now (w .entry)) (now (w .exit)) ⌝ }
@@ -300,7 +308,7 @@ pub fn tick(w: &mut [u16; 96], sdi: bool, ss: bool) -> Answer
     }
     if spi_settings::is_framed(s) {
         hear_select(w, ss);
-        turn(w, sdi);
+        framed_turn(w, sdi);
         return Answer::Edge;
     }
     if spi_memory::is_free(w) {

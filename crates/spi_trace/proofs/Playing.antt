@@ -1,8 +1,9 @@
 -- Playing makes a file's calls one behind the other.
 --     repeated, repeated-none      one repeat of a section, and the others
 --     section-records              the calls of a section are those of its records
---     upcoming                     the next record of a section that makes a call
---     played-on, played-out        the calls from a record on: those of the next one and of the records behind it, or none
+--     here, upcoming               a record of a section, and the next one that is not idle
+--     played-on                    the calls from a record on: its own, and those of the records behind it
+--     passed-on, played-out        from an idle record on: those from the next one on that is not idle, or none
 --     made-right                   a file that is played is right
 --     plays-refused, plays-made    what a refused play comes to, and one that is made
 -- Assumes nothing.
@@ -27,9 +28,9 @@ use Rattle.spi_trace_rules.specs.declared.Played.the-variants.{Refused, Made}
 use Rattle.spi_trace_rules.specs.Trace.{contentsRight, sectionCount, tableEnd, startOf, sizeOf, recordsOf, isPlay, rightRecord, recordsRight, callOf, times, callsBy, callsOf, fileCalls, playedOf, isMade, playedModule}
 use Rattle.spi_trace_rules.proofs.TraceLevels.{play-right}
 use Rattle.spi_trace_files.specs.Places.{entryAt, entriesAt}
-use Rattle.spi_trace_files.specs.Idle.{landingOf, PassedFrom}
+use Rattle.spi_trace_files.specs.Idle.{idle, landingOf, PassedFrom}
 use Rattle.spi_trace_files.proofs.Records.{entries-more, entries-none, section-at, section-places, record-right}
-use Rattle.spi_trace_files.proofs.Idle.{passing, Lands, lands}
+use Rattle.spi_trace_files.proofs.Idle.{landing-step, Lands, lands, passing}
 use Rattle.spi_trace.specs.Playing.{entryCalls, Plays}
 
 -- Calls one behind the other.
@@ -72,14 +73,17 @@ pub no-levels : (f : List ℕ) (left k : ℕ) → left ≡ 0 → callsOf f left 
 unfolding callsOf
 no-levels f left k none = ap (λ (i : ℕ). callsOf f i k) none
 
--- The next record that makes a call, from a place on with so many records of the section left.
-pub record Next (f : List ℕ) (k at n to : ℕ) : Type 0 where
-  pub is : to ≡ landingOf f at
-  pub least : at ≤ to
-  pub whole : (to - at) % 4 ≡ 0
+-- A record of a section, with so many from there to the section's end.
+pub record Here (f : List ℕ) (k at n : ℕ) : Type 0 where
   pub inside : at + 4 * n ≤ length f
   pub short : length f ≤ 65535
-  pub right : (to - at) / 4 < n → rightRecord f k (entryAt f to) ≡ true
+  pub right : rightRecord f k (entryAt f at) ≡ true
+
+-- The next record from an idle one on that is not idle.
+pub record Next (f : List ℕ) (at to : ℕ) : Type 0 where
+  pub is : to ≡ landingOf f at
+  pub further : at + 4 ≤ to
+  pub whole : (to - at) % 4 ≡ 0
 
 -- A play record that is right names a section of the file.
 pub names-one : (f : List ℕ) (k : ℕ) (e : Entry) → rightRecord f k e ≡ true → isPlay e ≡ true → e .argument < sectionCount f
@@ -97,53 +101,50 @@ module _ (f : List ℕ) (contents : contentsRight f ≡ true) (records : records
   -- Places in the section: so many records before its end.
   module _ (at n : ℕ) (most : n ≤ sizeOf f k / 4 % 65536)
       (place : at + 4 * n ≡ startOf f k % 65536 + 4 * (sizeOf f k / 4 % 65536)) where
-    here-right : (i : ℕ) → i < n → rightRecord f k (entryAt f (at + 4 * i)) ≡ true
-    here-right i below =
-        ap (λ (j : ℕ). rightRecord f k (entryAt f j))
-        (let same : at + 4 * i ≡ startOf f k % 65536 + 4 * (sizeOf f k / 4 % 65536 - n + i) = omega arith in same)
-        ∙ record-right f contents records k h (sizeOf f k / 4 % 65536 - n + i) (omega arith)
-
-    pub upcoming : (next : List ℕ) → PassedFrom f (tableEnd f) next → 0 < n → Next f k at n (getD next (at / 4) 0)
-    upcoming next passed some =
+    pub here : 0 < n → Here f k at n
+    here some =
         let p = section-places f contents k h in
-        let end : at + 4 * n ≤ length f = omega (arith, p .inside) in
-        let is : getD next (at / 4) 0 ≡ landingOf f at =
-        passed .each at (omega (arith, p .first)) (omega arith) (omega (arith, p .aligned, p .inside)) in
-        let l : Lands f at (landingOf f at) = lands f at (omega arith) in
         record {
-          is = is;
-          least = omega (arith, l .least);
-          whole = omega (arith, l .whole, l .least);
-          inside = end;
+          inside = omega (arith, p .inside);
           short = p .short;
-          right = λ below.
+          right =
               ap (λ (j : ℕ). rightRecord f k (entryAt f j))
-              (let same : getD next (at / 4) 0 ≡ at + 4 * ((getD next (at / 4) 0 - at) / 4) = omega (arith, l .whole, l .least) in same)
-              ∙ here-right ((getD next (at / 4) 0 - at) / 4) below;
+              (let same : at ≡ startOf f k % 65536 + 4 * (sizeOf f k / 4 % 65536 - n) = omega arith in same)
+              ∙ record-right f contents records k h (sizeOf f k / 4 % 65536 - n) (omega arith);
         }
 
-module _ {f : List ℕ} {k at n to : ℕ} (u : Next f k at n to) (left : ℕ) (most : left ≤ 8) where
-  from-there : callsBy (callsOf f left) (entriesAt f n at) ≡ callsBy (callsOf f left) (entriesAt f (n - (to - at) / 4) to)
-  from-there =
-      passing f left most n at (u .inside)
-      ∙ ap (λ (i : ℕ). callsBy (callsOf f left) (entriesAt f (n - (i - at) / 4) i)) (sym (u .is))
+    pub upcoming : (next : List ℕ) → PassedFrom f (tableEnd f) next → 0 < n → idle (entryAt f at) ≡ true →
+        Next f at (getD next (at / 4) 0)
+    upcoming next passed some idles =
+        let p = section-places f contents k h in
+        let inside : at + 4 ≤ length f = omega (arith, p .inside) in
+        let is : getD next (at / 4) 0 ≡ landingOf f at =
+        passed .each at (omega (arith, p .first)) inside (omega (arith, p .aligned, p .inside)) idles in
+        let step : landingOf f at ≡ landingOf f (at + 4) = landing-step f at inside ∙ if-true (idle (entryAt f at)) _ _ idles in
+        let l : Lands f (at + 4) (landingOf f (at + 4)) = lands f (at + 4) inside in
+        record { is = is; further = omega (arith, l .least); whole = omega (arith, l .whole, l .least) }
 
-  -- The section has no record left that makes a call.
-  pub played-out : n ≤ (to - at) / 4 → callsBy (callsOf f left) (entriesAt f n at) ≡ []
-  unfolding callsBy
-  played-out h = from-there ∙ ap (callsBy (callsOf f left)) (entries-none f (n - (to - at) / 4) to (omega arith))
-
-  -- It has one: its calls, and those of the records behind it.
-  pub played-on : (m : Module) → (to - at) / 4 < n →
+module _ (f : List ℕ) (left at n : ℕ) where
+  -- The record's calls, and those of the records behind it.
+  pub played-on : (m : Module) → 0 < n →
       afterCalls m (callsBy (callsOf f left) (entriesAt f n at))
-      ≡ afterCalls (afterCalls m (entryCalls f left (entryAt f to)))
-      (callsBy (callsOf f left) (entriesAt f (n - ((to - at) / 4 + 1)) (to + 4)))
+      ≡ afterCalls (afterCalls m (entryCalls f left (entryAt f at))) (callsBy (callsOf f left) (entriesAt f (n - 1) (at + 4)))
   unfolding callsBy entryCalls
-  played-on m h =
-      ap (afterCalls m) (from-there ∙ ap (callsBy (callsOf f left)) (entries-more f (n - (to - at) / 4) to (omega arith)))
-      ∙ after-append m (entryCalls f left (entryAt f to)) _
-      ∙ ap (λ (i : ℕ). afterCalls (afterCalls m (entryCalls f left (entryAt f to))) (callsBy (callsOf f left) (entriesAt f i (to + 4))))
-      (let same : n - (to - at) / 4 - 1 ≡ n - ((to - at) / 4 + 1) = omega arith in same)
+  played-on m some =
+      ap (λ (es : List Entry). afterCalls m (callsBy (callsOf f left) es)) (entries-more f n at some)
+      ∙ after-append m (entryCalls f left (entryAt f at)) _
+
+  -- An idle record makes none.
+  module _ {to : ℕ} (u : Next f at to) (inside : at + 4 * n ≤ length f) where
+    pub passed-on : callsBy (callsOf f left) (entriesAt f n at) ≡ callsBy (callsOf f left) (entriesAt f (n - (to - at) / 4) to)
+    passed-on =
+        passing f (callsOf f left) n at inside
+        ∙ ap (λ (i : ℕ). callsBy (callsOf f left) (entriesAt f (n - (i - at) / 4) i)) (sym (u .is))
+
+    -- The section has no other left.
+    pub played-out : n ≤ (to - at) / 4 → callsBy (callsOf f left) (entriesAt f n at) ≡ []
+    unfolding callsBy
+    played-out h = passed-on ∙ ap (callsBy (callsOf f left)) (entries-none f (n - (to - at) / 4) to (omega arith))
 
 pub none-left : (f : List ℕ) (left n at : ℕ) (m : Module) → n ≤ 0 → afterCalls m (callsBy (callsOf f left) (entriesAt f n at)) ≡ m
 unfolding callsBy

@@ -1,20 +1,19 @@
 // Plays a trace file over a module in memory: the calls of section 0, with those of each section that it plays.
-use spi_rules::Call;
 use spi_trace_rules::Entry;
 use spi_trace_rules::Fault;
 use spi_trace_rules::Played;
-ghost use Prim.Native.Nat.{_≤_, _<_};
+ghost use Prim.Native.Nat.{_<_};
 ghost use mathlib.Core.Bool.{true};
 ghost use mathlib.Core.Path.{_≡_};
-ghost use Rattle.spi_rules.specs.Calls.{poweredUp, performOf, afterCalls};
+ghost use Rattle.spi_rules.specs.Calls.{performOf, afterCalls};
 ghost use Rattle.spi_memory.specs.Memory.{moduleIn};
-ghost use Rattle.spi_trace_rules.specs.Trace.{sectionCount, tableEnd, contentsRight, recordsRight, isPlay, callOf, callsOf, fileCalls, faultNumberOf};
+ghost use Rattle.spi_trace_rules.specs.Trace.{sectionCount, tableEnd, contentsRight, recordsRight, isPlay, callOf, callsOf, faultNumberOf};
 ghost use Rattle.spi_trace_files.specs.Idle.{PassedFrom};
 ghost use Rattle.spi_trace.specs.Playing.{entryCalls, Plays};
 
-// The call of a record that plays no section.
-fn call_of(e: Entry) -> Call
-    ensures { λ r. ⌜ r ≡ callOf e ⌝ }
+// Makes the call of a record that plays no section.
+fn make(w: &mut [u16; 96], e: Entry)
+    ensures { λ _. ⌜ moduleIn (now (w .exit)) ≡ performOf (moduleIn (now (w .entry))) (callOf e) .after ⌝ }
 {
     let kind = e.kind;
     let argument = e.argument;
@@ -22,30 +21,27 @@ fn call_of(e: Entry) -> Call
     let sck = argument / 2 % 2 == 1;
     let ss = argument / 4 % 2 == 1;
     if kind == 0 {
-        return Call::Write(argument as u32, e.value);
+        spi_numbers::write(w, argument as u32, e.value);
+        return;
     }
     if kind == 1 {
-        return Call::Read(argument as u32);
+        spi_numbers::read(w, argument as u32);
+        return;
     }
     if kind == 2 {
-        return Call::Tick(sdi, ss);
+        spi_numbers::tick(w, sdi, ss);
+        return;
     }
     if kind == 3 {
-        return Call::Pin(sck, sdi, ss);
+        spi_numbers::pins(w, sck, sdi, ss);
+        return;
     }
-    Call::Clear
-}
-
-// Makes the call of a record that plays no section.
-fn make(w: &mut [u16; 96], e: Entry)
-    ensures { λ _. ⌜ moduleIn (now (w .exit)) ≡ performOf (moduleIn (now (w .entry))) (callOf e) .after ⌝ }
-{
-    spi_module::perform(w, call_of(e));
+    spi_numbers::clear(w);
 }
 
 // Plays a record: makes its call, or plays the section that it names as often as it says.
 fn play_entry(f: &[u8], next: &[u16; 16384], w: &mut [u16; 96], left: u8, e: Entry)
-    requires { ⌜ (contentsRight (now f) ≡ true) × (recordsRight (now f) ≡ true) × (left ≤ 8) × PassedFrom (now f) (tableEnd (now f)) (now next) ⌝ }
+    requires { ⌜ (contentsRight (now f) ≡ true) × (recordsRight (now f) ≡ true) × PassedFrom (now f) (tableEnd (now f)) (now next) ⌝ }
     requires { ⌜ (isPlay e ≡ true → e .argument < sectionCount (now f)) ⌝ }
     ensures { λ _. ⌜ moduleIn (now (w .exit)) ≡ afterCalls (moduleIn (now (w .entry))) (entryCalls (now (f .entry)) left e) ⌝ }
 {
@@ -62,9 +58,9 @@ fn play_entry(f: &[u8], next: &[u16; 16384], w: &mut [u16; 96], left: u8, e: Ent
     }
 }
 
-// Plays a section with so many levels left, one fewer for the sections that it plays. Records that make no call are passed.
+// Plays a section with so many levels left, one fewer for the sections that it plays. Idle records are passed.
 fn play_section(f: &[u8], next: &[u16; 16384], w: &mut [u16; 96], k: u16, left: u8)
-    requires { ⌜ (contentsRight (now f) ≡ true) × (recordsRight (now f) ≡ true) × (left ≤ 8) × PassedFrom (now f) (tableEnd (now f)) (now next) ⌝ }
+    requires { ⌜ (contentsRight (now f) ≡ true) × (recordsRight (now f) ≡ true) × PassedFrom (now f) (tableEnd (now f)) (now next) ⌝ }
     requires { ⌜ k < sectionCount (now f) ⌝ }
     ensures { λ _. ⌜ moduleIn (now (w .exit)) ≡ afterCalls (moduleIn (now (w .entry))) (callsOf (now (f .entry)) left k) ⌝ }
 {
@@ -74,39 +70,35 @@ fn play_section(f: &[u8], next: &[u16; 16384], w: &mut [u16; 96], k: u16, left: 
     let mut at = spi_trace_files::first_record(f, k);
     let mut records = spi_trace_files::record_count(f, k);
     while 0 < records {
-        let slot = (at / 4) as usize;
-        let to = next[slot];
-        let passed = (to - at) / 4;
-        if records <= passed {
-            return;
+        let e = spi_trace_files::entry_at(f, at as usize);
+        if spi_trace_files::is_idle(e) {
+            let slot = (at / 4) as usize;
+            let to = next[slot];
+            let passed = (to - at) / 4;
+            if records <= passed {
+                return;
+            }
+            records -= passed;
+            at = to;
+            continue;
         }
-        let e = spi_trace_files::entry_at(f, to as usize);
         play_entry(f, next, w, left - 1, e);
-        records -= passed + 1;
-        at = to + 4;
+        records -= 1;
+        at += 4;
     }
-}
-
-// Plays a right file on a fresh module.
-fn play_right(f: &[u8], w: &mut [u16; 96])
-    requires { ⌜ (contentsRight (now f) ≡ true) × (recordsRight (now f) ≡ true) ⌝ }
-    ensures { λ _. ⌜ moduleIn (now (w .exit)) ≡ afterCalls poweredUp (fileCalls (now (f .entry))) ⌝ }
-{
-    let mut next = [0u16; 16384];
-    spi_trace_files::pass(f, &mut next);
-    spi_memory::power_up(w);
-    play_section(f, &next, w, 0, 8);
 }
 
 // Plays a file: the answer is why it is not played, or the calls made.
 pub fn play(f: &[u8], w: &mut [u16; 96]) -> Played
     ensures { λ r. ⌜ Plays (now (f .entry)) r (now (w .entry)) (now (w .exit)) ⌝ }
 {
-    let answer = spi_trace_files::answer(f);
+    let mut next = [0u16; 16384];
+    let answer = spi_trace_files::look_over(f, &mut next);
     match answer {
         Played::Refused(fault) => Played::Refused(fault),
         Played::Made(count) => {
-            play_right(f, w);
+            spi_memory::power_up(w);
+            play_section(f, &next, w, 0, 8);
             Played::Made(count)
         }
     }

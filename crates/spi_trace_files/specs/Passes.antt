@@ -1,6 +1,5 @@
 -- What is known of a file's sections while the file is gone through, record by record.
-use Prim.Native.Nat.{ℕ, suc, _+_, _*_, _<_, _≤_}
-use mathlib.Core.Bool.{Bool, true, false}
+use Prim.Native.Nat.{ℕ, _+_, _*_, _<_, _≤_}
 use mathlib.Core.List.{List, [], _∷_}
 use mathlib.Core.Path.{_≡_}
 use lib.Dec.{leb}
@@ -27,13 +26,9 @@ pub record LevelsAt (f : List ℕ) (k : ℕ) (levels : List ℕ) : Type 0 where
 unfoldable pub capped : ℕ → ℕ
 capped n = if leb n 65536 then n else 65536
 
--- What a record adds, if the sections that it plays count so much.
-unfoldable pub weightOf : List ℕ → Entry → ℕ
-weightOf counts e = if isPlay e then e .value * (1 + getD counts (e .argument) 0) else 1
-
-unfoldable pub addedBy : List ℕ → ℕ → List Entry → ℕ
-addedBy counts total [] = total
-addedBy counts total (e ∷ es) = addedBy counts (capped (total + weightOf counts e)) es
+-- What a record counts, if the sections that it may play count so much.
+unfoldable pub weightBy : (ℕ → ℕ) → Entry → ℕ
+weightBy sub e = if isPlay e then e .value * (1 + sub (e .argument)) else 1
 
 -- The counts of the sections from number `k` on, each with all its levels.
 pub record CountsFrom (f : List ℕ) (k : ℕ) (counts : List ℕ) : Type 0 where

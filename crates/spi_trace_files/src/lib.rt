@@ -2,16 +2,16 @@
 use spi_trace_rules::Entry;
 use spi_trace_rules::Fault;
 use spi_trace_rules::Played;
-ghost use Prim.Native.Nat.{ℕ, min, _+_, _*_, _/_, _%_, _≤_, _<_};
-ghost use mathlib.Core.Bool.{true, false};
+ghost use Prim.Native.Nat.{min, _+_, _*_, _/_, _%_, _≤_, _<_};
+ghost use mathlib.Core.Bool.{true};
 ghost use mathlib.Core.Path.{_≡_};
-ghost use lib.ListN.{length, getD};
+ghost use lib.ListN.{length, getD, set};
 ghost use Rattle.spi_rules.specs.Choice.{if_then_else_};
 ghost use Rattle.spi_trace_rules.specs.TraceDemands.{sizesBelow};
-ghost use Rattle.spi_trace_rules.specs.Trace.{tableEnd, byteAt, halfAt, wordAt, sectionCount, startOf, sizeOf, gapless, contentsRight, bodyOf, recordsOf, isPlay, levelOf, rightRecord, allRight, recordsRight, countOf, fileCount, playedOf};
+ghost use Rattle.spi_trace_rules.specs.Trace.{tableEnd, byteAt, halfAt, wordAt, sectionCount, startOf, sizeOf, gapless, contentsRight, bodyOf, recordsOf, isPlay, levelOf, rightRecord, allRight, recordsRight, countBy, fileCount, playedOf, isMade};
 ghost use Rattle.spi_trace_files.specs.Places.{entryAt};
-ghost use Rattle.spi_trace_files.specs.Passes.{raisedOne, raisedBy, capped, weightOf, addedBy};
-ghost use Rattle.spi_trace_files.specs.Idle.{idleBy, landingOf, SilentFrom, PassedFrom};
+ghost use Rattle.spi_trace_files.specs.Passes.{raisedOne, raisedBy, capped, weightBy};
+ghost use Rattle.spi_trace_files.specs.Idle.{idle, landingOf, PassedFrom};
 
 // The byte at a place, and 0 beyond the end.
 pub fn byte_at(f: &[u8], i: usize) -> u8
@@ -23,27 +23,48 @@ pub fn byte_at(f: &[u8], i: usize) -> u8
     0
 }
 
-// The number in two bytes, the lower first.
+// A byte as a wider number.
+fn widened(b: u8) -> u16
+    ensures { λ r. ⌜ (r ≡ b) × (r ≤ 255) ⌝ }
+{
+    b as u16
+}
+
+// The number in two bytes of the file, the lower first.
+fn whole_half(f: &[u8], i: usize) -> u16
+    requires { ⌜ i + 2 ≤ length (now f) ⌝ }
+    ensures { λ r. ⌜ r ≡ halfAt (now (f .entry)) i ⌝ }
+{
+    widened(f[i]) + 256 * widened(f[i + 1])
+}
+
+// The number in two bytes, of zeros beyond the end.
 pub fn half_at(f: &[u8], i: usize) -> u16
     ensures { λ r. ⌜ r ≡ halfAt (now (f .entry)) i ⌝ }
 {
-    if i < f.len() {
-        let low = byte_at(f, i);
-        let high = byte_at(f, i + 1);
-        return low as u16 + 256 * (high as u16);
+    if f.len() <= i {
+        return 0;
     }
-    0
+    if f.len() - i < 2 {
+        return byte_at(f, i) as u16;
+    }
+    whole_half(f, i)
 }
 
-// The number in four bytes, the lowest first.
+// The number in four bytes, the lowest first, of zeros beyond the end.
 pub fn word_at(f: &[u8], i: usize) -> u32
     ensures { λ r. ⌜ r ≡ wordAt (now (f .entry)) i ⌝ }
 {
     if f.len() <= i {
         return 0;
     }
-    let low = half_at(f, i);
-    let high = half_at(f, i + 2);
+    if f.len() - i < 4 {
+        let low = half_at(f, i);
+        let high = half_at(f, i + 2);
+        return low as u32 + 65536 * (high as u32);
+    }
+    let low = whole_half(f, i);
+    let high = whole_half(f, i + 2);
     low as u32 + 65536 * (high as u32)
 }
 
@@ -109,6 +130,21 @@ pub fn contents_right(f: &[u8]) -> bool
     lies_gapless(f, n)
 }
 
+// The record at a place in the file.
+fn whole_entry(f: &[u8], at: usize) -> Entry
+    requires { ⌜ at + 4 ≤ length (now f) ⌝ }
+    ensures { λ r. ⌜ r ≡ entryAt (now (f .entry)) at ⌝ }
+{
+    let kind = f[at];
+    let argument = f[at + 1];
+    let value = whole_half(f, at + 2);
+    Entry {
+        kind: kind,
+        argument: argument,
+        value: value,
+    }
+}
+
 // The record at a place, of zeros beyond the end.
 pub fn entry_at(f: &[u8], at: usize) -> Entry
     ensures { λ r. ⌜ r ≡ entryAt (now (f .entry)) at ⌝ }
@@ -120,14 +156,17 @@ pub fn entry_at(f: &[u8], at: usize) -> Entry
             value: 0,
         };
     }
-    let kind = byte_at(f, at);
-    let argument = byte_at(f, at + 1);
-    let value = half_at(f, at + 2);
-    Entry {
-        kind: kind,
-        argument: argument,
-        value: value,
+    if f.len() - at < 4 {
+        let kind = byte_at(f, at);
+        let argument = byte_at(f, at + 1);
+        let value = half_at(f, at + 2);
+        return Entry {
+            kind: kind,
+            argument: argument,
+            value: value,
+        };
     }
+    whole_entry(f, at)
 }
 
 // Where the first record of a section lies, and how many records the section has, in a file that is not too long.
@@ -205,7 +244,7 @@ fn section_right(f: &[u8], k: u16, levels: &mut [u8; 64]) -> bool
     let mut at = first_record(f, k);
     let mut left = record_count(f, k);
     while 0 < left {
-        let e = entry_at(f, at as usize);
+        let e = whole_entry(f, at as usize);
         if !record_right(f, k, level, e) {
             return false;
         }
@@ -242,8 +281,7 @@ fn wide(n: u32) -> u64
 
 // What a record counts, if each section that may be played counts so much.
 fn weight(counts: &[u32; 256], e: Entry) -> u64
-    ensures { λ r. ⌜ r ≡ weightOf (now (counts .entry)) e ⌝ }
-    ensures { λ r. ⌜ r ≤ 281470681743360 ⌝ }
+    ensures { λ r. ⌜ (r ≡ weightBy (λ j. getD (now (counts .entry)) j 0) e) × (r ≤ 281470681743360) ⌝ }
 {
     let kind = e.kind;
     let value = e.value as u64;
@@ -254,134 +292,94 @@ fn weight(counts: &[u32; 256], e: Entry) -> u64
     value * (1 + wide(counts[named]))
 }
 
-// A total and what a record counts, up to 65,536.
-fn added(counts: &[u32; 256], total: u32, e: Entry) -> u32
-    ensures { λ r. ⌜ r ≡ capped (total + weightOf (now (counts .entry)) e) ⌝ }
+// A count, up to 65,536.
+fn cap(total: u64) -> u32
+    ensures { λ r. ⌜ r ≡ capped total ⌝ }
 {
-    let sum = total as u64 + weight(counts, e);
-    if sum <= 65536 {
-        return sum as u32;
+    if total <= 65536 {
+        return total as u32;
     }
     65536
 }
 
-// What the records of a section count.
-fn section_total(f: &[u8], k: u16, counts: &[u32; 256]) -> u32
-    requires { ⌜ (contentsRight (now f) ≡ true) × (k < sectionCount (now f)) ⌝ }
-    ensures { λ r. ⌜ r ≡ addedBy (now (counts .entry)) 0 (recordsOf (now (f .entry)) k) ⌝ }
-{
-    let mut total: u32 = 0;
-    let mut at = first_record(f, k);
-    let mut left = record_count(f, k);
-    while 0 < left {
-        let e = entry_at(f, at as usize);
-        total = added(counts, total, e);
-        at += 4;
-        left -= 1;
-    }
-    total
-}
-
-// What playing a right file counts, up to 65,536: each section after those that it may play.
-fn file_total(f: &[u8]) -> u32
-    requires { ⌜ (contentsRight (now f) ≡ true) × (recordsRight (now f) ≡ true) ⌝ }
-    ensures { λ r. ⌜ r ≡ capped (fileCount (now (f .entry))) ⌝ }
-{
-    let mut counts = [0u32; 256];
-    let mut k = count(f);
-    while 0 < k {
-        k -= 1;
-        let total = section_total(f, k, &counts);
-        let own = k as usize;
-        counts[own] = total;
-    }
-    counts[0]
-}
-
-// What playing a file answers.
-pub fn answer(f: &[u8]) -> Played
-    ensures { λ r. ⌜ r ≡ playedOf (now (f .entry)) ⌝ }
-{
-    if !contents_right(f) {
-        return Played::Refused(Fault::BadContents);
-    }
-    if !records_right(f) {
-        return Played::Refused(Fault::BadRecord);
-    }
-    let total = file_total(f);
-    if 65535 < total {
-        return Played::Refused(Fault::TooManyCalls);
-    }
-    Played::Made(total as u16)
-}
-
-// Whether a record makes no call, if these sections make none.
-fn is_idle(silent: &[bool; 256], e: Entry) -> bool
-    ensures { λ r. ⌜ r ≡ idleBy (λ j. getD (now (silent .entry)) j false) e ⌝ }
+// Whether a record makes no call, since it plays a section zero times.
+pub fn is_idle(e: Entry) -> bool
+    ensures { λ r. ⌜ r ≡ idle e ⌝ }
 {
     let kind = e.kind;
     let value = e.value;
-    let named = e.argument as usize;
-    (kind == 5) & ((value == 0) | silent[named])
+    (kind == 5) & (value == 0)
 }
 
-// Where the first record from one on lies that makes a call: at its own place, or further behind.
-fn lands(silent: &[bool; 256], e: Entry, at: u16, behind: u16) -> u16
-    ensures { λ r. ⌜ r ≡ (if idleBy (λ j. getD (now (silent .entry)) j false) e then behind else at) ⌝ }
+// Where the first record from one on lies that is not idle: at its own place, or further behind. Of an idle one the table says it.
+fn land(next: &mut [u16; 16384], e: Entry, at: u16, behind: u16) -> u16
+    requires { ⌜ length (now next) ≡ 16384 ⌝ }
+    ensures { λ r. ⌜ r ≡ (if idle e then behind else at) ⌝ }
+    ensures { λ _. ⌜ now (next .exit) ≡ (if idle e then set (now (next .entry)) (at / 4) behind else now (next .entry)) ⌝ }
 {
-    if is_idle(silent, e) {
+    if is_idle(e) {
+        let slot = (at / 4) as usize;
+        next[slot] = behind;
         return behind;
     }
     at
 }
 
-// Goes through a section from its end: the table says of each record where the first one from there on lies that makes a call.
-// The answer is where the first one from the section's start on lies.
-fn pass_section(f: &[u8], k: u16, silent: &[bool; 256], next: &mut [u16; 16384], behind: u16) -> u16
-    requires { ⌜ (contentsRight (now f) ≡ true) × (recordsRight (now f) ≡ true) × (k < sectionCount (now f)) ⌝ }
-    requires { ⌜ SilentFrom (now f) (k + 1) (now silent) ⌝ }
+// What is known of a section: where the first record from its start on lies that is not idle, and what its records count.
+struct Passed {
+    to: u16,
+    count: u32,
+}
+
+// Goes through a section from its end, record by record.
+fn pass_section(
+    f: &[u8],
+    k: u16,
+    counts: &[u32; 256],
+    next: &mut [u16; 16384],
+    behind: u16,
+) -> Passed
+    requires { ⌜ (contentsRight (now f) ≡ true) × (k < sectionCount (now f)) ⌝ }
     requires { ⌜ PassedFrom (now f) (tableEnd (now f) + sizesBelow (now f) (k + 1)) (now next) ⌝ }
     requires { ⌜ behind ≡ landingOf (now f) (tableEnd (now f) + sizesBelow (now f) (k + 1)) ⌝ }
-    ensures { λ r. ⌜ r ≡ landingOf (now (f .entry)) (tableEnd (now (f .entry)) + sizesBelow (now (f .entry)) k) ⌝ }
+    ensures { λ r. ⌜ r .to ≡ landingOf (now (f .entry)) (tableEnd (now (f .entry)) + sizesBelow (now (f .entry)) k) ⌝ }
+    ensures { λ r. ⌜ r .count ≡ capped (countBy (λ j. getD (now (counts .entry)) j 0) (recordsOf (now (f .entry)) k)) ⌝ }
     ensures { λ _. ⌜ PassedFrom (now (f .entry)) (tableEnd (now (f .entry)) + sizesBelow (now (f .entry)) k) (now (next .exit)) ⌝ }
 {
     let mut left = record_count(f, k);
     let mut at = first_record(f, k) + 4 * left;
     let mut to = behind;
+    let mut total: u64 = 0;
     while 0 < left {
         left -= 1;
         at -= 4;
-        let e = entry_at(f, at as usize);
-        to = lands(silent, e, at, to);
-        let slot = (at / 4) as usize;
-        next[slot] = to;
+        let e = whole_entry(f, at as usize);
+        total += weight(counts, e);
+        to = land(next, e, at, to);
     }
-    to
+    Passed {
+        to: to,
+        count: cap(total),
+    }
 }
 
-// Where a section ends.
-fn section_end(f: &[u8], k: u16) -> u16
-    requires { ⌜ (contentsRight (now f) ≡ true) × (k < sectionCount (now f)) ⌝ }
-    ensures { λ r. ⌜ r ≡ tableEnd (now (f .entry)) + sizesBelow (now (f .entry)) (k + 1) ⌝ }
-{
-    first_record(f, k) + 4 * record_count(f, k)
-}
-
-// Goes through all sections, each after those that it may play.
-fn pass_sections(f: &[u8], next: &mut [u16; 16384])
+// Goes through all sections, each after those that it may play: the table for playing, and what playing counts, up to 65,536.
+fn pass_sections(f: &[u8], next: &mut [u16; 16384]) -> u32
     requires { ⌜ (contentsRight (now f) ≡ true) × (recordsRight (now f) ≡ true) × (length (now next) ≡ 16384) ⌝ }
+    ensures { λ r. ⌜ r ≡ capped (fileCount (now (f .entry))) ⌝ }
     ensures { λ _. ⌜ PassedFrom (now (f .entry)) (tableEnd (now (f .entry))) (now (next .exit)) ⌝ }
 {
-    let mut silent = [false; 256];
+    let mut counts = [0u32; 256];
     let mut to = (f.len() % 65536) as u16;
     let mut k = count(f);
     while 0 < k {
         k -= 1;
-        to = pass_section(f, k, &silent, next, to);
-        let end = section_end(f, k);
+        let p = pass_section(f, k, &counts, next, to);
+        to = p.to;
         let own = k as usize;
-        silent[own] = end <= to;
+        counts[own] = p.count;
     }
+    counts[0]
 }
 
 // The table has 16,384 places. Nothing is done at run time: this is for proofs.
@@ -397,18 +395,23 @@ fn is_whole(next: &[u16; 16384]) -> bool
     counted(*next)
 }
 
-// For each record of a right file, where the first one from there on lies that makes a call.
-pub fn pass(f: &[u8], next: &mut [u16; 16384])
-    ensures { λ _. ⌜ (contentsRight (now (f .entry)) ≡ true → recordsRight (now (f .entry)) ≡ true → PassedFrom (now (f .entry)) (tableEnd (now (f .entry))) (now (next .exit))) ⌝ }
+// Looks a file over: what playing it answers, and for each idle record, if it is played, where the first one behind lies that is not.
+pub fn look_over(f: &[u8], next: &mut [u16; 16384]) -> Played
+    ensures { λ r. ⌜ r ≡ playedOf (now (f .entry)) ⌝ }
+    ensures { λ r. ⌜ (isMade r ≡ true → PassedFrom (now (f .entry)) (tableEnd (now (f .entry))) (now (next .exit))) ⌝ }
 {
     if !contents_right(f) {
-        return;
+        return Played::Refused(Fault::BadContents);
     }
     if !records_right(f) {
-        return;
+        return Played::Refused(Fault::BadRecord);
     }
     is_whole(next);
-    pass_sections(f, next);
+    let total = pass_sections(f, next);
+    if 65535 < total {
+        return Played::Refused(Fault::TooManyCalls);
+    }
+    Played::Made(total as u16)
 }
 
 // The lesser of two numbers.

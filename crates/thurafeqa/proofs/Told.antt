@@ -1,5 +1,4 @@
 -- What a caller is told of a call that is answered.
---     told        a call on one module
 --     link-told   a linked run
 --     clock-refused, clock-told   a clock report
 --     play-told   playing a trace file
@@ -9,27 +8,15 @@ use mathlib.Core.List.{List, [], _∷_}
 use mathlib.Core.Path.{_≡_, refl, sym, _∙_, ap}
 use native.Mathlib.Nat.{zero-add}
 use lib.Ieee.{Float}
-use Rattle.spi_rules.specs.declared.Answer.{Answer}
-use Rattle.spi_rules.specs.declared.Outcome.{Outcome}
 use Rattle.spi_link_rules.specs.declared.LinkAnswer.{LinkAnswer}
 use Rattle.spi_link_rules.specs.declared.Linked.{Linked}
 use Rattle.spi_clock_rules.specs.declared.ClockSaid.{ClockSaid}
 use Rattle.spi_rules.proofs.Choices.{so-eq, not-so-eq}
-use Rattle.spi_module.specs.Answered.{untouching, Answers}
 use Rattle.spi_link.specs.Wire.{isRefused, Links}
 use Rattle.spi_trace_rules.specs.declared.Played.{Played}
 use Rattle.spi_trace_rules.specs.Trace.{isMade}
 use Rattle.spi_trace.specs.Playing.{Plays}
-use Rattle.thurafeqa.specs.Numbers.{answerNumber, Tells, linkNumber, LinkTells, kindNumber, clockNumber, clockFloats, ClockTells, playNumber, PlayTells}
-
-pub told : {o : Outcome} {x : Answer} {r : ℕ} {a b : List ℕ} → Answers o x a b → r ≡ answerNumber x → Tells o r a b
-told h e =
-    let same = ap (λ (o : Outcome). o .answer) (h .outcome) in
-    record {
-      number = e ∙ ap answerNumber same;
-      holds = ap (λ (o : Outcome). o .after) (h .outcome);
-      untouched = λ t. h .untouched (ap untouching same ∙ t);
-    }
+use Rattle.thurafeqa.specs.Numbers.{linkNumber, LinkTells, kindNumber, clockNumber, clockFloats, ClockTells, playNumber, PlayTells}
 
 pub link-told : {l : Linked} {x : LinkAnswer} {r : ℕ} {a b c d : List ℕ} → Links l x a b c d → r ≡ linkNumber x →
     LinkTells l r a b c d

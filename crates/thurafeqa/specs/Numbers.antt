@@ -1,4 +1,5 @@
--- What a caller is told: answers as the one number that a call returns, and the memory after it.
+-- What crosses the boundary besides the answers of one module's calls: levels as numbers, and what a caller is told of a linked run,
+-- of a clock report and of playing a trace file.
 use Prim.Native.Nat.{ℕ, _+_, _*_}
 use mathlib.Core.Bool.{Bool, true, false, not}
 use mathlib.Core.List.{List, [], _∷_}
@@ -7,45 +8,29 @@ use lib.Dec.{eqb}
 use lib.Ieee.{Float}
 use Rattle.spi_rules.specs.declared.Module.{Module}
 use Rattle.spi_clock_rules.specs.declared.ClockSaid.{ClockSaid}
-use Rattle.spi_rules.specs.declared.Answer.{Answer}
-use Rattle.spi_rules.specs.declared.Outcome.{Outcome}
 use Rattle.spi_link_rules.specs.declared.LinkAnswer.{LinkAnswer}
 use Rattle.spi_link_rules.specs.declared.Linked.{Linked}
 use Rattle.spi_rules.specs.declared.Output.{Output}
 use Rattle.spi_rules.specs.declared.Output.the-variants.{Low, High, Undriven}
 use Rattle.spi_rules.specs.Choice.{if_then_else_}
-use Rattle.spi_rules.specs.Refusals.{saidOf}
 use Rattle.spi_link_rules.specs.Link.{linkSaidOf}
 use Rattle.spi_rules.specs.Calls.{interruptOf, sckOf, sdoOf, ssOf}
 use Rattle.spi_trace_rules.specs.declared.Played.{Played}
 use Rattle.spi_trace_rules.specs.Trace.{playedOf, isMade, playedModule}
 use Rattle.spi_trace_rules.specs.TraceDemands.{numberIn, countIn}
 use Rattle.spi_memory.specs.Memory.{moduleIn}
-use Rattle.spi_module.specs.Answered.{untouching}
 use Rattle.spi_link.specs.Wire.{isRefused}
 
 -- A level that comes in: 0 is low, any other number is high.
 unfoldable pub levelIn : ℕ → Bool
 levelIn x = not (eqb x 0)
 
--- An answer as one number: the upper 16 bits are the refusal number, 0 if the call was not refused; the lower 16 bits are
--- the register value of a read, or the edges that a tick made, 0 or 1.
-unfoldable pub answerNumber : Answer → ℕ
-answerNumber a = saidOf a .number * 65536 + saidOf a .value + saidOf a .edges
-
--- A call returns the number of its definition's answer, and memory holds the definition's module. A refused call, and a
--- tick that makes no edge, leave every number of memory as it was.
-pub record Tells (o : Outcome) (r : ℕ) (before after : List ℕ) : Type 0 where
-  pub number : r ≡ answerNumber (o .answer)
-  pub holds : moduleIn after ≡ o .after
-  pub untouched : untouching (o .answer) ≡ true → after ≡ before
-
 -- The answer of a linked run: the upper 16 bits are the refusal number, 0 if it was not refused, the lower 16 bits the
 -- edges used.
 unfoldable pub linkNumber : LinkAnswer → ℕ
 linkNumber a = linkSaidOf a .number * 65536 + linkSaidOf a .edges
 
--- The same of a linked run: a refused one leaves every number of both memories as it was.
+-- A linked run returns the number of its answer, and both memories hold the definition's ends. A refused one leaves every number of both memories as it was.
 pub record LinkTells (l : Linked) (r : ℕ) (host hostAfter client clientAfter : List ℕ) : Type 0 where
   pub number : r ≡ linkNumber (l .answer)
   pub hostHolds : moduleIn hostAfter ≡ l .host

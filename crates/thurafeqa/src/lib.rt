@@ -1,7 +1,6 @@
 // The model for a program in C or Rust to link: the calls of one module, linked runs, clock reports and trace files over memory that the
 // caller holds, 96 numbers of 16 bits a module. Only numbers cross the boundary, and any numbers are answered.
 use spi_link_rules::LinkAnswer;
-use spi_rules::Answer;
 use spi_rules::Output;
 use spi_trace_rules::Played;
 ghost use Prim.Native.Nat.{_%_, _≤_};
@@ -11,20 +10,8 @@ ghost use Rattle.spi_rules.specs.Calls.{poweredUp, readOf, writeOf, tickOf, pin
 ghost use Rattle.spi_link_rules.specs.Link.{linkedOf};
 ghost use Rattle.spi_clock_rules.specs.Clock.{reportOf, saidClock};
 ghost use Rattle.spi_memory.specs.Memory.{moduleIn};
-ghost use Rattle.thurafeqa.specs.Numbers.{Tells, LinkTells, levelIn, answerNumber, linkNumber, outputBits, levelsNumber, kindNumber, ClockTells, playNumber, PlayTells, versionNumber, formatNumber};
-
-// An answer as a number.
-fn answer_number(a: Answer) -> u32
-    ensures { λ r. ⌜ r ≡ answerNumber a ⌝ }
-{
-    match a {
-        Answer::Refused(r) => spi_views::refusal_number(r) as u32 * 65536,
-        Answer::Done => 0,
-        Answer::Value(v) => v as u32,
-        Answer::NoEdge => 0,
-        Answer::Edge => 1,
-    }
-}
+ghost use Rattle.spi_numbers.specs.Told.{Tells};
+ghost use Rattle.thurafeqa.specs.Numbers.{LinkTells, levelIn, linkNumber, outputBits, levelsNumber, kindNumber, ClockTells, playNumber, PlayTells, versionNumber, formatNumber};
 
 // The answer of a linked run as a number.
 fn link_number(a: LinkAnswer) -> u32
@@ -47,8 +34,7 @@ pub extern "C" fn thurafeqa_power_up(w: &mut [u16; 96])
 pub extern "C" fn thurafeqa_read(w: &mut [u16; 96], register: u32) -> u32
     ensures { λ r. ⌜ Tells (readOf (moduleIn (now (w .entry))) register) r (now (w .entry)) (now (w .exit)) ⌝ }
 {
-    let answer = spi_module::read(w, register);
-    answer_number(answer)
+    spi_numbers::read(w, register)
 }
 
 // Writes the low 16 bits of a value to a register.
@@ -56,8 +42,7 @@ pub extern "C" fn thurafeqa_read(w: &mut [u16; 96], register: u32) -> u32
 pub extern "C" fn thurafeqa_write(w: &mut [u16; 96], register: u32, value: u32) -> u32
     ensures { λ r. ⌜ Tells (writeOf (moduleIn (now (w .entry))) register (value % 65536)) r (now (w .entry)) (now (w .exit)) ⌝ }
 {
-    let answer = spi_module::write(w, register, (value % 65536) as u16);
-    answer_number(answer)
+    spi_numbers::write(w, register, (value % 65536) as u16)
 }
 
 // One tick of a host with its own clock, with the levels SDI and SS. SS counts for a frame client alone.
@@ -65,8 +50,7 @@ pub extern "C" fn thurafeqa_write(w: &mut [u16; 96], register: u32, value: u32) 
 pub extern "C" fn thurafeqa_tick(w: &mut [u16; 96], sdi: u32, ss: u32) -> u32
     ensures { λ r. ⌜ Tells (tickOf (moduleIn (now (w .entry))) (levelIn sdi) (levelIn ss)) r (now (w .entry)) (now (w .exit)) ⌝ }
 {
-    let answer = spi_module::tick(w, sdi != 0, ss != 0);
-    answer_number(answer)
+    spi_numbers::tick(w, sdi != 0, ss != 0)
 }
 
 // The levels SCK, SDI and SS are shown to a module that is clocked from its pin.
@@ -74,8 +58,7 @@ pub extern "C" fn thurafeqa_tick(w: &mut [u16; 96], sdi: u32, ss: u32) -> u32
 pub extern "C" fn thurafeqa_pins(w: &mut [u16; 96], sck: u32, sdi: u32, ss: u32) -> u32
     ensures { λ r. ⌜ Tells (pinsOf (moduleIn (now (w .entry))) (levelIn sck) (levelIn sdi) (levelIn ss)) r (now (w .entry)) (now (w .exit)) ⌝ }
 {
-    let answer = spi_module::pins(w, sck != 0, sdi != 0, ss != 0);
-    answer_number(answer)
+    spi_numbers::pins(w, sck != 0, sdi != 0, ss != 0)
 }
 
 // Clears the interrupt flag.
@@ -83,7 +66,7 @@ pub extern "C" fn thurafeqa_pins(w: &mut [u16; 96], sck: u32, sdi: u32, ss: u32)
 pub extern "C" fn thurafeqa_clear(w: &mut [u16; 96])
     ensures { λ _. ⌜ moduleIn (now (w .exit)) ≡ clearOf (moduleIn (now (w .entry))) .after ⌝ }
 {
-    spi_module::clear(w);
+    spi_numbers::clear(w);
 }
 
 // A pin that the module may drive: its level, and whether it is driven.

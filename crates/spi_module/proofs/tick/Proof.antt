@@ -3,7 +3,7 @@ use borrow.Author.Needs.{needs}
 use mathlib.Core.Path.{refl, sym, _∙_, ap}
 use mathlib.Core.Bool.{not}
 use borrow.Author.Tests.{not-false}
-use Rattle.spi_rules.specs.Settings.{clockStops}
+use Rattle.spi_rules.specs.Settings.{framed, clockStops}
 use Rattle.spi_rules.specs.Calls.{refuse, tickOf}
 use Rattle.spi_rules.proofs.Keeps.{and-both, and-false, and-first}
 use Rattle.spi_rules.proofs.Choices.{so, not-so}
@@ -24,6 +24,12 @@ returns-2 c =
     let settings-in = c .before .before .before .before .settings-in .ensures in
     kept (not-so _ _ _ (rw settings-in at (c .before .before .if1 .left)) (so _ _ _ (rw ((c .before .own-clock .ensures), settings-in) at (c .if2 .taken)) refl))
 
+framed-turn-requires : tie.Need-framed-turn-requires
+framed-turn-requires c κs =
+    let settings-in = c .before .before .before .before .before .before .before .before .before .settings-in .ensures in
+    let is-framed = c .before .before .before .before .is-framed .ensures in
+    ap framed (c .before .hear-select .ensures .settings) ∙ (rw (is-framed, settings-in) at (c .before .before .before .if3 .taken))
+
 returns-3 : tie.Need-returns-3
 unfolding tickOf
 returns-3 c =
@@ -38,7 +44,7 @@ returns-3 c =
     (not-so _ _ _ (rw settings-in at if1)
     (not-so _ _ _ clock
     (not-so _ _ _ (and-first _ _ (ap not (rw (is-framed, settings-in) at if3)))
-    (answered _ ((c .before .before .hear-select .ensures) then (c .turn .ensures)) (told-turn _ _ _ (not-false _ clock))))))
+    (answered _ ((c .before .before .hear-select .ensures) then (c .framed-turn .ensures)) (told-turn _ _ _ (not-false _ clock))))))
 
 returns-4 : tie.Need-returns-4
 unfolding tickOf
@@ -87,7 +93,8 @@ tick-spec =
     returns
     (λ c κs. search needs)
     returns-2
-    (λ c κs. search needs) (λ c κs. search needs) (λ c κs. search needs)
+    (λ c κs. search needs) (λ c κs. search needs)
+    framed-turn-requires
     returns-3
     (λ c κs. search needs)
     returns-4

@@ -1,6 +1,7 @@
 -- Playing a record and playing a section call each other. The measures are twice the levels left, and one more for a record: it plays
 -- a section with as many levels left, and a section plays its records with one fewer. A record's loop: the repeats left still make
--- their calls. A section's loop: the records left still make theirs, and lie at the section's end.
+-- their calls. A section's loop: the records left still make theirs, and lie at the section's end; an idle one is passed, and with it
+-- those up to the next that is not.
 -- Assumes nothing.
 use Prim.Native.Nat.{ℕ, _+_, _*_, _-_, _/_, _%_, _<_, _≤_}
 use mathlib.Core.Bool.{true, false}
@@ -19,8 +20,9 @@ use Rattle.spi_memory.specs.Memory.{moduleIn}
 use Rattle.spi_trace_rules.specs.declared.Entry.{Entry}
 use Rattle.spi_trace_rules.specs.Trace.{startOf, sizeOf, isPlay, rightRecord, times, callsBy, callsOf}
 use Rattle.spi_trace_files.specs.Places.{entriesAt}
+use Rattle.spi_trace_files.specs.Idle.{idle}
 use Rattle.spi_trace.specs.Playing.{entryCalls}
-use Rattle.spi_trace.proofs.Playing.{repeated, repeated-none, entry-plays, entry-makes, no-levels, names-one, section-records, Next, upcoming, played-out, played-on, none-left}
+use Rattle.spi_trace.proofs.Playing.{repeated, repeated-none, entry-plays, entry-makes, no-levels, names-one, section-records, Here, Next, here, upcoming, played-on, passed-on, played-out, none-left}
 use Rattle.spi_trace.proofs.play_entry.Reads as play-entry
 use Rattle.spi_trace.proofs.play_entry.Kinds as play-entry-kinds
 use Rattle.spi_trace.proofs.+play_entry+play_section.Lts-play_entry as play-entry-lts
@@ -29,6 +31,7 @@ use Rattle.spi_trace.proofs.play_section.Kinds as play-section-kinds
 use Rattle.spi_trace.proofs.+play_entry+play_section.Lts-play_section as play-section-lts
 use Rattle.spi_trace.proofs.make.Reads as make-reads
 use Rattle.spi_trace_files.proofs.entry_at.Reads as entry-at-reads
+use Rattle.spi_trace_files.proofs.is_idle.Reads as is-idle-reads
 use Rattle.spi_trace_files.proofs.first_record.Reads as first-record-reads
 use Rattle.spi_trace_files.proofs.record_count.Reads as record-count-reads
 use Rattle.spi_trace.proofs.+play_entry+play_section.{statement}
@@ -65,6 +68,8 @@ play-section-callees t = (
   record-count-reads.Learnt,
   entry-at-reads.Asked,
   entry-at-reads.Learnt,
+  is-idle-reads.Asked,
+  is-idle-reads.Learnt,
   play-entry-below t,
   play-entry.Post,
 )
@@ -124,15 +129,26 @@ records-inv f next w₀ k left at₀ records₀ w at records =
 abbrev records-left : play-section-lts.MeasureT-loop
 records-left f next w₀ k left at₀ records₀ w at records = records
 
--- The next record of the section that makes a call.
+-- The record that the loop has reached, and if it is idle the next one that is not.
 there : (t : ℕ) (l : play-section-lts.At-loop (play-section-callees t) (play-section-at t) play-section.Post records-inv records-left) →
     0 < l .loop .records →
-    Next (l .before .before .before .before .before .args .f .now) (l .before .before .before .before .before .args .k) (l .loop .at)
-    (l .loop .records) (getD (l .before .before .before .before .before .args .next .now) (l .loop .at / 4) 0)
+    Here (l .before .before .before .before .before .args .f .now) (l .before .before .before .before .before .args .k) (l .loop .at)
+    (l .loop .records)
 there t l some =
     let b = l .before .before .before .before .before in
+    here (b .args .f .now) (b .pre .1 .0 .0) (b .pre .1 .0 .1) (b .args .k) (b .pre .1 .1) (l .loop .at) (l .loop .records)
+    (l .loop .inv .1) (l .loop .inv .2) some
+
+behind : (t : ℕ) (c : play-section-lts.Then2 (play-section-callees t) (play-section-at t) play-section.Post records-inv records-left) →
+    let l = c .before .before .before .before in
+    Next (l .before .before .before .before .before .args .f .now) (l .loop .at)
+    (getD (l .before .before .before .before .before .args .next .now) (l .loop .at / 4) 0)
+behind t c =
+    let l = c .before .before .before .before in
+    let b = l .before .before .before .before .before in
     upcoming (b .args .f .now) (b .pre .1 .0 .0) (b .pre .1 .0 .1) (b .args .k) (b .pre .1 .1) (l .loop .at) (l .loop .records)
-    (l .loop .inv .1) (l .loop .inv .2) (b .args .next .now) (b .pre .1 .0 .3) some
+    (l .loop .inv .1) (l .loop .inv .2) (b .args .next .now) (b .pre .1 .0 .2) (c .before .before .before .loop-test .taken)
+    (ap idle (sym (c .before .before .entry-at .ensures)) ∙ sym (c .before .is-idle .ensures) ∙ c .if2 .taken)
 
 no-level : (t : ℕ) → play-section-lts.Need-returns (play-section-callees t) (play-section-at t) play-section.Post records-inv records-left
 no-level t c =
@@ -160,24 +176,39 @@ mul-to : (t : ℕ) → play-section-lts.Need-mul-to (play-section-callees t) (pl
 mul-to t c = omega arith
 
 copy-to : (t : ℕ) → play-section-lts.Need-element-copy-out-to (play-section-callees t) (play-section-at t) play-section.Post records-inv records-left
-copy-to t c = omega (arith, there t (c .before) (c .loop-test .taken) .inside, there t (c .before) (c .loop-test .taken) .short)
+copy-to t c =
+    let r = there t (c .before .before .before .before) (c .before .before .before .loop-test .taken) in
+    omega (arith, r .inside, r .short)
 
 sub-passed : (t : ℕ) → play-section-lts.Need-sub-passed (play-section-callees t) (play-section-at t) play-section.Post records-inv records-left
-sub-passed t c = there t (c .before .before) (c .before .loop-test .taken) .least
+sub-passed t c = omega (arith, behind t (c .before) .further)
 
 nothing-more : (t : ℕ) → play-section-lts.Need-returns-2 (play-section-callees t) (play-section-at t) play-section.Post records-inv records-left
 nothing-more t c =
-    let l = c .before .before .before in
+    let l = c .before .before .before .before .before .before in
     let b = l .before .before .before .before .before in
     sym
     (l .loop .inv .3
     ∙ ap (afterCalls (moduleIn (l .loop .w)))
-    (played-out (there t l (c .before .before .loop-test .taken)) (b .args .left - 1) (omega (arith, b .pre .1 .0 .2)) (c .if2 .taken)))
+    (played-out (b .args .f .now) (b .args .left - 1) (l .loop .at) (l .loop .records) (behind t (c .before .before))
+    (there t l (c .before .before .before .before .before .loop-test .taken) .inside) (c .if3 .taken)))
 
-cast-entry : (t : ℕ) → play-section-lts.Need-cast-entry-at (play-section-callees t) (play-section-at t) play-section.Post records-inv records-left
-cast-entry t c =
-    let u = there t (c .before .before .before) (c .before .before .loop-test .taken) in
-    omega (arith, c .if2 .left, u .least, u .whole, u .inside, u .short)
+passed-less : (t : ℕ) → play-section-lts.Need-loop-less (play-section-callees t) (play-section-at t) play-section.Post records-inv records-left
+passed-less t c = omega (arith, c .if3 .left, behind t (c .before .before) .further)
+
+passed-again : (t : ℕ) → play-section-lts.Need-loop-again (play-section-callees t) (play-section-at t) play-section.Post records-inv records-left
+passed-again t c =
+    let l = c .before .before .before .before .before .before in
+    let b = l .before .before .before .before .before in
+    let u = behind t (c .before .before) in (
+      l .loop .inv .0,
+      omega (arith, l .loop .inv .1),
+      omega (arith, l .loop .inv .2, c .if3 .left, u .further, u .whole),
+      l .loop .inv .3
+          ∙ ap (afterCalls (moduleIn (l .loop .w)))
+          (passed-on (b .args .f .now) (b .args .left - 1) (l .loop .at) (l .loop .records) u
+          (there t l (c .before .before .before .before .before .loop-test .taken) .inside)),
+    )
 
 sub-left : (t : ℕ) → play-section-lts.Need-sub-play-entry (play-section-callees t) (play-section-at t) play-section.Post records-inv records-left
 sub-left t c = c .before .before .before .before .before .loop .inv .0
@@ -186,47 +217,32 @@ entry-requires : (t : ℕ) → play-section-lts.Need-play-entry-requires (play-s
 entry-requires t c κs =
     let l = c .before .before .before .before .before in
     let b = l .before .before .before .before .before in
-    let u = there t l (c .before .before .before .before .loop-test .taken) in
-    let right = ap (rightRecord (b .args .f .now) (b .args .k)) (c .before .entry-at .ensures) ∙ u .right (c .before .before .if2 .left) in (
+    let e = c .before .before .before .entry-at in
+    let right = ap (rightRecord (b .args .f .now) (b .args .k)) (e .ensures) ∙ there t l (c .before .before .before .before .loop-test .taken) .right in (
       omega (arith, b .pre .0, l .loop .inv .0),
-      (
-        (b .pre .1 .0 .0, b .pre .1 .0 .1, omega (arith, b .pre .1 .0 .2), b .pre .1 .0 .3),
-        names-one (b .args .f .now) (b .args .k) (c .before .entry-at .result) right,
-      ),
+      (b .pre .1 .0, names-one (b .args .f .now) (b .args .k) (e .result) right),
     )
-
-add-records : (t : ℕ) → play-section-lts.Need-add-records (play-section-callees t) (play-section-at t) play-section.Post records-inv records-left
-add-records t c =
-    let u = there t (c .before .before .before .before .before .before) (c .before .before .before .before .before .loop-test .taken) in
-    omega (arith, c .before .before .before .if2 .left, u .least, u .whole, u .inside, u .short)
-
-sub-records : (t : ℕ) → play-section-lts.Need-sub-records (play-section-callees t) (play-section-at t) play-section.Post records-inv records-left
-sub-records t c =
-    let u = there t (c .before .before .before .before .before .before) (c .before .before .before .before .before .loop-test .taken) in
-    omega (arith, c .before .before .before .if2 .left, u .least, u .whole, u .inside, u .short)
 
 add-at : (t : ℕ) → play-section-lts.Need-add-at (play-section-callees t) (play-section-at t) play-section.Post records-inv records-left
 add-at t c =
-    let u = there t (c .before .before .before .before .before .before) (c .before .before .before .before .before .loop-test .taken) in
-    omega (arith, c .before .before .before .if2 .left, u .least, u .whole, u .inside, u .short)
+    let r = there t (c .before .before .before .before .before .before) (c .before .before .before .before .before .loop-test .taken) in
+    omega (arith, r .inside, r .short)
 
-records-again : (t : ℕ) → play-section-lts.Need-loop-again (play-section-callees t) (play-section-at t) play-section.Post records-inv records-left
+records-again : (t : ℕ) → play-section-lts.Need-loop-again-2 (play-section-callees t) (play-section-at t) play-section.Post records-inv records-left
 records-again t c =
     let l = c .before .before .before .before .before .before in
     let b = l .before .before .before .before .before in
     let f = b .args .f .now in
     let left = b .args .left - 1 in
     let m : Module = moduleIn (l .loop .w) in
-    let to = getD (b .args .next .now) (l .loop .at / 4) 0 in
-    let below = c .before .before .before .if2 .left in
-    let u = there t l (c .before .before .before .before .before .loop-test .taken) in (
+    let some = c .before .before .before .before .before .loop-test .taken in (
       l .loop .inv .0,
       omega (arith, l .loop .inv .1),
-      omega (arith, l .loop .inv .2, below, u .least, u .whole),
+      omega (arith, l .loop .inv .2, some),
       l .loop .inv .3
-          ∙ played-on u left (omega (arith, b .pre .1 .0 .2)) m below
-          ∙ ap (λ (x : Module). afterCalls x (callsBy (callsOf f left) (entriesAt f (l .loop .records - ((to - l .loop .at) / 4 + 1)) (to + 4))))
-          (sym (c .play-entry .ensures ∙ ap (λ (e : Entry). afterCalls m (entryCalls f left e)) (c .before .before .entry-at .ensures))),
+          ∙ played-on f left (l .loop .at) (l .loop .records) m some
+          ∙ ap (λ (x : Module). afterCalls x (callsBy (callsOf f left) (entriesAt f (l .loop .records - 1) (l .loop .at + 4))))
+          (sym (c .play-entry .ensures ∙ ap (λ (e : Entry). afterCalls m (entryCalls f left e)) (c .before .before .before .before .entry-at .ensures))),
     )
 
 records-done : (t : ℕ) → play-section-lts.Need-returns-3 (play-section-callees t) (play-section-at t) play-section.Post records-inv records-left
@@ -257,17 +273,20 @@ pub +play-entry+play-section-spec : {M : Type 1} → statement M
     (λ c κs. search needs)
     (λ c κs. search needs)
     (records-first t)
+    (λ c. omega arith)
+    (λ c κs. search needs)
+    (λ c κs. search needs)
     (cast-slot t)
     (mul-to t)
     (copy-to t)
     (sub-passed t)
     (nothing-more t)
-    (cast-entry t)
-    (λ c κs. search needs)
+    (λ c. omega arith)
+    (passed-less t)
+    (passed-again t)
     (sub-left t)
     (entry-requires t)
-    (add-records t)
-    (sub-records t)
+    (λ c. omega arith)
     (add-at t)
     (λ c. omega arith)
     (records-again t)

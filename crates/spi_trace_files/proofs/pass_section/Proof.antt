@@ -1,120 +1,156 @@
--- `spi_trace_files::pass_section` meets its contract. The loop's invariant: the table is right from the place reached on, and `to`
--- is what it says there. The measure is the records left. Assumes nothing.
-use Prim.Native.Nat.{ℕ, _+_, _*_, _-_, _/_, _%_, _≤_}
+-- `spi_trace_files::pass_section` meets its contract. The loop's invariant: from the place reached on, `to` is where the next record lies
+-- that is not idle, the table is right, and the records of the section are counted. Each counts so little that the total fits. The
+-- measure is the records left. Assumes nothing.
+use Prim.Native.Nat.{ℕ, _+_, _*_, _-_, _/_, _%_, _<_, _≤_}
+use mathlib.Core.List.{List}
 use mathlib.Core.Path.{_≡_, ap, ap₂, subst, sym, _∙_}
-use mathlib.Core.Bool.{Bool, true, false}
 use native.Mathlib.Omega.{arith}
 use borrow.Author.Needs.{needs}
-use lib.ListN.{length, getD}
+use lib.ListN.{length, getD, set}
 use Rattle.spi_rules.specs.Choice.{if_then_else_}
 use Rattle.spi_trace_rules.specs.declared.Entry.{Entry}
-use Rattle.spi_trace_rules.specs.Trace.{tableEnd, startOf, sizeOf, rightRecord}
+use Rattle.spi_trace_rules.specs.Trace.{tableEnd, startOf, sizeOf, countBy}
 use Rattle.spi_trace_rules.specs.TraceDemands.{sizesBelow}
-use Rattle.spi_trace_files.specs.Places.{entryAt}
-use Rattle.spi_trace_files.specs.Idle.{idleBy, landingOf, PassedFrom}
-use Rattle.spi_trace_files.proofs.Records.{section-at, section-places, record-right}
-use Rattle.spi_trace_files.proofs.Idle.{idle-same, landing-step, passed-next}
+use Rattle.spi_trace_files.specs.Places.{entriesAt}
+use Rattle.spi_trace_files.specs.Passes.{capped, weightBy}
+use Rattle.spi_trace_files.specs.Idle.{idle, landingOf, PassedFrom}
+use Rattle.spi_trace_files.proofs.Records.{section-at, section-places}
+use Rattle.spi_trace_files.proofs.Counts.{count-more, count-none}
+use Rattle.spi_trace_files.proofs.Idle.{landing-step, passed-next}
 use Rattle.spi_trace_files.proofs.pass_section.Statement.{statement}
 use Rattle.spi_trace_files.proofs.pass_section.Tie as tie
-use Rattle.spi_trace_files.proofs.pass_section.Reads as reads
-use Rattle.spi_trace_files.proofs.pass_section.Lts as lts
 
 abbrev Inv-loop : tie.InvT-loop
-Inv-loop f k silent next₀ behind left₀ at₀ to₀ next left at to =
+Inv-loop f k counts next₀ behind left₀ at₀ to₀ total₀ next left at to total =
     (left ≤ sizeOf f k / 4 % 65536) × (at ≡ tableEnd f + sizesBelow f k + 4 * left)
     × (to ≡ landingOf f at) × PassedFrom f at next
+    × (total ≡ countBy (λ j. getD counts j 0) (entriesAt f (sizeOf f k / 4 % 65536 - left) at))
+    × (total ≤ 281470681743360 * (sizeOf f k / 4 % 65536 - left))
 
 abbrev μ-loop : tie.MeasureT-loop
-μ-loop f k silent next₀ behind left₀ at₀ to₀ next left at to = left
+μ-loop f k counts next₀ behind left₀ at₀ to₀ total₀ next left at to total = left
 
 -- Where the section lies.
 mul-at : tie.Need-mul-at Inv-loop μ-loop
 mul-at c =
     let b = c .before .before .before in
-    omega (arith, section-at (b .args .f .now) (b .pre .0 .0) (b .args .k) (b .pre .0 .2) .short)
+    omega (arith, section-at (b .args .f .now) (b .pre .0 .0) (b .args .k) (b .pre .0 .1) .short)
 
 add-at : tie.Need-add-at Inv-loop μ-loop
 add-at c =
     let b = c .before .before .before in
-    omega (arith, section-at (b .args .f .now) (b .pre .0 .0) (b .args .k) (b .pre .0 .2) .short)
+    omega (arith, section-at (b .args .f .now) (b .pre .0 .0) (b .args .k) (b .pre .0 .1) .short)
 
 loop-holds : tie.Need-loop-holds Inv-loop μ-loop
 loop-holds c =
     let b = c .before .before .before in
     let f = b .args .f .now in
-    let p = section-places f (b .pre .0 .0) (b .args .k) (b .pre .0 .2) in
+    let p = section-places f (b .pre .0 .0) (b .args .k) (b .pre .0 .1) in
     let end : tableEnd f + sizesBelow f (b .args .k + 1) ≡ c .first-record .result + 4 * c .before .record-count .result =
     omega (arith, p .behind, c .first-record .ensures, c .before .record-count .ensures) in (
       omega arith,
       omega (arith, p .first),
-      b .pre .1 .1 .1 ∙ ap (landingOf f) end,
-      subst (λ (i : ℕ). PassedFrom f i (b .args .next .now)) end (b .pre .1 .1 .0),
+      b .pre .1 .1 ∙ ap (landingOf f) end,
+      subst (λ (i : ℕ). PassedFrom f i (b .args .next .now)) end (b .pre .1 .0),
+      sym (count-none f (λ j. getD (b .args .counts .now) j 0) _ _ (omega arith)),
+      omega arith,
     )
 
-cast-entry-at : tie.Need-cast-entry-at Inv-loop μ-loop
-cast-entry-at c =
-    let l = c .before in
-    let b = l .before .before .before .before in
-    let p = section-places (b .args .f .now) (b .pre .0 .0) (b .args .k) (b .pre .0 .2) in
-    omega (arith, p .first, p .inside, p .short)
+-- The record before the place that the loop has reached lies in the file.
+record Before (f : List ℕ) (k at : ℕ) : Type 0 where
+  inside : at ≤ length f
+  short : length f ≤ 65535
+  behind : 4 ≤ at
+  aligned : (length f - (at - 4)) % 4 ≡ 0
+  few : sizeOf f k / 4 % 65536 ≤ 16383
 
-cast-slot : tie.Need-cast-slot Inv-loop μ-loop
-cast-slot c =
-    let l = c .before .before .before in
+before : (l : tie.At-loop Inv-loop μ-loop) → 0 < l .loop .left →
+    Before (l .before .before .before .before .args .f .now) (l .before .before .before .before .args .k) (l .loop .at)
+before l some =
     let b = l .before .before .before .before in
-    let p = section-places (b .args .f .now) (b .pre .0 .0) (b .args .k) (b .pre .0 .2) in
-    omega (arith, p .first, p .inside, p .short)
+    let p = section-places (b .args .f .now) (b .pre .0 .0) (b .args .k) (b .pre .0 .1) in
+    record {
+      inside = omega (arith, p .first, p .inside);
+      short = p .short;
+      behind = omega arith;
+      aligned = omega (arith, p .first, p .aligned, p .inside);
+      few = omega (arith, p .inside, p .short);
+    }
 
-mul-next : tie.Need-mul-next Inv-loop μ-loop
-mul-next c =
-    let l = c .before .before .before in
-    let b = l .before .before .before .before in
-    let p = section-places (b .args .f .now) (b .pre .0 .0) (b .args .k) (b .pre .0 .2) in
-    omega (arith, p .first, p .inside, p .short)
+cast-whole-entry : tie.Need-cast-whole-entry Inv-loop μ-loop
+cast-whole-entry c =
+    let r = before (c .before) (c .loop-test .taken) in
+    omega (arith, r .inside, r .short)
 
-element-write-next : tie.Need-element-write-next Inv-loop μ-loop
-element-write-next c =
-    let l = c .before .before .before in
-    let b = l .before .before .before .before in
-    let p = section-places (b .args .f .now) (b .pre .0 .0) (b .args .k) (b .pre .0 .2) in
-    omega (arith, p .first, p .inside, p .short)
+whole-entry-requires : tie.Need-whole-entry-requires Inv-loop μ-loop
+whole-entry-requires c κs =
+    let r = before (c .before) (c .loop-test .taken) in
+    omega (arith, r .inside, r .behind)
+
+add-total : tie.Need-add-total Inv-loop μ-loop
+add-total c =
+    let r = before (c .before .before .before) (c .before .before .loop-test .taken) in
+    omega (arith, r .few, c .weight .ensures .1)
+
+land-requires : tie.Need-land-requires Inv-loop μ-loop
+land-requires c κs = c .before .before .before .before .loop .inv .3 .all
 
 loop-again : tie.Need-loop-again Inv-loop μ-loop
 loop-again c =
-    let l = c .before .before .before in
+    let l = c .before .before .before .before .before in
     let b = l .before .before .before .before in
     let f = b .args .f .now in
     let k = b .args .k in
     let at = l .loop .at - 4 in
-    let p = section-places f (b .pre .0 .0) k (b .pre .0 .2) in
-    let here : startOf f k % 65536 + 4 * (l .loop .left - 1) ≡ at = omega (arith, p .first) in
-    let right : rightRecord f k (entryAt f at) ≡ true =
-    ap (λ (i : ℕ). rightRecord f k (entryAt f i)) (sym here)
-    ∙ record-right f (b .pre .0 .0) (b .pre .0 .1) k (b .pre .0 .2) (l .loop .left - 1) (omega arith) in
-    let inside : at + 4 ≤ length f = omega (arith, p .first, p .inside) in
-    let same : l .loop .at ≡ at + 4 = omega arith in
-    let lands : c .lands .result ≡ landingOf f at =
-    c .lands .ensures
-    ∙ ap (λ (e : Entry). if idleBy (λ j. getD (b .args .silent .now) j false) e then l .loop .to else at) (c .before .entry-at .ensures)
-    ∙ ap₂ (λ (i : Bool) (j : ℕ). if i then j else at)
-    (idle-same f k (entryAt f at) (b .args .silent .now) right (b .pre .1 .0))
-    (l .loop .inv .2 ∙ ap (landingOf f) same)
-    ∙ sym (landing-step f at inside) in (
+    let n = sizeOf f k / 4 % 65536 in
+    let sub : ℕ → ℕ = λ j. getD (b .args .counts .now) j 0 in
+    let r = before l (c .before .before .before .before .loop-test .taken) in
+    let e = c .before .before .before .whole-entry .ensures in
+    let inside : at + 4 ≤ length f = omega (arith, r .inside, r .behind) in
+    let same : l .loop .at ≡ at + 4 = omega (arith, r .behind) in
+    let behind : l .loop .to ≡ landingOf f (at + 4) = l .loop .inv .2 ∙ ap (landingOf f) same in (
       omega arith,
       omega arith,
-      lands,
-      passed-next f at (c .lands .result) (l .loop .next) inside (p .short) (omega (arith, p .first, p .aligned, p .inside))
-          (subst (λ (i : ℕ). PassedFrom f i (l .loop .next)) same (l .loop .inv .3))
-          lands,
+      c .land .ensures .0
+          ∙ ap₂ (λ (x : Entry) (j : ℕ). if idle x then j else at) e behind
+          ∙ sym (landing-step f at inside),
+      subst (PassedFrom f at)
+          (sym (c .land .ensures .1 ∙ ap (λ (x : Entry). if idle x then set (l .loop .next) (at / 4) (l .loop .to) else l .loop .next) e))
+          (passed-next f at (l .loop .next) inside (r .short) (r .aligned)
+          (subst (λ (i : ℕ). PassedFrom f i (l .loop .next)) same (l .loop .inv .3)) (l .loop .to) behind),
+      (let sum : l .loop .total + c .before .before .weight .result ≡ countBy sub (entriesAt f (n - (l .loop .left - 1)) at) =
+          omega (
+            arith,
+            c .before .before .weight .ensures .0 ∙ ap (weightBy sub) e,
+            l .loop .inv .4
+                ∙ ap₂ (λ (i j : ℕ). countBy sub (entriesAt f i j)) (let fewer : n - l .loop .left ≡ n - (l .loop .left - 1) - 1 = omega arith in fewer) same,
+            count-more f sub (n - (l .loop .left - 1)) at (omega arith),
+          ) in
+          sum),
+      omega (arith, c .before .before .weight .ensures .1),
     )
 
 returns : tie.Need-returns Inv-loop μ-loop
 returns c =
-    let l = c .before in
-    let f = l .before .before .before .before .args .f .now in
-    let k = l .before .before .before .before .args .k in
-    let end : l .loop .at ≡ tableEnd f + sizesBelow f k = omega arith in
-    (l .loop .inv .2 ∙ ap (landingOf f) end, subst (λ (i : ℕ). PassedFrom f i (l .loop .next)) end (l .loop .inv .3))
+    let l = c .before .before in
+    let b = l .before .before .before .before in
+    let f = b .args .f .now in
+    let k = b .args .k in
+    let sub : ℕ → ℕ = λ j. getD (b .args .counts .now) j 0 in
+    let p = section-places f (b .pre .0 .0) k (b .pre .0 .1) in
+    let end : l .loop .at ≡ tableEnd f + sizesBelow f k = omega arith in (
+      l .loop .inv .2 ∙ ap (landingOf f) end,
+      (
+        c .cap .ensures
+            ∙ ap capped
+            (l .loop .inv .4
+            ∙ ap₂ (λ (i j : ℕ). countBy sub (entriesAt f i j))
+            (let all : sizeOf f k / 4 % 65536 - l .loop .left ≡ sizeOf f k / 4 % 65536 = omega arith in all)
+            (let first : l .loop .at ≡ startOf f k % 65536 = omega (arith, p .first) in first)
+            ∙ ap (countBy sub) (sym (section-at f (b .pre .0 .0) k (b .pre .0 .1) .are))),
+        subst (λ (i : ℕ). PassedFrom f i (l .loop .next)) end (l .loop .inv .3),
+      ),
+    )
 
 pub pass-section-spec : {M : Type 1} → statement M
 pass-section-spec =
@@ -129,12 +165,12 @@ pass-section-spec =
     loop-holds
     (λ c. omega arith)
     (λ c. omega arith)
-    cast-entry-at
+    cast-whole-entry
+    whole-entry-requires
     (λ c κs. search needs)
-    (λ c κs. search needs)
-    cast-slot
-    mul-next
-    element-write-next
+    add-total
+    land-requires
     (λ c. omega arith)
     loop-again
+    (λ c κs. search needs)
     returns)

@@ -7,9 +7,10 @@ use mathlib.Core.Path.{_≡_, refl, ap, ap₂, sym, _∙_}
 use native.Mathlib.Omega.{arith}
 use borrow.Author.Needs.{needs}
 use borrow.Author.Tests.{not-true, not-false}
-use lib.ListN.{getD}
+use lib.ListN.{length, getD}
 use Rattle.spi_rules.proofs.Keeps.{and-first, clash}
 use Rattle.spi_trace_rules.specs.Trace.{recordsOf, levelOf, rightRecord, allRight}
+use Rattle.spi_trace_rules.proofs.TraceContents.{contents-whole}
 use Rattle.spi_trace_files.specs.Places.{entryAt, entriesAt}
 use Rattle.spi_trace_files.specs.Passes.{raisedOne, raisedBy}
 use Rattle.spi_trace_files.proofs.Contents.{and-skip}
@@ -17,12 +18,10 @@ use Rattle.spi_trace_files.proofs.Records.{section-at, section-below}
 use Rattle.spi_trace_files.proofs.Levels.{right-more, raised-more, right-none, raised-none, play-safe}
 use Rattle.spi_trace_files.proofs.section_right.Statement.{statement}
 use Rattle.spi_trace_files.proofs.section_right.Tie as tie
-use Rattle.spi_trace_files.proofs.section_right.Reads as reads
-use Rattle.spi_trace_files.proofs.section_right.Lts as lts
 
 abbrev Inv-loop : tie.InvT-loop
 Inv-loop f k levels₀ own level at₀ left₀ levels at left =
-    (at + 4 * left ≤ 65535) × (level ≡ levelOf f k)
+    (at + 4 * left ≤ length f) × (level ≡ levelOf f k)
     × (allRight f k (recordsOf f k) ≡ allRight f k (entriesAt f left at))
     × (raisedBy level levels₀ (recordsOf f k) ≡ raisedBy level levels (entriesAt f left at))
 
@@ -40,8 +39,13 @@ raise-requires c κs =
     let b = c .before .before .before .before .before .before .before .before .before .before in
     let right = sym (c .before .before .record-right .ensures) ∙ not-false (c .before .before .record-right .result) (c .before .if1 .left) in
     λ play.
-    let safe = play-safe (b .args .f .now) (b .pre .0 .0) (b .args .k) (c .before .before .before .entry-at .result) right play in
+    let safe = play-safe (b .args .f .now) (b .pre .0 .0) (b .args .k) (c .before .before .before .whole-entry .result) right play in
     (omega (arith, safe .0, b .pre .1), safe .1)
+
+add-at : tie.Need-add-at Inv-loop μ-loop
+add-at c =
+    let b = c .before .before .before .before .before .before .before .before .before .before .before in
+    omega (arith, contents-whole (b .args .f .now) (b .pre .0 .0) .size)
 
 loop-holds : tie.Need-loop-holds Inv-loop μ-loop
 loop-holds c =
@@ -49,14 +53,14 @@ loop-holds c =
     let f = b .args .f .now in
     let at = section-at f (b .pre .0 .0) (b .args .k) (b .pre .0 .1) in
     let records = at .are ∙ ap₂ (entriesAt f) (sym (c .record-count .ensures)) (sym (c .before .first-record .ensures)) in
-    (omega (arith, at .short), b .pre .1, ap (allRight f (b .args .k)) records, ap (raisedBy _ (b .args .levels .now)) records)
+    (omega (arith, at .inside), b .pre .1, ap (allRight f (b .args .k)) records, ap (raisedBy _ (b .args .levels .now)) records)
 
 returns : tie.Need-returns Inv-loop μ-loop
 returns c =
     let l = c .before .before .before .before in
     let b = l .before .before .before .before .before in
     let f = b .args .f .now in
-    let wrong = ap (rightRecord f (b .args .k)) (sym (c .before .before .entry-at .ensures)) ∙ sym (c .before .record-right .ensures) ∙ not-true (c .before .record-right .result) (c .if1 .taken) in (
+    let wrong = ap (rightRecord f (b .args .k)) (sym (c .before .before .whole-entry .ensures)) ∙ sym (c .before .record-right .ensures) ∙ not-true (c .before .record-right .result) (c .if1 .taken) in (
       sym
           (l .loop .inv .2
           ∙ right-more f (b .args .k) (l .loop .left) (l .loop .at) (omega arith)
@@ -69,7 +73,7 @@ loop-again c =
     let l = c .before .before .before .before .before .before in
     let b = l .before .before .before .before .before in
     let f = b .args .f .now in
-    let e = c .before .before .before .before .entry-at .ensures in
+    let e = c .before .before .before .before .whole-entry .ensures in
     let right = ap (rightRecord f (b .args .k)) (sym e) ∙ sym (c .before .before .before .record-right .ensures) ∙ not-false (c .before .before .before .record-right .result) (c .before .before .if1 .left) in (
       omega arith,
       b .pre .1,
@@ -110,7 +114,7 @@ section-right-spec =
     record-right-requires
     returns
     raise-requires
-    (λ c. omega arith)
+    add-at
     (λ c. omega arith)
     (λ c. omega arith)
     loop-again

@@ -1,26 +1,25 @@
--- `spi_trace_files::weight` meets its contract. A product of a value and a count fits. Assumes nothing.
-use Prim.Native.Nat.{ℕ, _+_, _*_}
-use native.Mathlib.Omega.{arith}
+-- `spi_trace_files::weight` meets its contract: one, or a product of a value and a count, which fits. Assumes nothing.
 use borrow.Author.Needs.{needs}
+use Prim.Native.Nat.{ℕ, _+_, _*_}
 use mathlib.Core.Path.{refl, ap}
+use native.Mathlib.Omega.{arith}
 use Rattle.spi_rules.proofs.Choices.{so-eq, not-so-eq}
 use Rattle.spi_trace_rules.specs.Trace.{isPlay}
-use Rattle.spi_trace_files.specs.Passes.{weightOf}
+use Rattle.spi_trace_files.specs.Passes.{weightBy}
 use Rattle.spi_trace_files.proofs.Counts.{product-most}
 use Rattle.spi_trace_files.proofs.weight.Statement.{statement}
 use Rattle.spi_trace_files.proofs.weight.Tie as tie
-use Rattle.spi_trace_files.proofs.weight.Reads as reads
-use Rattle.spi_trace_files.proofs.weight.Lts as lts
 
 returns : tie.Need-returns
-unfolding weightOf isPlay
+unfolding weightBy isPlay
 returns c = (not-so-eq _ _ _ _ (c .if1 .taken) refl, omega arith)
 
 mul-result : tie.Need-mul-result
-mul-result c = omega (arith, product-most (c .before .before .before .before .before .args .e .value) (c .wide .result) (omega arith) (omega arith))
+mul-result c =
+    omega (arith, product-most (c .before .before .before .before .before .args .e .value) (c .wide .result) (omega arith) (omega arith))
 
 returns-2 : tie.Need-returns-2
-unfolding weightOf isPlay
+unfolding weightBy isPlay
 returns-2 c =
     let a = c .before .before .before .before .before .args in (
       so-eq (a .e .kind) 5 _ _ (omega arith) (ap (λ (n : ℕ). a .e .value * (1 + n)) (c .wide .ensures .0)),

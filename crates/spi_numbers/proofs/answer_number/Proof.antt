@@ -3,9 +3,9 @@ use borrow.Author.Needs.{needs}
 use mathlib.Core.Path.{refl}
 use native.Mathlib.Omega.{arith}
 use Rattle.spi_rules.proofs.Choices.{by-case}
-use Rattle.thurafeqa.specs.Numbers.{answerNumber}
-use Rattle.thurafeqa.proofs.answer_number.Statement.{statement}
-use Rattle.thurafeqa.proofs.answer_number.Tie as tie
+use Rattle.spi_numbers.specs.Told.{answerNumber}
+use Rattle.spi_numbers.proofs.answer_number.Statement.{statement}
+use Rattle.spi_numbers.proofs.answer_number.Tie as tie
 
 returns : tie.Need-returns
 unfolding answerNumber

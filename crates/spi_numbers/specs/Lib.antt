@@ -1,0 +1,2 @@
+-- What a caller is told of a call.
+pub mod Told
