@@ -58,7 +58,7 @@ pub mod register {
 
 /// The version of this file: major, minor and patch numbers. [`version`] tells the library's.
 #[allow(dead_code)]
-pub const VERSION: (u8, u8, u8) = (4, 1, 0);
+pub const VERSION: (u8, u8, u8) = (4, 2, 0);
 
 /// The format of a module's words. It rises wherever their meaning changes, so save it beside them.
 #[allow(dead_code)]
@@ -78,8 +78,9 @@ struct ClockReport {
 }
 
 // Each takes any module and any numbers, and ends. What else a caller owes, Rust's references bring along: no null, no
-// call on a module while another changes it, and two different modules in a linked run. So all are safe but one, which
-// takes a slice apart: its pointer must have as many bytes as its length says, and none of them in the module.
+// call on a module while another changes it, and two different modules in a linked run. So all are safe but two, which
+// take slices apart: each pointer must have as many bytes as the length behind it says, and none of them in the module or
+// in the other slice.
 unsafe extern "C" {
     safe fn thurafeqa_power_up(m: &mut Module);
     safe fn thurafeqa_read(m: &mut Module, register: u32) -> u32;
@@ -91,6 +92,7 @@ unsafe extern "C" {
     safe fn thurafeqa_linked(host: &mut Module, client: &mut Module, limit: u32) -> u32;
     safe fn thurafeqa_clock(m: &Module, rate: u32, report: &mut ClockReport) -> u32;
     unsafe fn thurafeqa_play(m: &mut Module, file: *const u8, length: usize) -> u32;
+    unsafe fn thurafeqa_save(script: *const u8, length: usize, file: *mut u8, room: usize) -> u32;
     safe fn thurafeqa_version() -> u32;
     safe fn thurafeqa_format() -> u32;
 }
@@ -134,6 +136,8 @@ pub enum Refusal {
     BadRecord = 18,
     /// A trace would make more than 65,535 calls.
     TooManyCalls = 19,
+    /// A saved trace does not fit what is lent for it, or would be longer than 65,535 bytes.
+    NoRoom = 20,
 }
 
 impl Refusal {
@@ -143,7 +147,7 @@ impl Refusal {
         #[rustfmt::skip]
         let all = [NoSuchRegister, Disabled, Enabled, TransmitFull, ReceiveEmpty, WrongClock, NoRate, UnreadableLine,
             DifferentModes, TooManyEdges, Undivided, LateSampling, UnselectedCke, Overflowed, BadContents, BadRecord,
-            TooManyCalls];
+            TooManyCalls, NoRoom];
         all.iter().copied().find(|r| *r as u32 == number)
     }
 
@@ -166,6 +170,7 @@ impl Refusal {
             Refusal::BadContents => "the trace's table of contents or length is wrong",
             Refusal::BadRecord => "a record of the trace is wrong",
             Refusal::TooManyCalls => "the trace would make more than 65,535 calls",
+            Refusal::NoRoom => "the trace does not fit",
         }
     }
 }
@@ -253,6 +258,19 @@ pub fn version() -> (u8, u8, u8) {
 #[allow(dead_code)]
 pub fn format() -> u32 {
     thurafeqa_format()
+}
+
+/// Saves a script session as a trace file of one section, which [`Module::play`] plays to the module that the script ends in:
+/// how long is the file? Of a script the first 65,535 bytes are taken. The file is written from the first lent byte on, and
+/// the bytes behind it keep their values. A line that the module would refuse is kept; left out are lines that cannot be read
+/// and lines that name register 4 or above. If it is refused, all that is lent is as it was.
+///
+/// Refused: `NoRoom`.
+#[allow(dead_code)]
+pub fn save(script: &[u8], file: &mut [u8]) -> Result<usize, Refusal> {
+    // SAFETY: the pointers and lengths are those of slices, and no other overlaps one that can be changed
+    let answer = unsafe { thurafeqa_save(script.as_ptr(), script.len(), file.as_mut_ptr(), file.len()) };
+    value(answer).map(usize::from)
 }
 
 #[allow(dead_code)] // a program need not make every call
@@ -377,11 +395,11 @@ mod thurafeqa_tests {
 
     #[test]
     fn numbers_mean_what_the_header_says() {
-        assert_eq!((1..20).filter_map(Refusal::from_number).map(|r| r as u32).sum::<u32>(), 190 - 4 - 12);
-        assert_eq!([0, 4, 12, 20].map(Refusal::from_number), [None; 4]);
+        assert_eq!((1..21).filter_map(Refusal::from_number).map(|r| r as u32).sum::<u32>(), 210 - 4 - 12);
+        assert_eq!([0, 4, 12, 21].map(Refusal::from_number), [None; 4]);
         assert_eq!((value(0), value(0xFFFF), value(0x6_0000)), (Ok(0), Ok(0xFFFF), Err(Refusal::ReceiveEmpty)));
         assert_eq!(value(0x10_0000), Err(Refusal::Overflowed));
-        assert_eq!(value(0x13_0000), Err(Refusal::TooManyCalls));
+        assert_eq!([0x13_0000, 0x14_0000].map(value), [Err(Refusal::TooManyCalls), Err(Refusal::NoRoom)]);
         assert_eq!([3, 7, 8, 11, 12].map(sdo), [Sdo::Undriven, Sdo::Undriven, Sdo::Low, Sdo::Low, Sdo::High]);
         assert_eq!([15, 31, 32, 47, 48].map(ss), [Ss::Undriven, Ss::Undriven, Ss::Low, Ss::Low, Ss::High]);
         let said = |answer| clock(answer, ClockReport { rate: 5e6, bittime: 2e-7, below: 4e7 });

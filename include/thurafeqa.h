@@ -37,14 +37,17 @@
  *
  * Every call takes any module and any argument, and ends. It asks only this:
  * - pointers are not null, and each points to a whole thurafeqa, a whole report
- *   or, in thurafeqa_play, as many bytes as it says, outside of the module;
+ *   or, in thurafeqa_play and thurafeqa_save, as many bytes as its length says;
+ * - a trace that is played lies outside of the module, and what is lent for a
+ *   saved one outside of its script;
  * - the two modules of a linked run are two different objects;
  * - no call runs on a module while another changes it. Calls on different
  *   modules may run at the same time.
  *
  * Answers. The upper 16 bits of an answer are the refusal number, 0 if the call
  * was done; the lower 16 bits are what the call tells, 0 if it was refused. A
- * refused call leaves its modules and their interrupt flags as they were.
+ * refused call leaves its modules, their interrupt flags and all that was lent
+ * to it as they were.
  *
  * Levels are numbers: 0 is low, anything else is high. */
 #ifndef THURAFEQA_H
@@ -61,7 +64,7 @@ extern "C" {
  * must have the same major number, and the library's minor number must not be
  * lower. */
 #define THURAFEQA_VERSION_MAJOR 4u
-#define THURAFEQA_VERSION_MINOR 1u
+#define THURAFEQA_VERSION_MINOR 2u
 #define THURAFEQA_VERSION_PATCH 0u
 #define THURAFEQA_VERSION                                                      \
     (THURAFEQA_VERSION_MAJOR << 16 | THURAFEQA_VERSION_MINOR << 8 |            \
@@ -100,6 +103,7 @@ typedef char thurafeqa_has_192_bytes[sizeof(thurafeqa) == 192 ? 1 : -1];
 #define THURAFEQA_BAD_CONTENTS 17u    /* trace: table of contents, length */
 #define THURAFEQA_BAD_RECORD 18u      /* trace: a record is wrong */
 #define THURAFEQA_TOO_MANY_CALLS 19u  /* trace: more than 65,535 calls */
+#define THURAFEQA_NO_ROOM 20u         /* a saved trace does not fit */
 
 /* The refusal number of an answer, 0 if the call was done. */
 static inline uint16_t thurafeqa_refusal(uint32_t answer)
@@ -107,7 +111,8 @@ static inline uint16_t thurafeqa_refusal(uint32_t answer)
     return (uint16_t)(answer >> 16);
 }
 
-/* What an answer tells: a register's value, or a number of edges or calls. */
+/* What an answer tells: a register's value, or a number of edges, calls or
+ * bytes. */
 static inline uint16_t thurafeqa_value(uint32_t answer)
 {
     return (uint16_t)(answer & 0xFFFFu);
@@ -250,6 +255,20 @@ uint32_t thurafeqa_clock(const thurafeqa *m, uint32_t rate,
  * Refusals: 17 (the section count, the table of contents or the file's length),
  * then 18 (a record), then 19 (it would make more than 65,535 calls). */
 uint32_t thurafeqa_play(thurafeqa *m, const uint8_t *file, size_t length);
+
+/* Saves a script session as a trace file of one section, which thurafeqa_play
+ * plays to the module that the script ends in. examples/README.md has the form
+ * of a script; `script` points to its `length` bytes, of which the first 65,535
+ * are taken. `file` points to `room` bytes that are lent; neither pointer is
+ * null, even if there are no bytes. The file is written from the first byte on,
+ * the bytes behind it keep their values, and the answer's value is its length:
+ * 10, and 4 for each line that is kept. A line that the module would refuse is
+ * kept; left out are lines that cannot be read (9) and lines that name register
+ * 4 or above.
+ * Refusal: 20 if the file would be longer than `room` or than 65,535 bytes, for
+ * which 16,381 lines are the most; then all that is lent is as it was. */
+uint32_t thurafeqa_save(const uint8_t *script, size_t length, uint8_t *file,
+                        size_t room);
 
 /* The version of the library, in the form of THURAFEQA_VERSION, and the number
  * of the format that it reads and writes. */

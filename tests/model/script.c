@@ -1,5 +1,5 @@
 /* Document 01, The script program, with request Three of document 02. Built
- * without SCRIPT_NO_MAIN it is that program; with it, the two functions of
+ * without SCRIPT_NO_MAIN it is that program; with it, the functions of
  * script.h. */
 #include "ref_spi.h"
 #include "script.h"
@@ -7,6 +7,30 @@
 #include <stddef.h>
 #include <stdio.h>
 #include <string.h>
+
+/* ---- lines ------------------------------------------------------------ */
+
+void script_begin(struct script_walk *w, const unsigned char *input,
+                  size_t size)
+{
+    w->rest = input;
+    /* whatever follows is as if it were not there */
+    w->left = size < SCRIPT_BYTES ? size : SCRIPT_BYTES;
+}
+
+int script_next(struct script_walk *w)
+{
+    if (w->left == 0)
+        return 0;
+    w->line = w->rest;
+    w->length = 0;
+    while (w->length < w->left && w->line[w->length] != '\n')
+        w->length++;
+    w->ended = w->length < w->left;
+    w->rest += w->length + (size_t)w->ended;
+    w->left -= w->length + (size_t)w->ended;
+    return 1;
+}
 
 static int is_level(unsigned char c) { return c == '0' || c == '1'; }
 static int is_digit(unsigned char c) { return c >= '0' && c <= '9'; }
@@ -33,6 +57,55 @@ static int shape(const unsigned char *s, size_t n, const char *pattern)
     return 1;
 }
 
+int script_read(const unsigned char *s, size_t n, struct script_call *c)
+{
+    memset(c, 0, sizeof *c);
+    if (shape(s, n, "W x xxxx") && is_digit(s[2]) && hex(s[4]) >= 0 &&
+        hex(s[5]) >= 0 && hex(s[6]) >= 0 && hex(s[7]) >= 0) {
+        c->kind = SCRIPT_WRITE;
+        c->reg = (unsigned)(s[2] - '0');
+        c->value = (unsigned)hex(s[4]) * 4096u + (unsigned)hex(s[5]) * 256u +
+                   (unsigned)hex(s[6]) * 16u + (unsigned)hex(s[7]);
+        return 1;
+    }
+    if (shape(s, n, "R x") && is_digit(s[2])) {
+        c->kind = SCRIPT_READ;
+        c->reg = (unsigned)(s[2] - '0');
+        return 1;
+    }
+    if ((shape(s, n, "T x") && is_level(s[2])) ||
+        (shape(s, n, "T x x") && is_level(s[2]) && is_level(s[4]))) {
+        c->kind = SCRIPT_TICK;
+        c->sdi = s[2] - '0';
+        c->ss = n == 5 && s[4] == '1'; /* it may be left out, and is low then */
+        return 1;
+    }
+    if (shape(s, n, "P x x x") && is_level(s[2]) && is_level(s[4]) &&
+        is_level(s[6])) {
+        c->kind = SCRIPT_PINS;
+        c->sck = s[2] - '0';
+        c->sdi = s[4] - '0';
+        c->ss = s[6] - '0';
+        return 1;
+    }
+    c->kind = SCRIPT_CLEAR;
+    return shape(s, n, "C");
+}
+
+/* ---- calls and answers -------------------------------------------------- */
+
+int script_make(struct ref_spi *m, const struct script_call *c,
+                unsigned *value)
+{
+    switch (c->kind) {
+    case SCRIPT_WRITE: return ref_write(m, c->reg, c->value);
+    case SCRIPT_READ: return ref_read(m, c->reg, value);
+    case SCRIPT_TICK: return ref_tick(m, c->sdi, c->ss);
+    case SCRIPT_PINS: return ref_pins(m, c->sck, c->sdi, c->ss);
+    default: ref_clear(m); return 0;
+    }
+}
+
 static char sdo_letter(const struct ref_spi *m)
 {
     int level = ref_sdo(m);
@@ -54,64 +127,43 @@ static void print_ss(const struct ref_spi *m, FILE *out)
 void script_line(struct ref_spi *m, unsigned long number,
                  const unsigned char *s, size_t n, FILE *out)
 {
-    int r = 9; /* stays unless the line has one of the six shapes */
+    struct script_call c;
+    unsigned value = 0;
+    int r = script_read(s, n, &c) ? script_make(m, &c, &value) : 9;
 
     fprintf(out, "%lu ", number);
-    if (shape(s, n, "W x xxxx") && is_digit(s[2]) && hex(s[4]) >= 0 &&
-        hex(s[5]) >= 0 && hex(s[6]) >= 0 && hex(s[7]) >= 0) {
-        unsigned v = (unsigned)hex(s[4]) * 4096u + (unsigned)hex(s[5]) * 256u +
-                     (unsigned)hex(s[6]) * 16u + (unsigned)hex(s[7]);
-        r = ref_write(m, (unsigned)(s[2] - '0'), v);
-        if (r == 0)
-            fprintf(out, "OK\n");
-    } else if (shape(s, n, "R x") && is_digit(s[2])) {
-        unsigned v = 0;
-        r = ref_read(m, (unsigned)(s[2] - '0'), &v);
-        if (r == 0)
-            fprintf(out, "%04X\n", v);
-    } else if ((shape(s, n, "T x") && is_level(s[2])) ||
-               (shape(s, n, "T x x") && is_level(s[2]) && is_level(s[4]))) {
-        /* SS may be left out, and is low then */
-        r = ref_tick(m, s[2] - '0', n == 5 && s[4] == '1');
-        if (r == REF_NO_EDGE)
-            fprintf(out, "N\n");
-        else if (r == 0) {
-            fprintf(out, "%d %c %d", ref_sck(m), sdo_letter(m), ref_flag(m));
-            print_ss(m, out);
-        }
-    } else if (shape(s, n, "P x x x") && is_level(s[2]) && is_level(s[4]) &&
-               is_level(s[6])) {
-        r = ref_pins(m, s[2] - '0', s[4] - '0', s[6] - '0');
-        if (r == 0) {
-            fprintf(out, "%c %d", sdo_letter(m), ref_flag(m));
-            print_ss(m, out);
-        }
-    } else if (shape(s, n, "C")) {
-        ref_clear(m);
-        r = 0;
-        fprintf(out, "OK\n");
+    if (r == REF_NO_EDGE) {
+        fprintf(out, "N\n");
+        return;
     }
-    if (r > 0)
+    if (r != 0) {
         fprintf(out, "E %d\n", r);
+        return;
+    }
+    switch (c.kind) {
+    case SCRIPT_READ: fprintf(out, "%04X\n", value); break;
+    case SCRIPT_TICK:
+        fprintf(out, "%d %c %d", ref_sck(m), sdo_letter(m), ref_flag(m));
+        print_ss(m, out);
+        break;
+    case SCRIPT_PINS:
+        fprintf(out, "%c %d", sdo_letter(m), ref_flag(m));
+        print_ss(m, out);
+        break;
+    default: fprintf(out, "OK\n"); break;
+    }
 }
 
 void script_run(const unsigned char *input, size_t size, FILE *out)
 {
+    struct script_walk w;
     struct ref_spi m;
     unsigned long number = 0;
-    size_t at = 0;
 
     ref_power_up(&m);
-    if (size > 65535) /* whatever follows is as if it were not there */
-        size = 65535;
-    while (at < size) {
-        size_t end = at;
-        while (end < size && input[end] != '\n')
-            end++;
-        number++;
-        script_line(&m, number, input + at, end - at, out);
-        at = end < size ? end + 1 : end;
-    }
+    script_begin(&w, input, size);
+    while (script_next(&w))
+        script_line(&m, ++number, w.line, w.length, out);
 }
 
 #ifndef SCRIPT_NO_MAIN

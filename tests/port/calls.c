@@ -1,5 +1,7 @@
 /* The library's calls as records, and random numbers. */
 #include "calls.h"
+#include "save.h"
+#include "some_script.h"
 #include "some_trace.h"
 
 #include <inttypes.h>
@@ -8,14 +10,15 @@
 
 const char *const kind_name[KINDS] = {"power-up", "read",   "write",
                                       "tick",     "pins",   "clear",
-                                      "linked",   "clock",  "play"};
+                                      "linked",   "clock",  "play",
+                                      "save"};
 const char *const view_name[VIEWS] = {"STAT", "CON1", "CON2", "BUF", "levels"};
 
 const thurafeqa_clock_report no_report = {-1, -2, -3};
 
 int concerned(const struct call *c)
 {
-    return c->kind == LINKED ? 2 : 1;
+    return c->kind == LINKED ? 2 : c->kind == SAVE ? 0 : 1;
 }
 
 int is_given(uint32_t number)
@@ -39,13 +42,48 @@ void bring_file(struct call *c)
     c->length = length;
 }
 
+void bring_script(struct call *c)
+{
+    static uint8_t script[SOME_SCRIPT_BYTES];
+    static uint32_t number;
+    static size_t length, saved;
+    static int there;
+
+    if (!there || number != c->x) {
+        length = some_script(c->x, script);
+        saved = save_length(script, length);
+    }
+    there = 1;
+    number = c->x;
+    c->file = script;
+    c->length = length;
+    c->room = some_room(c->y, saved);
+}
+
+void fill_lent(uint8_t *lent, size_t room, uint32_t number)
+{
+    size_t i;
+
+    for (i = 0; i < room; i++) {
+        number = number * 1664525u + 1013904223u;
+        lent[i] = (uint8_t)(number >> 24);
+    }
+}
+
 static void print_file(const struct call *c)
 {
     struct call d = *c;
     size_t i;
 
-    bring_file(&d);
-    printf(" file %" PRIu32 ", %lu bytes:", d.x, (unsigned long)d.length);
+    if (c->kind == SAVE) {
+        bring_script(&d);
+        printf(" script %" PRIu32 ", %lu bytes lent,", d.x,
+               (unsigned long)d.room);
+    } else {
+        bring_file(&d);
+        printf(" file %" PRIu32 ",", d.x);
+    }
+    printf(" %lu bytes:", (unsigned long)d.length);
     for (i = 0; i < d.length && i < 600; i++)
         printf(" %02x", d.file[i]);
     if (i < d.length)
@@ -54,7 +92,9 @@ static void print_file(const struct call *c)
 
 void print_call(const struct call *c)
 {
-    printf("module %d: %s", c->module, kind_name[c->kind]);
+    if (concerned(c) > 0)
+        printf("module %d: ", c->module);
+    printf("%s", kind_name[c->kind]);
     switch (c->kind) {
     case READ:
     case CLOCK: printf(" %" PRIu32, c->x); break;
@@ -66,7 +106,8 @@ void print_call(const struct call *c)
     case LINKED:
         printf(" with client %d, limit %" PRIu32, c->other, c->x);
         break;
-    case PLAY: print_file(c); break;
+    case PLAY:
+    case SAVE: print_file(c); break;
     default: break;
     }
 }
@@ -86,6 +127,9 @@ void ask_library(thurafeqa *m, thurafeqa *other, const struct call *c,
     case LINKED: o->answer = thurafeqa_linked(m, other, c->x); break;
     case CLOCK: o->answer = thurafeqa_clock(m, c->x, &o->report); break;
     case PLAY: o->answer = thurafeqa_play(m, c->file, c->length); break;
+    case SAVE:
+        o->answer = thurafeqa_save(c->file, c->length, c->lent, c->room);
+        break;
     case KINDS: break;
     }
 }

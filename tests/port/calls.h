@@ -17,6 +17,7 @@ enum kind {
     LINKED,
     CLOCK,
     PLAY,
+    SAVE,
     KINDS
 };
 extern const char *const kind_name[KINDS];
@@ -25,24 +26,36 @@ struct call {
     enum kind kind;
     int module, other; /* the other one: a linked run's client */
     uint32_t x, y, z;  /* the arguments in their order; of a play x is the
-                        * number from which its file is made */
-    const uint8_t *file; /* of a play, its file; see bring_file */
-    size_t length;
+                        * number from which its file is made, of a save that
+                        * of its script, and y that of the room and of what
+                        * is lent */
+    const uint8_t *file; /* of a play, its file; see bring_file. Of a save, */
+    size_t length;       /* its script, and what is lent; see bring_script */
+    uint8_t *lent;
+    size_t room;
 };
 
 /* The file of a play, made from its number: sets `file` and `length`. It is
  * there until another number's is brought. */
 void bring_file(struct call *c);
 
+/* The script and the room of a save, made from their numbers: sets `file`,
+ * `length` and `room`. They are there until another number's are brought. */
+void bring_script(struct call *c);
+
+/* What is lent to a save before the call: so many bytes, from a number. */
+void fill_lent(uint8_t *lent, size_t room, uint32_t number);
+
 /* How many modules a call is made on. */
 int concerned(const struct call *c);
 
 /* Refusal numbers are below this. Does any call give that one? Not 4 and 12,
  * which are gone, and not 9, which is of scripts. */
-#define REFUSALS 20
+#define REFUSALS 21
 int is_given(uint32_t number);
 
-/* Of a play also the file, or its beginning, in hexadecimal. */
+/* Of a play also the file, or its beginning, in hexadecimal; of a save the
+ * script. */
 void print_call(const struct call *c);
 
 /* ---- what comes of a call -------------------------------------------- */

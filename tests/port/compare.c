@@ -3,7 +3,9 @@
  * what a copy answers to a read of BUF, the levels and the interrupt flags must
  * agree. No answer may carry a refusal number that calls do not give, such as 4
  * or 12. Trace files are played too, right and wrong ones, and calls go on with
- * the module that a play has left.
+ * the module that a play has left. Scripts are saved as trace files: every byte
+ * lent must agree, and the library plays the file to the module in which the
+ * model ends the script.
  *
  * usage: compare CALLS SEED
  *
@@ -13,6 +15,9 @@
  * Exit 2: bad usage. */
 #include "calls.h"
 #include "ref_spi.h"
+#include "save.h"
+#include "script.h"
+#include "some_script.h"
 #include "some_trace.h"
 #include "trace.h"
 
@@ -85,6 +90,15 @@ static void see_model(const struct ref_spi *m, uint32_t seen[VIEWS])
     seen[LEVELS] = model_levels(m);
 }
 
+static int model_save(const struct call *c, unsigned *value)
+{
+    size_t length = 0;
+    int r = save_session(c->file, c->length, c->lent, c->room, &length);
+
+    *value = (unsigned)length;
+    return r;
+}
+
 static void ask_model(struct ref_spi *m, struct ref_spi *other,
                       const struct call *c, struct outcome *o)
 {
@@ -105,6 +119,7 @@ static void ask_model(struct ref_spi *m, struct ref_spi *other,
     case LINKED: r = ref_linked(m, other, c->x, &value); break;
     case CLOCK: r = model_report(m, c->x, &value, &o->report); break;
     case PLAY: r = trace_play(m, c->file, c->length, &value); break;
+    case SAVE: r = model_save(c, &value); break;
     case KINDS: break;
     }
     o->answer = as_answer(r, value);
@@ -133,6 +148,59 @@ static void power_up_all(struct sides *s, uint64_t noise)
     }
 }
 
+/* Plays the script of a save on the model, from power-up. */
+static void play_script(const struct call *c, struct ref_spi *m)
+{
+    struct script_walk w;
+    struct script_call line;
+    unsigned value;
+
+    ref_power_up(m);
+    script_begin(&w, c->file, c->length);
+    while (script_next(&w)) {
+        if (script_read(w.line, w.length, &line))
+            (void)script_make(m, &line, &value);
+    }
+}
+
+/* What was lent last, to the library and to the model; and the module in which
+ * the model ended the script, if that was saved. */
+static uint8_t lent[2][SOME_ROOM];
+static struct ref_spi script_end;
+
+/* A save on both sides: do they agree in the answer, in every byte lent, and in
+ * what is seen of the module where the file and the script end? The library's
+ * play must make a call for each record. */
+static int save_both(const struct call *c, struct outcome *l,
+                     struct outcome *m)
+{
+    struct call d = *c;
+    thurafeqa played;
+    uint32_t answer;
+    int i;
+
+    memset(l->seen, 0, sizeof l->seen);
+    memset(m->seen, 0, sizeof m->seen);
+    bring_script(&d);
+    for (i = 0; i < 2; i++)
+        fill_lent(lent[i], d.room, d.y);
+    d.lent = lent[0];
+    ask_library(0, 0, &d, l);
+    d.lent = lent[1];
+    ask_model(0, 0, &d, m);
+    if (l->answer != m->answer || memcmp(lent[0], lent[1], d.room) != 0)
+        return 0;
+    if (thurafeqa_refusal(l->answer) != 0)
+        return 1;
+    memset(&played, 0x5A, sizeof played);
+    answer = thurafeqa_play(&played, lent[0], thurafeqa_value(l->answer));
+    see_library(&played, l->seen[0]);
+    play_script(&d, &script_end);
+    see_model(&script_end, m->seen[0]);
+    return answer == (thurafeqa_value(l->answer) - SAVE_CONTENTS) / 4u &&
+           memcmp(l->seen[0], m->seen[0], sizeof l->seen[0]) == 0;
+}
+
 /* Makes a call on both sides: do they agree in the answer, and in what is seen
  * afterwards? */
 static int ask_both(struct sides *s, const struct call *c, struct outcome *l,
@@ -142,6 +210,8 @@ static int ask_both(struct sides *s, const struct call *c, struct outcome *l,
     struct call d = *c;
     int i, same;
 
+    if (c->kind == SAVE)
+        return save_both(c, l, m);
     if (c->kind == PLAY)
         bring_file(&d);
     ask_library(&s->library[c->module], &s->library[c->other], &d, l);
@@ -208,10 +278,43 @@ static void print_report(const char *side, const thurafeqa_clock_report *r)
     printf("    report: %s %a, %a, %a\n", side, r->rate, r->bittime, r->below);
 }
 
+static void print_views(const char *module, int number, const uint32_t *l,
+                        const uint32_t *m)
+{
+    int v;
+
+    for (v = 0; v < VIEWS; v++) {
+        if (l[v] == m[v])
+            continue;
+        printf("    %s of %s %d: library %04" PRIX32 ", model %04" PRIX32 "\n",
+               view_name[v], module, number, l[v], m[v]);
+    }
+}
+
+/* Of a save that was answered alike: the first byte lent that differs, or the
+ * module that is played. */
+static void print_saved(const struct call *c, const struct outcome *l,
+                        const struct outcome *m)
+{
+    struct call d = *c;
+    size_t i;
+
+    bring_script(&d);
+    for (i = 0; i < d.room; i++) {
+        if (lent[0][i] == lent[1][i])
+            continue;
+        printf("    byte %lu of what is lent: library %02X, model %02X\n",
+               (unsigned long)i, lent[0][i], lent[1][i]);
+        return;
+    }
+    printf("    the file, played, does not end as the script does\n");
+    print_views("the module after script", (int)c->x, l->seen[0], m->seen[0]);
+}
+
 static void print_differences(const struct call *c, const struct outcome *l,
                               const struct outcome *m)
 {
-    int i, v;
+    int i;
 
     if (c->kind == CLOCK && l->answer == m->answer && !same_answer(c, l, m)) {
         print_report("library", &l->report);
@@ -219,17 +322,12 @@ static void print_differences(const struct call *c, const struct outcome *l,
     } else if (!same_answer(c, l, m)) {
         printf("    answer: library %08" PRIX32 ", model %08" PRIX32 "\n",
                l->answer, m->answer);
+    } else if (c->kind == SAVE) {
+        print_saved(c, l, m);
     }
-    for (i = 0; i < concerned(c); i++) {
-        for (v = 0; v < VIEWS; v++) {
-            if (l->seen[i][v] == m->seen[i][v])
-                continue;
-            printf("    %s of module %d: library %04" PRIX32
-                   ", model %04" PRIX32 "\n",
-                   view_name[v], i == 0 ? c->module : c->other, l->seen[i][v],
-                   m->seen[i][v]);
-        }
-    }
+    for (i = 0; i < concerned(c); i++)
+        print_views("module", i == 0 ? c->module : c->other, l->seen[i],
+                    m->seen[i]);
 }
 
 /* The calls since the last power-up of all modules, shortened, each with what
@@ -321,6 +419,18 @@ static struct {
     unsigned long no_call, all_calls, repeats, idle_plays;
     unsigned long left_enabled, left_unread, left_marked, left_flag;
     double costliest; /* seconds that the library took for a costly one */
+    /* saves: lines kept, by kind, of these ticks by SS, and those that the
+     * module refuses; lines left out: all that cannot be read, of these the
+     * empty ones, those with CR and those of more than 16 bytes; writes and
+     * reads of no register; scripts that end without LF, that are cut; files
+     * with no record and with the most that fit; of the bytes lent: as many as
+     * the file has, more, more than a file may have; refused: one byte short,
+     * none lent, no room in any file; and the module at the end */
+    unsigned long kept[SCRIPT_CLEAR + 1], kept_ss[2], kept_refused;
+    unsigned long unreadable, empty_line, cr_line, long_line, no_register[2];
+    unsigned long no_lf, cut, empty_file, full_file, exact, more, wide;
+    unsigned long one_short, none_lent, past_limit;
+    unsigned long end_enabled, end_unread, end_marked, end_flag;
 } reached;
 
 static enum role role_of(const struct ref_spi *m)
@@ -596,6 +706,69 @@ static void count_trace(const struct call *c, const struct ref_spi *before,
     reached.left_flag += (unsigned long)after->flag;
 }
 
+/* A line that cannot be read. */
+static void count_unreadable(const unsigned char *line, size_t n)
+{
+    reached.unreadable++;
+    reached.empty_line += n == 0;
+    reached.cr_line += n > 1 && line[n - 1] == '\r';
+    reached.long_line += n > 16;
+}
+
+/* A line that can: it is kept, or names no register. */
+static void count_line(const struct script_walk *w,
+                       const struct script_call *line, int refusal)
+{
+    if (!save_keeps(line)) {
+        reached.no_register[line->kind == SCRIPT_READ]++;
+        return;
+    }
+    reached.kept[line->kind]++;
+    if (line->kind == SCRIPT_TICK && w->length == 5)
+        reached.kept_ss[line->ss]++;
+    reached.kept_refused += refusal > 0;
+}
+
+/* A save, by the lines of its script. */
+static void count_save(const struct call *c, const struct outcome *o)
+{
+    uint32_t number = thurafeqa_refusal(o->answer);
+    struct call d = *c;
+    struct script_walk w;
+    struct script_call line;
+    struct ref_spi m;
+    unsigned value;
+    size_t length;
+
+    bring_script(&d);
+    length = save_length(d.file, d.length);
+    ref_power_up(&m);
+    script_begin(&w, d.file, d.length);
+    while (script_next(&w)) {
+        if (script_read(w.line, w.length, &line))
+            count_line(&w, &line, script_make(&m, &line, &value));
+        else
+            count_unreadable(w.line, w.length);
+        reached.no_lf += !w.ended;
+    }
+    reached.cut += d.length > SCRIPT_BYTES;
+    if (number != 0) {
+        reached.one_short += length <= TRACE_BYTES && d.room == length - 1;
+        reached.none_lent += d.room == 0;
+        reached.past_limit += length > TRACE_BYTES && length <= d.room;
+        return;
+    }
+    reached.empty_file += length == SAVE_CONTENTS;
+    reached.full_file += length == TRACE_BYTES - 1;
+    reached.exact += length == d.room;
+    reached.more += length < d.room;
+    reached.wide += d.room > TRACE_BYTES;
+    reached.end_enabled += (unsigned long)m.spien;
+    reached.end_unread += m.rx.n > 0;
+    reached.end_marked += (unsigned long)m.mark;
+    reached.end_flag += (unsigned long)m.flag;
+}
+
 static void count(const struct call *c, const struct outcome *o,
                   const struct ref_spi *before, const struct ref_spi *pool)
 {
@@ -604,8 +777,11 @@ static void count(const struct call *c, const struct outcome *o,
     unsigned edges = thurafeqa_value(o->answer);
 
     reached.kinds[c->kind]++;
-    if (c->kind == PLAY) { /* its calls are not counted one by one */
-        count_trace(c, &before[0], m);
+    if (c->kind == PLAY || c->kind == SAVE) {
+        if (c->kind == PLAY) /* its calls are not counted one by one */
+            count_trace(c, &before[0], m);
+        else
+            count_save(c, o);
         reached.refused[number] += number != 0;
         return;
     }
@@ -824,6 +1000,43 @@ static void print_traces(void)
            reached.costliest * 1000);
 }
 
+static void print_saves(void)
+{
+    static const char *const letter[] = {"W", "R", "T", "P", "C"};
+    int i;
+
+    printf("\nscripts saved, lines kept:");
+    for (i = SCRIPT_WRITE; i <= SCRIPT_CLEAR; i++)
+        print_count(letter[i], reached.kept[i]);
+    print_count("T with SS 0", reached.kept_ss[0]);
+    print_count("with SS 1", reached.kept_ss[1]);
+    print_count("refused by the module", reached.kept_refused);
+    printf("\nlines left out:");
+    print_count("unreadable", reached.unreadable);
+    print_count("empty", reached.empty_line);
+    print_count("with CR", reached.cr_line);
+    print_count("of more than 16 bytes", reached.long_line);
+    print_count("no register, W", reached.no_register[0]);
+    print_count("R", reached.no_register[1]);
+    printf("\nscripts:");
+    print_count("last line without LF", reached.no_lf);
+    print_count("cut at 65,535 bytes", reached.cut);
+    print_count("saved with no record", reached.empty_file);
+    print_count("with 16,381", reached.full_file);
+    printf("\nbytes lent:");
+    print_count("just enough", reached.exact);
+    print_count("more", reached.more);
+    print_count("more than 65,535", reached.wide);
+    print_count("one short", reached.one_short);
+    print_count("none", reached.none_lent);
+    print_count("enough, but no file is so long", reached.past_limit);
+    printf("\nsaved to a module that is:");
+    print_count("enabled", reached.end_enabled);
+    print_count("with words unread", reached.end_unread);
+    print_count("marked", reached.end_marked);
+    print_count("with its flag up", reached.end_flag);
+}
+
 static void print_reached(void)
 {
     int i;
@@ -859,6 +1072,7 @@ static void print_reached(void)
     print_count("external", reached.clock[THURAFEQA_CLOCK_EXTERNAL]);
     print_framed();
     print_traces();
+    print_saves();
     printf("\n%-40s %9s %9s %9s %9s\n", "words finished, by CKE and CKP:",
            "0 0", "0 1", "1 0", "1 1");
     for (i = 0; i < 4 * ROLES; i++)
@@ -924,6 +1138,13 @@ static void play_trace(int i) { make(PLAY, i, i, any_number(), 0, 0); }
 static void clear(int i) { make(CLEAR, i, i, 0, 0, 0); }
 static void clock_report(int i, uint32_t f) { make(CLOCK, i, i, f, 0, 0); }
 static void read_register(int i, uint32_t n) { make(READ, i, i, n, 0, 0); }
+
+static void save_script(void)
+{
+    uint32_t script = any_number();
+
+    make(SAVE, 0, 0, script, any_number(), 0);
+}
 
 static void write_register(int i, uint32_t n, uint32_t value)
 {
@@ -1237,6 +1458,8 @@ static void do_else(int i)
     case 13:
         if (one_in(2))
             play_trace(i);
+        else
+            save_script();
         break;
     default: do_anything(i); break;
     }
@@ -1283,13 +1506,15 @@ static void act(int i, size_t mood)
 }
 
 /* Some traces, one after the other. The last that is not refused leaves the
- * module for what comes. */
+ * module for what comes. Then some scripts are saved. */
 static void play_traces(int i)
 {
     uint32_t n;
 
     for (n = one_in(3) ? 1 + below(8) : 0; n > 0; n--)
         play_trace(i);
+    for (n = one_in(3) ? 1 + below(8) : 0; n > 0; n--)
+        save_script();
 }
 
 /* A sequence of calls, from power-up of all modules on. */

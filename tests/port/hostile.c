@@ -20,11 +20,20 @@
  * - a play, of a trace or of any bytes, is refused as the second model's check
  *   of the file says, or makes as many calls, and shows then what its calls
  *   show, made one by one from power-up. Its file lies in memory that cannot be
- *   written, right behind or right before a page that cannot be touched.
+ *   written, right behind or right before a page that cannot be touched;
+ * - a save, of a script or of any bytes, which lie there too, is refused exactly
+ *   if the file is too long, and then no byte lent is changed; else the bytes
+ *   behind the file are as they were, the second model's check finds nothing
+ *   wrong with the file, and it is played to what the script's calls show, made
+ *   one by one. What is lent has a page that cannot be touched on one side and
+ *   guards on the other, which are untouched.
  * Exit 0: all held. Exit 1: something did not, or a refusal was not reached.
  * Exit 2: bad usage. */
 #define _DEFAULT_SOURCE
 #include "calls.h"
+#include "save.h"
+#include "script.h"
+#include "some_script.h"
 #include "some_trace.h"
 #include "trace.h"
 
@@ -143,11 +152,10 @@ static const uint8_t *file[2];
 static struct trace trace;
 static uint32_t file_refusal;
 
-static void place_file(void)
+static void place_bytes(void)
 {
     int i;
 
-    bring_file(&now);
     for (i = 0; i < 2; i++) {
         uint8_t *at = file_area[i];
 
@@ -162,6 +170,12 @@ static void place_file(void)
         file[i] = at;
     }
     now.file = file[0];
+}
+
+static void place_file(void)
+{
+    bring_file(&now);
+    place_bytes();
     file_refusal =
         (uint32_t)trace_number(trace_open(&trace, now.file, now.length));
 }
@@ -213,6 +227,106 @@ static void hold_play(const uint32_t *shown)
     hold(memcmp(seen, shown, sizeof seen) == 0,
          "a play did not do what its calls do one by one");
     walked++;
+}
+
+/* ---- the script of a save, and what is lent to it --------------------- */
+
+/* Two copies of what is lent, one from the start of its area, one up to its
+ * end, with guards on the other side; and what it held before. */
+#define LENT_AREA (2 * SOME_ROOM)
+static uint8_t *lent_area[2], *lent[2];
+static uint8_t lent_before[SOME_ROOM];
+static size_t file_length; /* that the script comes to */
+
+static void place_script(void)
+{
+    int i;
+
+    bring_script(&now);
+    place_bytes();
+    file_length = save_length(now.file, now.length);
+    fill_lent(lent_before, now.room, now.y);
+    for (i = 0; i < 2; i++) {
+        lent[i] = lent_area[i];
+        if (i == 1)
+            lent[i] += LENT_AREA - now.room;
+        memset(i == 0 ? lent[i] + now.room : lent[i] - GUARDS, GUARD & 0xFF,
+               GUARDS);
+        memcpy(lent[i], lent_before, now.room);
+    }
+}
+
+static int lent_guarded(void)
+{
+    size_t i;
+
+    for (i = 0; i < GUARDS; i++) {
+        if (lent[0][now.room + i] != (GUARD & 0xFF) ||
+            *(lent[1] - 1 - i) != (GUARD & 0xFF))
+            return 0;
+    }
+    return 1;
+}
+
+/* Makes the calls of a script one by one, by the lines that can be read: how
+ * many of them name a register that is there? */
+static unsigned walk_script(thurafeqa *m)
+{
+    struct script_walk w;
+    struct script_call c;
+    unsigned kept = 0;
+
+    thurafeqa_power_up(m);
+    script_begin(&w, now.file, now.length);
+    while (script_next(&w)) {
+        if (!script_read(w.line, w.length, &c))
+            continue;
+        switch (c.kind) {
+        case SCRIPT_WRITE: thurafeqa_write(m, c.reg, c.value); break;
+        case SCRIPT_READ: thurafeqa_read(m, c.reg); break;
+        case SCRIPT_TICK:
+            thurafeqa_tick(m, (uint32_t)c.sdi, (uint32_t)c.ss);
+            break;
+        case SCRIPT_PINS:
+            thurafeqa_pins(m, (uint32_t)c.sck, (uint32_t)c.sdi,
+                           (uint32_t)c.ss);
+            break;
+        default: thurafeqa_clear(m); break;
+        }
+        kept += c.reg <= THURAFEQA_BUF;
+    }
+    return kept;
+}
+
+static unsigned long saved_empty, saved_cut, refused_limit;
+
+/* What is lent, after a save with this answer. */
+static void hold_save(uint32_t answer)
+{
+    size_t n = thurafeqa_value(answer); /* 0 if it was refused */
+    uint32_t shown[2][VIEWS];
+    thurafeqa m;
+    unsigned kept;
+
+    hold(memcmp(lent[0], lent[1], now.room) == 0,
+         "the same save left what was lent different");
+    hold(lent_guarded(), "a byte beside what was lent was changed");
+    hold(memcmp(lent[0] + n, lent_before + n, now.room - n) == 0,
+         "a byte changed that should have stayed");
+    refused_limit += n == 0 && file_length > TRACE_BYTES;
+    if (n == 0)
+        return;
+    hold(trace_open(&trace, lent[0], n) == TRACE_RIGHT && trace.sections == 1,
+         "a saved file is wrong");
+    kept = walk_script(&m);
+    see_library(&m, shown[0]);
+    hold(thurafeqa_play(&m, lent[0], n) == kept,
+         "a saved file makes other calls than its script");
+    see_library(&m, shown[1]);
+    hold(memcmp(shown[0], shown[1], sizeof shown[0]) == 0,
+         "a saved file does not end as its script does");
+    saved_empty += kept == 0;
+    saved_cut += now.length > SCRIPT_BYTES;
 }
 
 /* ---- what the memory holds at first ---------------------------------- */
@@ -418,6 +532,10 @@ static uint32_t table_refusal(const struct call *c,
     case LINKED: return linked_refusal(c, seen[0], seen[1]);
     case CLOCK: return c->x == 0 ? THURAFEQA_NO_RATE : 0;
     case PLAY: return file_refusal;
+    case SAVE:
+        return file_length > now.room || file_length > TRACE_BYTES
+                   ? THURAFEQA_NO_ROOM
+                   : 0;
     default: return 0;
     }
 }
@@ -503,6 +621,8 @@ static void hold_answer(const struct call *c, const struct outcome *o,
         hold(value <= c->x, "a linked run made more edges than its limit");
     else if (c->kind == PLAY)
         hold(value == trace.section[0].calls, "a play made other calls");
+    else if (c->kind == SAVE)
+        hold(value == file_length, "a save tells another length");
     else if (c->kind != READ && c->kind != CLOCK)
         hold(value == 0, "a call that tells nothing tells a value");
 }
@@ -582,7 +702,8 @@ static void hold_copies(void)
 /* Does a call that was answered like this leave its modules as they were? */
 static int no_effect(const struct call *c, const struct outcome *o)
 {
-    if (thurafeqa_refusal(o->answer) != 0 || c->kind == CLOCK)
+    if (thurafeqa_refusal(o->answer) != 0 || c->kind == CLOCK ||
+        c->kind == SAVE)
         return 1;
     if (c->kind == READ)
         return c->x != THURAFEQA_BUF;
@@ -600,13 +721,17 @@ static void make(void)
     made++;
     for (i = 0; i < 2; i++) {
         before[i] = *copies[0][i].m;
-        if (now.kind == PLAY)
+        if (now.kind == PLAY || now.kind == SAVE)
             now.file = file[i];
+        if (now.kind == SAVE)
+            now.lent = lent[i];
         ask_library(copies[i][0].m, copies[i][1].m, &now, &o[i]);
     }
     hold(same_answer(&now, &o[0], &o[1]), "two copies were answered otherwise");
     hold_copies();
     hold_answer(&now, &o[0], seen);
+    if (now.kind == SAVE)
+        hold_save(o[0].answer);
     spared = no_effect(&now, &o[0]);
     if (!spared) {
         ask_library(&third[0], &third[1], &now, &o[2]);
@@ -668,10 +793,14 @@ static void choose(void)
         now.x = THURAFEQA_STAT;
         now.y = any_number() | THURAFEQA_STAT_SPIEN;
     }
-    if (one_in(40)) {
-        now.kind = PLAY;
+    if (one_in(20)) {
+        now.kind = one_in(2) ? PLAY : SAVE;
         now.x = any_number();
-        place_file();
+        now.y = any_number();
+        if (now.kind == PLAY)
+            place_file();
+        else
+            place_script();
     }
 }
 
@@ -731,8 +860,10 @@ int main(int argc, char **argv)
     start_numbers(seed);
     for (i = 0; i < 4; i++)
         copies[i / 2][i % 2].area = new_area(FENCE);
-    for (i = 0; i < 2; i++)
+    for (i = 0; i < 2; i++) {
         file_area[i] = new_area(SOME_TRACE_BYTES);
+        lent_area[i] = new_area(LENT_AREA);
+    }
     while (made < wanted)
         run_memory();
     printf("done:");
@@ -751,6 +882,10 @@ int main(int argc, char **argv)
            marks_cleared);
     printf("\nplays made again call by call: %lu", walked);
     missing += (marks_set == 0) + (marks_cleared == 0) + (walked == 0);
+    printf("\nsaves: with no line kept %lu, of cut scripts %lu, refused for any "
+           "buffer %lu",
+           saved_empty, saved_cut, refused_limit);
+    missing += (saved_empty == 0) + (saved_cut == 0) + (refused_limit == 0);
     printf("\n%lu hostile calls, each made twice, all held%s\n", made,
            missing ? ", but not every case was reached" : "");
     return missing != 0;

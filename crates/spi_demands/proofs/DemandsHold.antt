@@ -7,6 +7,7 @@ use Rattle.spi_link_rules.proofs.LinkDemandsHold.{linked-runs}
 use Rattle.spi_clock_rules.proofs.ClockDemandsHold.{clock-reports}
 use Rattle.spi_script_rules.proofs.ScriptDemandsHold.{scripts-hold}
 use Rattle.spi_trace_rules.proofs.TraceDemandsHold.{traces-hold}
+use Rattle.spi_save_rules.proofs.SaveDemandsHold.{saves-hold}
 
 pub demands-hold : Demands
 demands-hold =
@@ -16,4 +17,5 @@ demands-hold =
       clockReports = clock-reports;
       scripts = scripts-hold;
       traces = traces-hold;
+      saves = saves-hold;
     }

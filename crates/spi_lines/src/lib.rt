@@ -1,16 +1,26 @@
-// Reading a script: where a line ends, and the call that it asks for.
+// Reading a script: where it ends, where a line ends, and the call that a line asks for.
 use spi_rules::Call;
 use spi_script_rules::Line;
-ghost use Prim.Native.Nat.{_≤_};
+ghost use Prim.Native.Nat.{_+_, _≤_};
 ghost use mathlib.Core.Bool.{true};
 ghost use mathlib.Core.Path.{_≡_};
 ghost use mathlib.Core.List.{[], _∷_};
 ghost use lib.ListN.{length, drop};
-ghost use Rattle.spi_script_rules.specs.Script.{digit, hexDigit, level, fitsPlace, hexValue, readingOf};
+ghost use Rattle.spi_script_rules.specs.Script.{readFrom, digit, hexDigit, level, fitsPlace, hexValue, readingOf};
 ghost use Rattle.spi_script_rules.specs.Session.{firstLine};
 
+// How many bytes of a script are read: no more than the first 65,535.
+pub fn bytes_read(script: &[u8]) -> usize
+    ensures { λ r. ⌜ r ≡ length (readFrom (now (script .entry))) ⌝ }
+{
+    if script.len() <= 65535 {
+        return script.len();
+    }
+    65535
+}
+
 // How many bytes stand before the next LF, counted from a place on, or before the end if there is none.
-pub fn line_length(script: &[u8], at: usize) -> usize
+fn line_length(script: &[u8], at: usize) -> usize
     ensures { λ r. ⌜ r ≡ length (firstLine (drop at (now (script .entry)))) ⌝ }
 {
     let mut end = at;
@@ -114,7 +124,7 @@ fn one_byte(k: u8) -> Line
 }
 
 // The call that a line asks for. The forms differ in their length, so the length picks what to look for.
-pub fn reading(line: &[u8]) -> Line
+fn reading(line: &[u8]) -> Line
     ensures { λ r. ⌜ r ≡ readingOf (now (line .entry)) ⌝ }
 {
     let n = line.len();
@@ -151,4 +161,28 @@ pub fn reading(line: &[u8]) -> Line
         return one_byte(line[0]);
     }
     Line::Unreadable
+}
+
+// A line of a script: the call that it asks for, and the place behind its last byte.
+pub struct Next {
+    pub line: Line,
+    pub end: usize,
+}
+
+// The line from a place on.
+pub fn next_line(script: &[u8], at: usize) -> Next
+    ensures { λ r. ⌜ r .line ≡ readingOf (firstLine (drop at (now (script .entry)))) ⌝ }
+    ensures { λ r. ⌜ r .end ≡ at + length (firstLine (drop at (now (script .entry)))) ⌝ }
+{
+    if script.len() <= at {
+        return Next {
+            line: Line::Unreadable,
+            end: at,
+        };
+    }
+    let end = at + line_length(script, at);
+    Next {
+        line: reading(&script[at..end]),
+        end: end,
+    }
 }

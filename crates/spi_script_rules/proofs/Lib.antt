@@ -3,6 +3,7 @@ pub mod ScriptLines
 pub mod ScriptSizes
 pub mod ScriptText
 pub mod SessionWhole
+pub mod Texts
 -- The paper's figures:
 pub mod ScriptExamplesHold
 -- The demands, all of them:

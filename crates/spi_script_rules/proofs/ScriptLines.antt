@@ -1,6 +1,7 @@
 -- How a script's bytes fall into lines.
 --     reads-all, reads-no-more    the bytes that are read: all of a short script, and no byte past the last that counts
 --     reads-at-most               never more than that
+--     read-part                   they are a part of the script, from the front
 --     lines-begin                 the lines of some bytes are the first line, and the lines of what stands behind it and its LF
 --     NoLf, no-lf, no-lf-append   a text without LF, one that is written out, and two of them joined
 --     lines-end                   a text without LF, an LF and a rest are that text as a line, and the lines of the rest
@@ -9,7 +10,7 @@
 --     not-fits                    a line of another length than a form does not have it
 --     too-long                    a line of more than 16 bytes cannot be read
 -- Assumes nothing.
-use Prim.Native.Nat.{ℕ, suc, _+_, _≤_, _<_}
+use Prim.Native.Nat.{ℕ, zero, suc, _+_, _≤_, _<_}
 use mathlib.Core.Bool.{Bool, true, false, not, _&&_}
 use mathlib.Core.List.{List, [], _∷_, _++_}
 use mathlib.Core.Path.{_≡_, refl, ap, _∙_}
@@ -41,6 +42,16 @@ reads-no-more input more e = take-at input more mostBytes (omega arith)
 pub reads-at-most : (input : List ℕ) → length (readFrom input) ≤ mostBytes
 unfolding readFrom
 reads-at-most input = omega (arith, length-take mostBytes input)
+
+taken-length : (n : ℕ) (l : List ℕ) → take (length (take n l)) l ≡ take n l
+taken-length zero l = refl
+taken-length (suc n) [] = refl
+taken-length (suc n) (x ∷ l) = ap (λ (r : List ℕ). x ∷ r) (taken-length n l)
+
+-- As many bytes as are read, from the front, are those that are read.
+pub read-part : (input : List ℕ) (n : ℕ) → n ≡ length (readFrom input) → take n input ≡ readFrom input
+unfolding readFrom
+read-part input n e = rw e (taken-length mostBytes input)
 
 -- Lines.
 

@@ -4,7 +4,7 @@ use Prim.Native.Nat.{ℕ, zero, suc, _+_}
 use mathlib.Core.Bool.{Bool, _||_}
 use mathlib.Core.List.{List, [], _∷_, _++_}
 use lib.Dec.{eqb, leb, ltb}
-use lib.ListN.{length, drop, set}
+use lib.ListN.{length, drop}
 use Rattle.spi_script_rules.specs.declared.Session.{Session}
 use Rattle.spi_rules.specs.Choice.{if_then_else_}
 use Rattle.spi_rules.specs.Calls.{poweredUp}
@@ -60,11 +60,6 @@ pieceAfter input s = played pieceLines input s
 
 unfoldable pub pieceText : List ℕ → Session → List ℕ
 pieceText input s = answers pieceLines input s
-
--- Bytes put into a buffer from a place on; the rest of the buffer keeps its bytes.
-unfoldable pub put : List ℕ → ℕ → List ℕ → List ℕ
-put buffer place [] = buffer
-put buffer place (b ∷ bs) = put (set buffer place b) (place + 1) bs
 
 -- A number of pieces, one after the other: where the session stands, and everything that they wrote.
 unfoldable pub pieces : ℕ → List ℕ → Session → Session

@@ -2,9 +2,7 @@
 --     ended-behind, ended-past, goes-on   when a script that is cut at its limit has ended, and when not
 --     next-played, next-answers           one line more, where it goes on
 --     plays-it, answers-it, answers-none  what playing the next line comes to
---     line-here                           the next line, as a part of the script
---     line-within                         it ends within the script
---     read-part, cut-part, read-again, played-read, answers-read
+--     cut-part, read-again, played-read, answers-read
 --                                         cutting a script that is cut changes nothing
 --     Playing                             what holds of the loop: the lines that are left finish the piece
 --     playing-starts, playing-goes-on, playing-ends
@@ -16,19 +14,19 @@ use mathlib.Core.Path.{_≡_, refl, sym, _∙_, ap}
 use native.Mathlib.Omega.{arith}
 use borrow.Author.Tests.{le-leb, lt-leb, lt-ltb, le-ltb}
 use lib.Dec.{leb}
-use lib.ListN.{length, take, drop, set, length-take, length-drop, length-append, length-set}
+use lib.ListN.{length, take, drop, length-take, length-drop, length-append}
 use lib.Seq.{take-take}
 use Rattle.spi_rules.specs.declared.Module.{Module}
 use Rattle.spi_script_rules.specs.declared.Line.{Line}
 use Rattle.spi_script_rules.specs.declared.Session.{Session}
 use Rattle.spi_script_rules.specs.Script.{mostBytes, readFrom, readingOf, lineAfter, answerLine}
-use Rattle.spi_script_rules.specs.Session.{firstLine, bytesLeft, ended, lineOf, linePlayed, played, answers, pieceLines, pieceAfter, pieceText, put}
+use Rattle.spi_script_rules.specs.Session.{firstLine, bytesLeft, ended, lineOf, linePlayed, played, answers, pieceLines, pieceAfter, pieceText}
 use Rattle.spi_rules.proofs.Keeps.{if-false}
-use Rattle.spi_script_rules.proofs.ScriptLines.{first-line-taken}
+use Rattle.spi_script_rules.proofs.ScriptLines.{read-part}
 use Rattle.spi_script_rules.proofs.ScriptSizes.{answers-fit, piece-fits}
 use Rattle.spi_script_rules.proofs.SessionWhole.{ended-answers, played-add, answers-add}
-use Rattle.spi_session.specs.Written.{Written}
-use Rattle.spi_session.proofs.Texts.{put-then, written-case}
+use Rattle.spi_script_rules.specs.Texts.{put, Written}
+use Rattle.spi_script_rules.proofs.Texts.{put-then, written-case, put-length}
 
 or-true : (a : Bool) → (a || true) ≡ true
 or-true true = refl
@@ -48,20 +46,6 @@ module _ (script : List ℕ) (cut : readFrom script ≡ script) (s : Session) wh
   unfolding ended mostBytes
   goes-on h k = rw (cut, lt-leb (length script) (s .at) h, le-ltb 65535 (s .lines) k)
 
-  pub line-here : (n : ℕ) → n ≡ length (firstLine (drop (s .at) script)) → take n (drop (s .at) script) ≡ lineOf script s
-  unfolding lineOf bytesLeft
-  line-here n e = rw (e, cut) (first-line-taken (drop (s .at) script))
-
-  pub line-within : (n : ℕ) → n ≡ length (firstLine (drop (s .at) script)) → s .at < length script →
-      s .at + n ≤ length script
-  line-within n e h =
-      omega (
-        arith,
-        ap length (first-line-taken (drop (s .at) script)),
-        length-take (length (firstLine (drop (s .at) script))) (drop (s .at) script),
-        length-drop (s .at) script,
-      )
-
   -- One line more, where the script goes on.
   pub next-played : ended script s ≡ false → played 1 script s ≡ linePlayed script s
   unfolding played
@@ -77,15 +61,14 @@ module _ (script : List ℕ) (cut : readFrom script ≡ script) (s : Session) wh
   line-first = rw cut
 
   -- What reading, asking and answering the next line come to.
-  module _ (n : ℕ) (line : Line) (number : n ≡ length (firstLine (drop (s .at) script)))
-      (reads : line ≡ readingOf (take (s .at + n - s .at) (drop (s .at) script))) (on : ended script s ≡ false) where
+  module _ (line : Line) (reads : line ≡ readingOf (firstLine (drop (s .at) script))) (on : ended script s ≡ false) where
     here : line ≡ readingOf (lineOf script s)
-    here = reads ∙ ap readingOf (line-here (s .at + n - s .at) (omega arith))
+    here = reads ∙ ap readingOf (sym line-first)
 
-    pub plays-it : (spi : Module) → spi ≡ lineAfter (s .spi) line →
-        record { spi = spi; lines = s .lines + 1; at = s .at + n + 1 } ≡ played 1 script s
+    pub plays-it : (end : ℕ) (spi : Module) → end ≡ s .at + length (firstLine (drop (s .at) script)) → spi ≡ lineAfter (s .spi) line →
+        record { spi = spi; lines = s .lines + 1; at = end + 1 } ≡ played 1 script s
     unfolding linePlayed
-    plays-it spi e = cc (e, number, here, line-first, next-played on)
+    plays-it end spi ends e = cc (e, ends, here, line-first, next-played on)
 
     pub answers-it : {before after : List ℕ} {place next : ℕ} →
         Written (answerLine (s .lines + 1) (s .spi) line) before place after next →
@@ -98,19 +81,9 @@ module _ (script : List ℕ) (cut : readFrom script ≡ script) (s : Session) wh
   answers-none e out w = written-case (λ (text : List ℕ). text) (ended-answers script 1 s e) record { buffer = refl; behind = omega arith }
 
 -- Cutting once more.
-taken-length : (n : ℕ) (l : List ℕ) → take (length (take n l)) l ≡ take n l
-taken-length zero l = refl
-taken-length (suc n) [] = refl
-taken-length (suc n) (x ∷ l) = ap (λ (r : List ℕ). x ∷ r) (taken-length n l)
-
 pub read-again : (input : List ℕ) → readFrom (readFrom input) ≡ readFrom input
 unfolding readFrom
 read-again input = take-take mostBytes mostBytes input (omega arith)
-
--- As many bytes as are read, from the front, are those that are read.
-pub read-part : (input : List ℕ) (n : ℕ) → n ≡ length (readFrom input) → take n input ≡ readFrom input
-unfolding readFrom
-read-part input n e = rw e (taken-length mostBytes input)
 
 pub cut-part : (input : List ℕ) (n : ℕ) → n ≡ length (readFrom input) → readFrom (take n input) ≡ take n input
 cut-part input n e = rw (read-part input n e) (read-again input)
@@ -191,11 +164,6 @@ module _ {n : ℕ} {script : List ℕ} {from : Session} {empty : List ℕ} {k : 
           behind = omega (arith, h .behind, ap (λ (i : ℕ). length (answers i script s)) none);
         },
       )
-
-put-length : (buffer : List ℕ) (place : ℕ) (text : List ℕ) → length (put buffer place text) ≡ length buffer
-unfolding put
-put-length buffer place [] = refl
-put-length buffer place (b ∷ text) = put-length (set buffer place b) (place + 1) text ∙ length-set buffer place b
 
 -- A piece is 256 lines.
 pub piece-ends : (input : List ℕ) (n : ℕ) {from : Session} {empty out : List ℕ} {k w : ℕ} {s : Session} →

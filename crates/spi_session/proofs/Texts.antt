@@ -1,7 +1,4 @@
--- Texts in a buffer, and the digits of a number.
---     put-then         two texts put one behind the other are put as one
---     written-then     the same of what functions say that they wrote
---     written-case     a text that a case gives is that of what is known to be the case
+-- The digits of a number, and what lines tell.
 --     decimal-more     a number that fits its places has the same digits with a place more
 --     decimal-one      a number below ten is one digit
 --     decimal-step     the digits of a number are those of its tenth, and its last digit
@@ -18,9 +15,8 @@ use native.Mathlib.Omega.{arith}
 use native.Mathlib.Nat.{pow-suc, div-lt-iff-lt-mul}
 use borrow.Author.Tests.{ltb-false, le-ltb, lt-ltb}
 use lib.Dec.{ltb}
-use lib.ListN.{length, set, length-append}
+use lib.ListN.{length, length-append}
 use Rattle.spi_script_rules.specs.Script.{decimalIn, decimalOf, answerText, lineText}
-use Rattle.spi_script_rules.specs.Session.{put}
 use Rattle.spi_rules.specs.declared.Module.{Module}
 use Rattle.spi_rules.specs.declared.Outcome.{Outcome}
 use Rattle.spi_rules.specs.declared.Answer.{Answer}
@@ -31,28 +27,8 @@ use Rattle.spi_rules.specs.Calls.{performOf}
 use Rattle.spi_rules.specs.Refusals.{numberOf}
 use Rattle.spi_script_rules.proofs.ScriptSizes.{number-below, decimal-length, answer-length}
 use Rattle.spi_rules.proofs.Keeps.{if-both, if-true, if-false}
-use Rattle.spi_session.specs.Written.{Written}
-
-pub put-then : (buffer : List ℕ) (place : ℕ) (xs ys : List ℕ) →
-    put (put buffer place xs) (place + length xs) ys ≡ put buffer place (xs ++ ys)
-unfolding put
-put-then buffer place [] ys = ap (λ (k : ℕ). put buffer k ys) (omega arith)
-put-then buffer place (x ∷ xs) ys =
-    ap (λ (k : ℕ). put (put (set buffer place x) (place + 1) xs) k ys) (omega arith)
-    ∙ put-then (set buffer place x) (place + 1) xs ys
-
-pub written-then : {xs ys b₀ b₁ b₂ : List ℕ} {p q r : ℕ} → Written xs b₀ p b₁ q → Written ys b₁ q b₂ r →
-    Written (xs ++ ys) b₀ p b₂ r
-written-then {xs} {ys} {b₀} {b₁} {b₂} {p} {q} {r} h k =
-    record {
-      buffer = cc (put-then b₀ p xs ys, h .buffer, k .buffer, h .behind);
-      behind = omega (arith, length-append xs ys, h .behind, k .behind);
-    }
-
--- A text that is known by its case.
-pub written-case : {A : Type 0} (text : A → List ℕ) {x y : A} {before after : List ℕ} {place next : ℕ} → x ≡ y →
-    Written (text y) before place after next → Written (text x) before place after next
-written-case text e h = record { buffer = cc (ap text e, h .buffer); behind = cc (ap text e, h .behind) }
+use Rattle.spi_script_rules.specs.Texts.{Written}
+use Rattle.spi_script_rules.proofs.Texts.{written-case}
 
 tenth-below : (p n : ℕ) → n < 10 ^ suc p → n / 10 < 10 ^ p
 tenth-below p n h = div-lt-iff-lt-mul {k = 10} {x = n} {y = 10 ^ p} (omega arith) .1 (rw pow-suc at h)

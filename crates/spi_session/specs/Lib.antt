@@ -1,2 +1,2 @@
--- What the functions that write say of the buffer.
-pub mod Written
+-- What the contracts of this crate cite, besides the rules of the script program.
+pub mod SessionIn

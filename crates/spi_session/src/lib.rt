@@ -14,7 +14,8 @@ ghost use lib.ListN.{length};
 ghost use Rattle.spi_script_rules.specs.Script.{decimalOf, hexOf, fourHexOf, levelOf, sdoLetter, refusedText, okText, ssText, pinText, edgeText, doneText, answerText, lineAfter, answerLine, readFrom};
 ghost use Rattle.spi_script_rules.specs.Session.{started, played, answers, pieceAfter, pieceText};
 ghost use Rattle.spi_memory.specs.Memory.{moduleIn};
-ghost use Rattle.spi_session.specs.Written.{Written, sessionIn};
+ghost use Rattle.spi_script_rules.specs.Texts.{Written};
+ghost use Rattle.spi_session.specs.SessionIn.{sessionIn};
 
 // A script starts with a module at power-up.
 pub fn start(w: &mut [u16; 96]) -> Bookmark
@@ -217,27 +218,17 @@ fn play_line(script: &[u8], w: &mut [u16; 96], p: Piece, out: &mut [u8; 4096]) -
     if 65535 < lines {
         return p;
     }
-    let end = at + spi_lines::line_length(script, at);
-    let line = spi_lines::reading(&script[at..end]);
+    let next = spi_lines::next_line(script, at);
+    let line = next.line;
     let number = lines + 1;
-    let next = answer_line(out, written, number, w, line);
+    let behind = answer_line(out, written, number, w, line);
     Piece {
         to: Bookmark {
             lines: number,
-            at: end + 1,
+            at: next.end + 1,
         },
-        written: next,
+        written: behind,
     }
-}
-
-// How many bytes of a script are read: no more than the first 65,535.
-fn bytes_read(script: &[u8]) -> usize
-    ensures { λ r. ⌜ r ≡ length (readFrom (now (script .entry))) ⌝ }
-{
-    if script.len() <= 65535 {
-        return script.len();
-    }
-    65535
 }
 
 // Plays the next 256 lines of a script, or those that are left if they are fewer, and puts their answers at the start of
@@ -247,7 +238,7 @@ pub fn piece(script: &[u8], w: &mut [u16; 96], from: Bookmark, out: &mut [u8; 40
     ensures { λ r. ⌜ Written (pieceText (now (script .entry)) (sessionIn (now (w .entry)) from)) (now (out .entry)) 0 (now (out .exit)) (r .written) ⌝ }
     ensures { λ r. ⌜ (r .written ≤ 4096) × (length (now (out .exit)) ≡ length (now (out .entry))) ⌝ }
 {
-    let end = bytes_read(script);
+    let end = spi_lines::bytes_read(script);
     let read = &script[..end];
     let mut p = Piece {
         to: from,

@@ -1,26 +1,18 @@
 -- Document 02, Five: trace files with what they must answer. proofs/TraceExamplesHold.antt runs the definitions on them.
-use Prim.Native.Nat.{ℕ, _+_, _*_, _/_, _%_}
+use Prim.Native.Nat.{ℕ}
 use mathlib.Core.Bool.{Bool, true, false, _&&_, Bool·beq}
 use mathlib.Core.List.{List, [], _∷_, _++_}
 use lib.Dec.{eqb}
-use lib.ListN.{length, replicate}
+use lib.ListN.{replicate}
 use Rattle.spi_rules.specs.declared.Module.{Module}
 use Rattle.spi_rules.specs.Registers.{con1Value, con2Value, statValue}
 use Rattle.spi_rules.specs.Calls.{poweredUp, interruptOf}
 use Rattle.spi_trace_rules.specs.declared.Played.{Played}
 use Rattle.spi_trace_rules.specs.declared.Played.the-variants.{Refused, Made}
 use Rattle.spi_trace_rules.specs.Trace.{faultNumberOf, playedOf, playedModule}
+use Rattle.spi_trace_rules.specs.TraceBytes.{half, word, entry, joined, file}
 
--- Numbers as bytes, the lowest first, and a record.
-abbrev pub half : ℕ → List ℕ
-half n = n % 256 ∷ n / 256 ∷ []
-
-abbrev pub word : ℕ → List ℕ
-word n = half (n % 65536) ++ half (n / 65536)
-
-abbrev pub entry : ℕ → ℕ → ℕ → List ℕ
-entry kind argument value = kind ∷ argument ∷ half value
-
+-- Records of some kinds.
 abbrev pub write : ℕ → ℕ → List ℕ
 write register value = entry 0 register value
 
@@ -32,18 +24,6 @@ clear = entry 4 0 0
 
 abbrev pub play : ℕ → ℕ → List ℕ
 play section count = entry 5 section count
-
--- A file of these sections: its table, and the sections one behind the other.
-abbrev pub table : ℕ → List (List ℕ) → List ℕ
-table at [] = []
-table at (body ∷ rest) = word at ++ (word (length body) ++ table (at + length body) rest)
-
-abbrev pub joined : List (List ℕ) → List ℕ
-joined [] = []
-joined (body ∷ rest) = body ++ joined rest
-
-abbrev pub file : List (List ℕ) → List ℕ
-file sections = half (length sections) ++ (table (2 + 8 * length sections) sections ++ joined sections)
 
 -- What a play says: the number of its refusal, and the calls that counted.
 abbrev pub says : Played → ℕ → ℕ → Bool

@@ -5,6 +5,7 @@ use mathlib.Core.Bool.{Bool, true, false, not}
 use mathlib.Core.List.{List, [], _∷_}
 use mathlib.Core.Path.{_≡_}
 use lib.Dec.{eqb}
+use lib.ListN.{length}
 use lib.Ieee.{Float}
 use Rattle.spi_rules.specs.declared.Module.{Module}
 use Rattle.spi_clock_rules.specs.declared.ClockSaid.{ClockSaid}
@@ -18,6 +19,8 @@ use Rattle.spi_rules.specs.Calls.{interruptOf, sckOf, sdoOf, ssOf}
 use Rattle.spi_trace_rules.specs.declared.Played.{Played}
 use Rattle.spi_trace_rules.specs.Trace.{playedOf, isMade, playedModule}
 use Rattle.spi_trace_rules.specs.TraceDemands.{numberIn, countIn}
+use Rattle.spi_save_rules.specs.declared.Saved.{Saved}
+use Rattle.spi_save_rules.specs.Save.{savedOf, bufferAfter, savedNumberOf, savedLengthOf}
 use Rattle.spi_memory.specs.Memory.{moduleIn}
 use Rattle.spi_link.specs.Wire.{isRefused}
 
@@ -78,9 +81,19 @@ pub record PlayTells (f : List ℕ) (r : ℕ) (before after : List ℕ) : Type 0
   pub holds : moduleIn after ≡ playedModule (moduleIn before) f
   pub untouched : isMade (playedOf f) ≡ false → after ≡ before
 
--- The library's version, 4.1.0: the major number times 65,536, the minor one times 256, and the patch.
+-- What saving a session answers: the upper 16 bits are the refusal number, 0 if it is saved, the lower 16 bits the file's length.
+unfoldable pub saveNumber : Saved → ℕ
+saveNumber s = savedNumberOf s * 65536 + savedLengthOf s
+
+-- Saving a session returns its number, and the buffer holds the file and, behind it, its own bytes. A refused save leaves it as it
+-- was.
+pub record SaveTells (script : List ℕ) (r : ℕ) (before after : List ℕ) : Type 0 where
+  pub number : r ≡ saveNumber (savedOf script (length before))
+  pub buffer : after ≡ bufferAfter script before
+
+-- The library's version, 4.2.0: the major number times 65,536, the minor one times 256, and the patch.
 abbrev pub versionNumber : ℕ
-versionNumber = 4 * 65536 + 1 * 256 + 0
+versionNumber = 4 * 65536 + 2 * 256 + 0
 
 -- The number of the memory's format: it rises wherever the meaning of memory (crates/spi_memory/specs/Memory.antt) changes.
 abbrev pub formatNumber : ℕ

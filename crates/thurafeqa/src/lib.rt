@@ -2,6 +2,7 @@
 // caller holds, 96 numbers of 16 bits a module. Only numbers cross the boundary, and any numbers are answered.
 use spi_link_rules::LinkAnswer;
 use spi_rules::Output;
+use spi_save_rules::Saved;
 use spi_trace_rules::Played;
 ghost use Prim.Native.Nat.{_%_, _≤_};
 ghost use mathlib.Core.Path.{_≡_};
@@ -11,7 +12,7 @@ ghost use Rattle.spi_link_rules.specs.Link.{linkedOf};
 ghost use Rattle.spi_clock_rules.specs.Clock.{reportOf, saidClock};
 ghost use Rattle.spi_memory.specs.Memory.{moduleIn};
 ghost use Rattle.spi_numbers.specs.Told.{Tells};
-ghost use Rattle.thurafeqa.specs.Numbers.{LinkTells, levelIn, linkNumber, outputBits, levelsNumber, kindNumber, ClockTells, playNumber, PlayTells, versionNumber, formatNumber};
+ghost use Rattle.thurafeqa.specs.Numbers.{LinkTells, levelIn, linkNumber, outputBits, levelsNumber, kindNumber, ClockTells, playNumber, PlayTells, saveNumber, SaveTells, versionNumber, formatNumber};
 
 // The answer of a linked run as a number.
 fn link_number(a: LinkAnswer) -> u32
@@ -159,12 +160,31 @@ pub extern "C" fn thurafeqa_play(w: &mut [u16; 96], file: &[u8]) -> u32
     play_number(played)
 }
 
+// What saving a session answers as a number.
+fn save_number(s: Saved) -> u32
+    ensures { λ r. ⌜ r ≡ saveNumber s ⌝ }
+{
+    match s {
+        Saved::NoRoom => 20 * 65536,
+        Saved::Written(length) => length as u32,
+    }
+}
+
+// Saves a script session as a trace file in a lent buffer. A refused save leaves the buffer as it was.
+#[no_mangle]
+pub extern "C" fn thurafeqa_save(script: &[u8], file: &mut [u8]) -> u32
+    ensures { λ r. ⌜ SaveTells (now (script .entry)) r (now (file .entry)) (now (file .exit)) ⌝ }
+{
+    let saved = spi_saving::save(script, file);
+    save_number(saved)
+}
+
 // The library's version: the major number times 65,536, the minor one times 256, and the patch.
 #[no_mangle]
 pub extern "C" fn thurafeqa_version() -> u32
     ensures { λ r. ⌜ r ≡ versionNumber ⌝ }
 {
-    262400
+    262656
 }
 
 // The number of the memory's format: it rises wherever the meaning of the 96 numbers changes.

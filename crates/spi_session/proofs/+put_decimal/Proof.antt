@@ -7,7 +7,8 @@ use lib.ListN.{length}
 use native.Mathlib.Omega.{arith}
 use borrow.Fn.Kinds.{In}
 use borrow.Fn.PlainCycle.{Measures, is, falls, and}
-use Rattle.spi_session.proofs.Texts.{written-case, written-then, decimal-one, decimal-step, decimal-tenth}
+use Rattle.spi_script_rules.proofs.Texts.{written-case, written-then}
+use Rattle.spi_session.proofs.Texts.{decimal-one, decimal-step, decimal-tenth}
 use Rattle.spi_session.proofs.put.Reads as put-reads
 use Rattle.spi_session.proofs.put_decimal.Reads as put-decimal
 use Rattle.spi_session.proofs.put_decimal.Kinds as put-decimal-kinds

@@ -1,7 +1,7 @@
 -- One byte is stored, and the next place is one further.
 use borrow.Author.Needs.{needs}
 use native.Mathlib.Omega.{arith}
-use Rattle.spi_script_rules.specs.Session.{put}
+use Rattle.spi_script_rules.specs.Texts.{put}
 use Rattle.spi_session.proofs.put.Statement.{statement}
 use Rattle.spi_session.proofs.put.Tie as tie
 

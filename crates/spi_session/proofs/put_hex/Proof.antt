@@ -3,7 +3,7 @@ use borrow.Author.Needs.{needs}
 use mathlib.Core.List.{[], _∷_}
 use Prim.Native.Nat.{ℕ}
 use mathlib.Core.Path.{sym}
-use Rattle.spi_session.proofs.Texts.{written-case}
+use Rattle.spi_script_rules.proofs.Texts.{written-case}
 use Rattle.spi_session.proofs.put_hex.Statement.{statement}
 use Rattle.spi_session.proofs.put_hex.Tie as tie
 

@@ -3,7 +3,8 @@ use borrow.Author.Needs.{needs}
 use mathlib.Core.Path.{sym}
 use native.Mathlib.Omega.{arith}
 use Rattle.spi_script_rules.specs.Script.{decimalOf, refusedText}
-use Rattle.spi_session.proofs.Texts.{written-then, written-case, refusal-number-short}
+use Rattle.spi_script_rules.proofs.Texts.{written-then, written-case}
+use Rattle.spi_session.proofs.Texts.{refusal-number-short}
 use Rattle.spi_session.proofs.put_refused.Statement.{statement}
 use Rattle.spi_session.proofs.put_refused.Tie as tie
 

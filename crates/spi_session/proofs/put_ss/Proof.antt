@@ -3,8 +3,8 @@ use borrow.Author.Needs.{needs}
 use native.Mathlib.Omega.{arith}
 use mathlib.Core.Path.{refl}
 use Rattle.spi_script_rules.specs.Script.{ssText}
-use Rattle.spi_script_rules.specs.Session.{put}
-use Rattle.spi_session.proofs.Texts.{written-case}
+use Rattle.spi_script_rules.specs.Texts.{put}
+use Rattle.spi_script_rules.proofs.Texts.{written-case}
 use Rattle.spi_session.proofs.put_ss.Statement.{statement}
 use Rattle.spi_session.proofs.put_ss.Tie as tie
 

@@ -1,6 +1,6 @@
 -- Two bytes, one behind the other.
 use borrow.Author.Needs.{needs}
-use Rattle.spi_session.proofs.Texts.{written-then}
+use Rattle.spi_script_rules.proofs.Texts.{written-then}
 use Rattle.spi_session.proofs.put_two.Statement.{statement}
 use Rattle.spi_session.proofs.put_two.Tie as tie
 

@@ -1,7 +1,7 @@
 -- Four digits, one behind the other.
 use borrow.Author.Needs.{needs}
 use Rattle.spi_script_rules.specs.Script.{fourHexOf}
-use Rattle.spi_session.proofs.Texts.{written-then}
+use Rattle.spi_script_rules.proofs.Texts.{written-then}
 use Rattle.spi_session.proofs.put_value.Statement.{statement}
 use Rattle.spi_session.proofs.put_value.Tie as tie
 

@@ -4,8 +4,8 @@ use native.Mathlib.Omega.{arith}
 use lib.ListN.{length, length-take}
 use Rattle.spi_script_rules.specs.Script.{mostBytes, readFrom}
 use Rattle.spi_script_rules.proofs.ScriptLines.{reads-all}
-use Rattle.spi_session.proofs.bytes_read.Statement.{statement}
-use Rattle.spi_session.proofs.bytes_read.Tie as tie
+use Rattle.spi_lines.proofs.bytes_read.Statement.{statement}
+use Rattle.spi_lines.proofs.bytes_read.Tie as tie
 
 returns : tie.Need-returns
 returns c = sym (ap length (reads-all _ (c .if1 .taken)))

@@ -1,0 +1,129 @@
+-- The demands on saved sessions of specs/SaveDemands.antt, all of them.
+--     saves-hold      what the buyer signs for, of saved sessions
+--     buffer-length   the buffer stays as long as it is
+-- Assumes nothing.
+use Prim.Native.Nat.{ℕ, _+_, _*_, _≤_}
+use mathlib.Core.Bool.{Bool, true, false, not, _&&_, _||_}
+use mathlib.Core.List.{List, [], _∷_, _++_}
+use mathlib.Core.Path.{_≡_, refl, sym, ap, _∙_}
+use native.Mathlib.Omega.{arith}
+use borrow.Author.Tests.{leb-true}
+use lib.Dec.{leb, ltb}
+use lib.ListN.{length, take, drop, length-append, length-drop}
+use lib.Seq.{take-at, drop-at}
+use Rattle.spi_rules.specs.declared.Module.{Module}
+use Rattle.spi_rules.specs.Choice.{if_then_else_}
+use Rattle.spi_rules.specs.RefusalTable.{row, firstNumber}
+use Rattle.spi_rules.specs.Calls.{poweredUp, afterCalls}
+use Rattle.spi_rules.proofs.Keeps.{if-true, if-false, and-left, and-right, by-test, clash}
+use Rattle.spi_script_rules.specs.Script.{readFrom, linesOf, scriptCalls, scriptEnd}
+use Rattle.spi_trace_rules.specs.declared.Played.the-variants.{Made}
+use Rattle.spi_trace_rules.specs.Trace.{fileCalls, playedOf, isMade, playedModule}
+use Rattle.spi_save_rules.specs.declared.Saved.{Saved}
+use Rattle.spi_save_rules.specs.declared.Saved.the-variants.{NoRoom, Written}
+use Rattle.spi_save_rules.specs.Save.{keptCalls, fileOf, savedFile, fits, savedOf, bufferAfter, savedNumberOf, savedLengthOf}
+use Rattle.spi_save_rules.specs.SaveDemands.{linesKept, fileSize, Kept, Saves}
+use Rattle.spi_save_rules.proofs.SaveExamplesHold.{save-examples-hold}
+use Rattle.spi_save_rules.proofs.SaveFile.{file-length, file-played, file-calls}
+use Rattle.spi_save_rules.proofs.SaveLines.{at-most, same-lines, kept-length, all-kept, kept-ends}
+
+-- The row of the table.
+rows-law : (long narrow : Bool) (n : ℕ) →
+    savedNumberOf (if not long && not narrow then Written n else NoRoom) ≡ firstNumber (row 20 (long || narrow) ∷ [])
+unfolding if_then_else_ savedNumberOf
+rows-law true narrow n = refl
+rows-law false true n = refl
+rows-law false false n = refl
+
+module _ (input : List ℕ) where
+  calls-kept : length (keptCalls input) ≡ linesKept input
+  unfolding keptCalls
+  calls-kept = kept-length (linesOf (readFrom input))
+
+  -- The file's length, in the paper's words.
+  pub saved-length : length (savedFile input) ≡ fileSize input
+  unfolding savedFile
+  saved-length = file-length (keptCalls input) ∙ ap (λ (n : ℕ). 10 + 4 * n) calls-kept
+
+  -- The file is played, makes a call for each line that was kept, and ends where the script does.
+  saved-played : length (savedFile input) ≤ 65535 → playedOf (savedFile input) ≡ Made (linesKept input)
+  unfolding savedFile keptCalls
+  saved-played h = file-played (keptCalls input) (all-kept (linesOf (readFrom input))) h ∙ ap Made calls-kept
+
+  saved-ends : length (savedFile input) ≤ 65535 → (m : Module) → playedModule m (savedFile input) ≡ scriptEnd input
+  unfolding playedModule savedFile keptCalls scriptEnd scriptCalls
+  saved-ends h m =
+      if-true (isMade (playedOf (savedFile input))) _ _ (ap isMade (saved-played h))
+      ∙ ap (afterCalls poweredUp) (file-calls (keptCalls input))
+      ∙ kept-ends (linesOf (readFrom input)) poweredUp
+
+  -- What is answered if it fits, and if not.
+  module _ (room : ℕ) where
+    fits-is : fits (savedFile input) room ≡ (not (ltb 65535 (fileSize input)) && not (ltb room (fileSize input)))
+    unfolding fits
+    fits-is = cc (at-most 65535 (length (savedFile input)), at-most room (length (savedFile input)), saved-length)
+
+    refused-exactly :
+        savedNumberOf (savedOf input room) ≡ firstNumber (row 20 (ltb 65535 (fileSize input) || ltb room (fileSize input)) ∷ [])
+    unfolding savedOf
+    refused-exactly =
+        ap (λ (t : Bool). savedNumberOf (if t then Written (length (savedFile input)) else NoRoom)) fits-is
+        ∙ rows-law (ltb 65535 (fileSize input)) (ltb room (fileSize input)) (length (savedFile input))
+
+    written : fits (savedFile input) room ≡ true → savedOf input room ≡ Written (length (savedFile input))
+    unfolding savedOf
+    written on = if-true (fits (savedFile input) room) _ _ on
+
+    no-room : fits (savedFile input) room ≡ false → savedNumberOf (savedOf input room) ≡ 20
+    unfolding savedOf savedNumberOf
+    no-room off = ap savedNumberOf (if-false (fits (savedFile input) room) _ _ off)
+
+    fitting : savedNumberOf (savedOf input room) ≡ 0 → fits (savedFile input) room ≡ true
+    fitting e = by-test (fits (savedFile input) room) (λ on. on) (λ off. absurd (omega (arith, e, no-room off)))
+
+  -- The buffer.
+  module _ (buffer : List ℕ) where
+    refused-unchanged : savedNumberOf (savedOf input (length buffer)) ≡ 20 → bufferAfter input buffer ≡ buffer
+    unfolding bufferAfter savedNumberOf
+    refused-unchanged e =
+        by-test (fits (savedFile input) (length buffer))
+        (λ on. absurd (omega (arith, e, ap savedNumberOf (written (length buffer) on))))
+        (λ off. if-false (fits (savedFile input) (length buffer)) _ _ off)
+
+    kept : savedNumberOf (savedOf input (length buffer)) ≡ 0 →
+        Kept input (savedLengthOf (savedOf input (length buffer))) buffer (bufferAfter input buffer)
+    unfolding bufferAfter fits savedLengthOf
+    kept e =
+        let f = savedFile input in
+        let on = fitting (length buffer) e in
+        let short = leb-true (length f) 65535 (and-left (leb (length f) 65535) _ on) in
+        let room = leb-true (length f) (length buffer) (and-right (leb (length f) 65535) _ on) in
+        let n : savedLengthOf (savedOf input (length buffer)) ≡ length f = ap savedLengthOf (written (length buffer) on) in
+        let after : bufferAfter input buffer ≡ f ++ drop (length f) buffer = if-true (fits f (length buffer)) _ _ on in
+        let file : take (savedLengthOf (savedOf input (length buffer))) (bufferAfter input buffer) ≡ f =
+        cc (n, after, take-at f (drop (length f) buffer) (length f) refl) in
+        record {
+          size = n ∙ saved-length;
+          plays = ap playedOf file ∙ saved-played short;
+          ends = λ m. ap (playedModule m) file ∙ saved-ends short m;
+          behind = cc (n, after, drop-at f (drop (length f) buffer) (length f) refl);
+          whole = ap length after ∙ omega (arith, length-append f (drop (length f) buffer), length-drop (length f) buffer);
+        }
+
+-- The buffer stays as long as it is.
+pub buffer-length : (input buffer : List ℕ) → length (bufferAfter input buffer) ≡ length buffer
+unfolding savedNumberOf
+buffer-length input buffer =
+    by-test (fits (savedFile input) (length buffer))
+    (λ on. kept input buffer (ap savedNumberOf (written input (length buffer) on)) .whole)
+    (λ off. ap length (refused-unchanged input buffer (no-room input (length buffer) off)))
+
+pub saves-hold : Saves
+saves-hold =
+    record {
+      paperExamples = save-examples-hold;
+      refusedExactly = refused-exactly;
+      refusedUnchanged = refused-unchanged;
+      kept = kept;
+      sameLines = same-lines;
+    }

@@ -1,0 +1,208 @@
+-- The file of some calls is a right trace file that makes them.
+--     records-length four bytes for each call
+--     file-length    and ten before them
+--     file-played    it is played, and counts its calls
+--     file-calls     and makes them in order
+-- Assumes nothing.
+use Prim.Native.Nat.{ℕ, zero, suc, _+_, _*_, _/_, _%_, _≤_, _<_}
+use mathlib.Core.Bool.{Bool, true, false, not, _&&_}
+use mathlib.Core.List.{List, [], _∷_, _++_, append-nil}
+use mathlib.Core.Path.{_≡_, refl, sym, ap, _∙_}
+use native.Mathlib.Omega.{arith}
+use borrow.Author.Tests.{le-ltb}
+use lib.Dec.{leb, ltb}
+use lib.ListN.{length, take, length-append}
+use lib.Seq.{take-at}
+use Rattle.spi_rules.specs.declared.Call.{Call}
+use Rattle.spi_rules.specs.declared.Call.the-variants.{Read, Write, Tick, Pin, Clear}
+use Rattle.spi_rules.specs.Choice.{if_then_else_}
+use Rattle.spi_rules.proofs.Keeps.{if-false, and-left, and-right, and-both}
+use Rattle.spi_trace_rules.specs.declared.Entry.{Entry}
+use Rattle.spi_trace_rules.specs.declared.Played.the-variants.{Made}
+use Rattle.spi_trace_rules.specs.Trace.{byteAt, halfAt, wordAt, sectionCount, tableEnd, startOf, sizeOf, contentsRight, bodyOf, entriesIn, recordsOf as entriesOf, isPlay, wireIn, rightRecord, allRight, sectionsRight, recordsRight, callOf, times, callsBy, callsOf, countBy, countOf, fileCalls, fileCount, playedOf}
+use Rattle.spi_trace_rules.specs.TraceDemands.{Whole}
+use Rattle.spi_trace_rules.proofs.TraceContents.{whole-right}
+use Rattle.spi_save_rules.specs.Save.{keeps, wires, recordOf, recordsOf, fileOf}
+
+-- Every call is one that is kept.
+abbrev pub allKept : List Call → Bool
+allKept [] = true
+allKept (c ∷ cs) = keeps c && allKept cs
+
+-- Bytes.
+
+record-length : (c : Call) → length (recordOf c) ≡ 4
+unfolding recordOf
+record-length (Write register v) = refl
+record-length (Read register) = refl
+record-length (Tick sdi ss) = refl
+record-length (Pin sck sdi ss) = refl
+record-length Clear = refl
+
+pub records-length : (cs : List Call) → length (recordsOf cs) ≡ 4 * length cs
+unfolding recordsOf
+records-length [] = refl
+records-length (c ∷ cs) = omega (arith, length-append (recordOf c) (recordsOf cs), record-length c, records-length cs)
+
+pub file-length : (cs : List Call) → length (fileOf cs) ≡ 10 + 4 * length cs
+unfolding fileOf
+file-length cs = omega (arith, records-length cs, ap length (append-nil (recordsOf cs)))
+
+-- A number of two bytes, and one of four.
+two-bytes : (n : ℕ) → n % 256 + 256 * (n / 256) ≡ n
+two-bytes n = omega arith
+
+four-bytes : (n : ℕ) → n % 65536 % 256 + 256 * (n % 65536 / 256) + 65536 * (n / 65536 % 256 + 256 * (n / 65536 / 256)) ≡ n
+four-bytes n = omega arith
+
+-- The contents.
+module _ (cs : List Call) where
+  size : sizeOf (fileOf cs) 0 ≡ 4 * length cs
+  unfolding sizeOf wordAt halfAt byteAt fileOf
+  size = four-bytes (length (recordsOf cs)) ∙ records-length cs
+
+  contents : length (fileOf cs) ≤ 65535 → contentsRight (fileOf cs) ≡ true
+  unfolding tableEnd sectionCount startOf wordAt halfAt byteAt fileOf
+  contents fits =
+      whole-right (fileOf cs)
+      (record {
+        some = omega arith;
+        most = omega arith;
+        starts = elim [
+          | zero ↦ λ h. refl
+          | suc k ↦ λ h. absurd (omega arith)
+        ];
+        records = elim [
+          | zero ↦ λ h. omega (arith, size)
+          | suc k ↦ λ h. absurd (omega arith)
+        ];
+        ends = omega (arith, size, file-length cs);
+        size = fits;
+      })
+
+-- Records.
+
+-- What stands behind a call's record, as records.
+entries-more : (c : Call) (rest : List ℕ) → entriesIn (recordOf c ++ rest) ≡ entriesIn (recordOf c) ++ entriesIn rest
+unfolding recordOf entriesIn
+entries-more (Write register v) rest = refl
+entries-more (Read register) rest = refl
+entries-more (Tick sdi ss) rest = refl
+entries-more (Pin sck sdi ss) rest = refl
+entries-more Clear rest = refl
+
+-- The record of a call.
+abbrev entryOf : Call → Entry
+entryOf (Write register v) = record { kind = 0; argument = register; value = v }
+entryOf (Read register) = record { kind = 1; argument = register; value = 0 }
+entryOf (Tick sdi ss) = record { kind = 2; argument = wires sdi false ss; value = 0 }
+entryOf (Pin sck sdi ss) = record { kind = 3; argument = wires sdi sck ss; value = 0 }
+entryOf Clear = record { kind = 4; argument = 0; value = 0 }
+
+one-entry : (c : Call) → entriesIn (recordOf c) ≡ entryOf c ∷ []
+unfolding recordOf entriesIn
+one-entry (Write register v) = ap {B = List Entry} (λ value. record { kind = 0; argument = register; value = value } ∷ []) (two-bytes v)
+one-entry (Read register) = refl
+one-entry (Tick sdi ss) = refl
+one-entry (Pin sck sdi ss) = refl
+one-entry Clear = refl
+
+abbrev entries : List Call → List Entry
+entries [] = []
+entries (c ∷ cs) = entryOf c ∷ entries cs
+
+records-entries : (cs : List Call) → entriesIn (recordsOf cs) ≡ entries cs
+unfolding recordsOf entriesIn
+records-entries [] = refl
+records-entries (c ∷ cs) = cc (entries-more c (recordsOf cs), one-entry c, records-entries cs)
+
+section : (cs : List Call) → entriesOf (fileOf cs) 0 ≡ entries cs
+unfolding entriesOf bodyOf startOf wordAt halfAt byteAt fileOf
+section cs =
+    ap entriesIn
+    (take-at (recordsOf cs) [] (sizeOf (fileOf cs) 0) (records-length cs ∙ sym (size cs)))
+    ∙ records-entries cs
+
+-- The levels of the wires, read back from an argument.
+record Levels (argument : ℕ) (sdi sck ss : Bool) : Type 0 where
+  below : ltb argument 8 ≡ true
+  sdi-is : wireIn argument 1 ≡ sdi
+  sck-is : wireIn argument 2 ≡ sck
+  ss-is : wireIn argument 4 ≡ ss
+
+levels : (sdi sck ss : Bool) → Levels (wires sdi sck ss) sdi sck ss
+unfolding wires wireIn if_then_else_
+levels true true true = record { below = refl; sdi-is = refl; sck-is = refl; ss-is = refl }
+levels true true false = record { below = refl; sdi-is = refl; sck-is = refl; ss-is = refl }
+levels true false true = record { below = refl; sdi-is = refl; sck-is = refl; ss-is = refl }
+levels true false false = record { below = refl; sdi-is = refl; sck-is = refl; ss-is = refl }
+levels false true true = record { below = refl; sdi-is = refl; sck-is = refl; ss-is = refl }
+levels false true false = record { below = refl; sdi-is = refl; sck-is = refl; ss-is = refl }
+levels false false true = record { below = refl; sdi-is = refl; sck-is = refl; ss-is = refl }
+levels false false false = record { below = refl; sdi-is = refl; sck-is = refl; ss-is = refl }
+
+-- A record of a call that is kept is right, plays no section, and is that call.
+right : (f : List ℕ) (c : Call) → keeps c ≡ true → rightRecord f 0 (entryOf c) ≡ true
+unfolding rightRecord keeps if_then_else_
+right f (Write register v) k = k
+right f (Read register) k = and-both (leb register 3) _ k refl
+right f (Tick sdi ss) k = let l = levels sdi false ss in cc (l .below, l .sck-is)
+right f (Pin sck sdi ss) k = let l = levels sdi sck ss in cc (l .below)
+right f Clear k = refl
+
+all-right : (f : List ℕ) (cs : List Call) → allKept cs ≡ true → allRight f 0 (entries cs) ≡ true
+unfolding allRight
+all-right f [] k = refl
+all-right f (c ∷ cs) k =
+    and-both (rightRecord f 0 (entryOf c)) _ (right f c (and-left (keeps c) _ k)) (all-right f cs (and-right (keeps c) _ k))
+
+call : (c : Call) → callOf (entryOf c) ≡ c
+unfolding callOf if_then_else_
+call (Write register v) = refl
+call (Read register) = refl
+call (Tick sdi ss) = let l = levels sdi false ss in cc (l .sdi-is, l .ss-is)
+call (Pin sck sdi ss) = let l = levels sdi sck ss in cc (l .sdi-is, l .sck-is, l .ss-is)
+call Clear = refl
+
+no-play : (c : Call) → isPlay (entryOf c) ≡ false
+unfolding isPlay
+no-play (Write register v) = refl
+no-play (Read register) = refl
+no-play (Tick sdi ss) = refl
+no-play (Pin sck sdi ss) = refl
+no-play Clear = refl
+
+calls : (sub : ℕ → List Call) (cs : List Call) → callsBy sub (entries cs) ≡ cs
+unfolding callsBy
+calls sub [] = refl
+calls sub (c ∷ cs) =
+    ap (λ (first : List Call). first ++ callsBy sub (entries cs)) (if-false (isPlay (entryOf c)) _ _ (no-play c))
+    ∙ cc (call c, calls sub cs)
+
+count : (sub : ℕ → ℕ) (cs : List Call) → countBy sub (entries cs) ≡ length cs
+unfolding countBy
+count sub [] = refl
+count sub (c ∷ cs) =
+    ap (λ (first : ℕ). first + countBy sub (entries cs)) (if-false (isPlay (entryOf c)) _ _ (no-play c))
+    ∙ omega (arith, count sub cs)
+
+-- The whole file.
+pub file-calls : (cs : List Call) → fileCalls (fileOf cs) ≡ cs
+unfolding fileCalls callsOf
+file-calls cs = ap (callsBy (callsOf (fileOf cs) 7)) (section cs) ∙ calls (callsOf (fileOf cs) 7) cs
+
+file-count : (cs : List Call) → fileCount (fileOf cs) ≡ length cs
+unfolding fileCount countOf
+file-count cs = ap (countBy (countOf (fileOf cs) 7)) (section cs) ∙ count (countOf (fileOf cs) 7) cs
+
+records : (cs : List Call) → allKept cs ≡ true → recordsRight (fileOf cs) ≡ true
+unfolding recordsRight sectionsRight sectionCount halfAt byteAt fileOf
+records cs k = and-both (allRight (fileOf cs) 0 (entriesOf (fileOf cs) 0)) _ (ap (allRight (fileOf cs) 0) (section cs) ∙ all-right (fileOf cs) cs k) refl
+
+pub file-played : (cs : List Call) → allKept cs ≡ true → length (fileOf cs) ≤ 65535 → playedOf (fileOf cs) ≡ Made (length cs)
+unfolding playedOf
+file-played cs k fits =
+    if-false (not (contentsRight (fileOf cs))) _ _ (ap not (contents cs fits))
+    ∙ if-false (not (recordsRight (fileOf cs))) _ _ (ap not (records cs k))
+    ∙ if-false (ltb 65535 (fileCount (fileOf cs))) _ _ (le-ltb 65535 (fileCount (fileOf cs)) (omega (arith, file-count cs, file-length cs)))
+    ∙ ap Made (file-count cs)
