@@ -1,6 +1,7 @@
 /* Runs every case for the proved library and for plain C in turn, many short
- * rounds, and prints one line for each: its name, the unit, and the best
- * processor time of each side in nanoseconds for a unit, between tabs.
+ * rounds, and then the library's boards beside its own calls. It prints one line
+ * for each: its name, the unit, the best processor time of each side in
+ * nanoseconds for a unit, and what the sides are, between tabs.
  *
  * usage: bench [rounds]
  */
@@ -25,7 +26,22 @@ static const struct {
     {"trace of 16,000 records", "call", 4},
 };
 
-static const struct side *const sides[2] = {&library_side, &plain_side};
+/* Two ways to do the same. */
+struct ways {
+    const char *name, *unit, *side[2];
+    struct outcome (*run[2])(uint32_t times);
+    uint32_t times;
+};
+
+static const struct ways boards[] = {
+    {"busy host, module 3 of 4",
+     "edge",
+     {"board", "own call"},
+     {tick_on_board, tick_alone},
+     2000},
+};
+
+static int rounds;
 
 static double seconds(void)
 {
@@ -35,36 +51,53 @@ static double seconds(void)
     return (double)t.tv_sec + (double)t.tv_nsec / 1e9;
 }
 
+/* Runs both in turn and prints their line: do they differ? */
+static int run(const struct ways *w)
+{
+    struct outcome o[2] = {{0, 0}, {0, 0}};
+    double best[2] = {0, 0};
+    int r, s;
+
+    for (r = 0; r < rounds; r++) {
+        for (s = 0; s < 2; s++) {
+            double took = seconds();
+            o[s] = w->run[s](w->times);
+            took = seconds() - took;
+            if (r == 0 || took < best[s])
+                best[s] = took;
+        }
+        if (o[0].units != o[1].units || o[0].sum != o[1].sum) {
+            fprintf(stderr, "%s: FAILED: %s and %s answer differently\n",
+                    w->name, w->side[0], w->side[1]);
+            return 1;
+        }
+    }
+    printf("%s\t%s\t%.4f\t%.4f\t%s\t%s\n", w->name, w->unit,
+           best[0] * 1e9 / o[0].units, best[1] * 1e9 / o[1].units, w->side[0],
+           w->side[1]);
+    return 0;
+}
+
 int main(int argc, char **argv)
 {
-    int rounds = argc > 1 ? atoi(argv[1]) : 50;
-    int failed = 0, i, r, s;
+    int failed = 0, i;
 
+    rounds = argc > 1 ? atoi(argv[1]) : 50;
     if (rounds < 1)
         rounds = 1;
     for (i = 0; i < CASES; i++) {
-        struct outcome o[2] = {{0, 0}, {0, 0}};
-        double best[2] = {0, 0};
+        struct ways w = {0};
 
-        for (r = 0; r < rounds; r++) {
-            for (s = 0; s < 2; s++) {
-                double took = seconds();
-                o[s] = sides[s]->run[i](cases[i].times);
-                took = seconds() - took;
-                if (r == 0 || took < best[s])
-                    best[s] = took;
-            }
-            if (o[0].units != o[1].units || o[0].sum != o[1].sum)
-                break;
-        }
-        if (r < rounds) {
-            fprintf(stderr, "%s: FAILED: %s and %s answer differently\n",
-                    cases[i].name, sides[0]->name, sides[1]->name);
-            failed = 1;
-            continue;
-        }
-        printf("%s\t%s\t%.4f\t%.4f\n", cases[i].name, cases[i].unit,
-               best[0] * 1e9 / o[0].units, best[1] * 1e9 / o[1].units);
+        w.name = cases[i].name;
+        w.unit = cases[i].unit;
+        w.side[0] = library_side.name;
+        w.side[1] = plain_side.name;
+        w.run[0] = library_side.run[i];
+        w.run[1] = plain_side.run[i];
+        w.times = cases[i].times;
+        failed |= run(&w);
     }
+    for (i = 0; i < (int)(sizeof boards / sizeof boards[0]); i++)
+        failed |= run(&boards[i]);
     return failed;
 }

@@ -31,4 +31,9 @@ struct side {
 
 extern const struct side library_side, plain_side;
 
+/* A tick of a busy host, the last of a board's four modules, through the board
+ * and by the library's own call. */
+struct outcome tick_on_board(uint32_t times);
+struct outcome tick_alone(uint32_t times);
+
 #endif

@@ -1,4 +1,4 @@
-//! A proved model of one dsPIC33/PIC24 SPI module, over the library libthurafeqa.a.
+//! A proved model of one dsPIC33/PIC24 SPI module, and of a board of up to four, over the library libthurafeqa.a.
 //!
 //! Take this file in by `mod thurafeqa;` or `include!`. It needs nothing but `core`, and Rust 1.82 or later. The program
 //! that uses it links the library that `./library` builds for its target: `rustc -L target/lib/x86_64-linux-gnu -l
@@ -58,7 +58,7 @@ pub mod register {
 
 /// The version of this file: major, minor and patch numbers. [`version`] tells the library's.
 #[allow(dead_code)]
-pub const VERSION: (u8, u8, u8) = (4, 2, 0);
+pub const VERSION: (u8, u8, u8) = (4, 3, 0);
 
 /// The format of a module's words. It rises wherever their meaning changes, so save it beside them.
 #[allow(dead_code)]
@@ -78,9 +78,9 @@ struct ClockReport {
 }
 
 // Each takes any module and any numbers, and ends. What else a caller owes, Rust's references bring along: no null, no
-// call on a module while another changes it, and two different modules in a linked run. So all are safe but two, which
-// take slices apart: each pointer must have as many bytes as the length behind it says, and none of them in the module or
-// in the other slice.
+// call on a module while another changes it, and two different modules in a linked run. So all are safe but those that
+// take slices apart: each pointer must have as many bytes or modules as the length behind it says, and none of them in
+// the module or in the other slice.
 unsafe extern "C" {
     safe fn thurafeqa_power_up(m: &mut Module);
     safe fn thurafeqa_read(m: &mut Module, register: u32) -> u32;
@@ -93,6 +93,10 @@ unsafe extern "C" {
     safe fn thurafeqa_clock(m: &Module, rate: u32, report: &mut ClockReport) -> u32;
     unsafe fn thurafeqa_play(m: &mut Module, file: *const u8, length: usize) -> u32;
     unsafe fn thurafeqa_save(script: *const u8, length: usize, file: *mut u8, room: usize) -> u32;
+    unsafe fn thurafeqa_board_call(
+        modules: *mut Module, count: usize, n: u32, kind: u32, x: u32, y: u32, z: u32, report: &mut ClockReport,
+    ) -> u32;
+    unsafe fn thurafeqa_board_linked(modules: *mut Module, count: usize, host: u32, client: u32, limit: u32) -> u32;
     safe fn thurafeqa_version() -> u32;
     safe fn thurafeqa_format() -> u32;
 }
@@ -138,6 +142,10 @@ pub enum Refusal {
     TooManyCalls = 19,
     /// A saved trace does not fit what is lent for it, or would be longer than 65,535 bytes.
     NoRoom = 20,
+    /// A board's list has no module, or more than four.
+    BadList = 21,
+    /// A board has no module with that number, or the same one is named twice in a linked run.
+    NoModule = 22,
 }
 
 impl Refusal {
@@ -147,7 +155,7 @@ impl Refusal {
         #[rustfmt::skip]
         let all = [NoSuchRegister, Disabled, Enabled, TransmitFull, ReceiveEmpty, WrongClock, NoRate, UnreadableLine,
             DifferentModes, TooManyEdges, Undivided, LateSampling, UnselectedCke, Overflowed, BadContents, BadRecord,
-            TooManyCalls, NoRoom];
+            TooManyCalls, NoRoom, BadList, NoModule];
         all.iter().copied().find(|r| *r as u32 == number)
     }
 
@@ -171,6 +179,8 @@ impl Refusal {
             Refusal::BadRecord => "a record of the trace is wrong",
             Refusal::TooManyCalls => "the trace would make more than 65,535 calls",
             Refusal::NoRoom => "the trace does not fit",
+            Refusal::BadList => "a board has one to four modules",
+            Refusal::NoModule => "the board has no such module, or it is named twice",
         }
     }
 }
@@ -383,6 +393,133 @@ impl Default for Module {
     }
 }
 
+/// A board: one to four modules in a list that is lent to it, SPI1 first, with the number 0. Each call names a module by its
+/// number, and is answered as that call on the module alone; no other module changes.
+///
+/// Every call is refused with `BadList` if the list has no module or more than four, then with `NoModule` if there is no module
+/// with that number. Both come before the refusals that the call has on a module alone, and change nothing.
+///
+/// Traces are played and scripts saved on single modules alone.
+#[allow(dead_code)]
+#[derive(Debug)]
+pub struct Board<'a> {
+    modules: &'a mut [Module],
+}
+
+// The kinds of calls on a board.
+const POWER_UP: u32 = 0;
+const READ: u32 = 1;
+const WRITE: u32 = 2;
+const TICK: u32 = 3;
+const PINS: u32 = 4;
+const CLEAR: u32 = 5;
+const CLOCK: u32 = 6;
+const LEVELS: u32 = 7;
+
+#[allow(dead_code)] // a program need not make every call
+impl<'a> Board<'a> {
+    /// A board of these modules, all of which it powers up.
+    ///
+    /// Refused: `BadList`, and the modules are as they were.
+    pub fn new(modules: &'a mut [Module]) -> Result<Board<'a>, Refusal> {
+        let mut board = Board::with(modules);
+        board.power_up(0)?;
+        for n in 1..board.modules.len() as u32 {
+            board.power_up(n)?;
+        }
+        Ok(board)
+    }
+
+    /// A board of these modules as they are. A list of the wrong length is told by each call.
+    pub fn with(modules: &'a mut [Module]) -> Board<'a> {
+        Board { modules }
+    }
+
+    /// The modules.
+    pub fn modules(&self) -> &[Module] {
+        self.modules
+    }
+
+    fn ask(&mut self, n: u32, kind: u32, x: u32, y: u32, z: u32, report: &mut ClockReport) -> u32 {
+        // SAFETY: the pointer and the length are a slice's, which can be changed
+        unsafe { thurafeqa_board_call(self.modules.as_mut_ptr(), self.modules.len(), n, kind, x, y, z, report) }
+    }
+
+    fn call(&mut self, n: u32, kind: u32, x: u32, y: u32, z: u32) -> Result<u16, Refusal> {
+        value(self.ask(n, kind, x, y, z, &mut ClockReport::default()))
+    }
+
+    fn levels(&mut self, n: u32) -> Result<u32, Refusal> {
+        self.call(n, LEVELS, 0, 0, 0).map(u32::from)
+    }
+
+    /// Power-up of one module: disabled, every register 0.
+    pub fn power_up(&mut self, n: u32) -> Result<(), Refusal> {
+        self.call(n, POWER_UP, 0, 0, 0).map(|_| ())
+    }
+
+    /// See [`Module::read`].
+    pub fn read(&mut self, n: u32, register: u32) -> Result<u16, Refusal> {
+        self.call(n, READ, register, 0, 0)
+    }
+
+    /// See [`Module::write`].
+    pub fn write(&mut self, n: u32, register: u32, value: u16) -> Result<(), Refusal> {
+        self.call(n, WRITE, register, value.into(), 0).map(|_| ())
+    }
+
+    /// See [`Module::tick`].
+    pub fn tick(&mut self, n: u32, sdi: bool, ss: bool) -> Result<bool, Refusal> {
+        Ok(self.call(n, TICK, sdi.into(), ss.into(), 0)? != 0)
+    }
+
+    /// See [`Module::pins`].
+    pub fn pins(&mut self, n: u32, sck: bool, sdi: bool, ss: bool) -> Result<(), Refusal> {
+        self.call(n, PINS, sck.into(), sdi.into(), ss.into()).map(|_| ())
+    }
+
+    /// Clears the interrupt flag of one module.
+    pub fn clear(&mut self, n: u32) -> Result<(), Refusal> {
+        self.call(n, CLEAR, 0, 0, 0).map(|_| ())
+    }
+
+    /// The interrupt flag of one module.
+    pub fn interrupt(&mut self, n: u32) -> Result<bool, Refusal> {
+        Ok(self.levels(n)? & 1 != 0)
+    }
+
+    /// See [`Module::sck`].
+    pub fn sck(&mut self, n: u32) -> Result<bool, Refusal> {
+        Ok(self.levels(n)? & 2 != 0)
+    }
+
+    /// The SDO pin of one module.
+    pub fn sdo(&mut self, n: u32) -> Result<Sdo, Refusal> {
+        self.levels(n).map(sdo)
+    }
+
+    /// The SS pin of one module.
+    pub fn ss(&mut self, n: u32) -> Result<Ss, Refusal> {
+        self.levels(n).map(ss)
+    }
+
+    /// See [`Module::clock`].
+    pub fn clock(&mut self, n: u32, rate: u32) -> Result<Clock, Refusal> {
+        let mut report = ClockReport::default();
+        let answer = self.ask(n, CLOCK, rate, 0, 0, &mut report);
+        clock(answer, report)
+    }
+
+    /// A linked run of two modules of the board, which changes those two; see [`Module::linked`]. `NoModule` also if both are
+    /// the same.
+    pub fn linked(&mut self, host: u32, client: u32, limit: u32) -> Result<u16, Refusal> {
+        // SAFETY: the pointer and the length are a slice's, which can be changed
+        let answer =
+            unsafe { thurafeqa_board_linked(self.modules.as_mut_ptr(), self.modules.len(), host, client, limit) };
+        value(answer)
+    }
+}
+
 #[cfg(test)]
 mod thurafeqa_tests {
     use super::*;
@@ -391,15 +528,17 @@ mod thurafeqa_tests {
     fn memory_is_laid_out_as_in_c() {
         assert_eq!([size_of::<Module>(), align_of::<Module>()], [192, 2]);
         assert_eq!([size_of::<ClockReport>(), align_of::<ClockReport>()], [24, 8]);
+        assert_eq!(size_of::<[Module; 4]>(), 4 * 192);
     }
 
     #[test]
     fn numbers_mean_what_the_header_says() {
-        assert_eq!((1..21).filter_map(Refusal::from_number).map(|r| r as u32).sum::<u32>(), 210 - 4 - 12);
-        assert_eq!([0, 4, 12, 21].map(Refusal::from_number), [None; 4]);
+        assert_eq!((1..23).filter_map(Refusal::from_number).map(|r| r as u32).sum::<u32>(), 253 - 4 - 12);
+        assert_eq!([0, 4, 12, 23].map(Refusal::from_number), [None; 4]);
         assert_eq!((value(0), value(0xFFFF), value(0x6_0000)), (Ok(0), Ok(0xFFFF), Err(Refusal::ReceiveEmpty)));
         assert_eq!(value(0x10_0000), Err(Refusal::Overflowed));
         assert_eq!([0x13_0000, 0x14_0000].map(value), [Err(Refusal::TooManyCalls), Err(Refusal::NoRoom)]);
+        assert_eq!([0x15_0000, 0x16_0000].map(value), [Err(Refusal::BadList), Err(Refusal::NoModule)]);
         assert_eq!([3, 7, 8, 11, 12].map(sdo), [Sdo::Undriven, Sdo::Undriven, Sdo::Low, Sdo::Low, Sdo::High]);
         assert_eq!([15, 31, 32, 47, 48].map(ss), [Ss::Undriven, Ss::Undriven, Ss::Low, Ss::Low, Ss::High]);
         let said = |answer| clock(answer, ClockReport { rate: 5e6, bittime: 2e-7, below: 4e7 });

@@ -1,6 +1,6 @@
-/* Thurafeqa: a proved model of one dsPIC33/PIC24 SPI module, for programs in C
- * or C++. Link with libthurafeqa.a, which needs nothing else; ./library builds
- * it for this machine and others:
+/* Thurafeqa: a proved model of one dsPIC33/PIC24 SPI module, and of a board of
+ * up to four, for programs in C or C++. Link with libthurafeqa.a, which needs
+ * nothing else; ./library builds it for this machine and others:
  *
  *     cc -Iinclude program.c target/lib/x86_64-linux-gnu/libthurafeqa.a
  *
@@ -38,11 +38,13 @@
  * Every call takes any module and any argument, and ends. It asks only this:
  * - pointers are not null, and each points to a whole thurafeqa, a whole report
  *   or, in thurafeqa_play and thurafeqa_save, as many bytes as its length says;
+ *   that of a board's list points to as many modules as its count says;
  * - a trace that is played lies outside of the module, and what is lent for a
  *   saved one outside of its script;
  * - the two modules of a linked run are two different objects;
  * - no call runs on a module while another changes it. Calls on different
- *   modules may run at the same time.
+ *   modules may run at the same time, but not through one board: a board's call
+ *   counts as one on all modules of its list.
  *
  * Answers. The upper 16 bits of an answer are the refusal number, 0 if the call
  * was done; the lower 16 bits are what the call tells, 0 if it was refused. A
@@ -64,7 +66,7 @@ extern "C" {
  * must have the same major number, and the library's minor number must not be
  * lower. */
 #define THURAFEQA_VERSION_MAJOR 4u
-#define THURAFEQA_VERSION_MINOR 2u
+#define THURAFEQA_VERSION_MINOR 3u
 #define THURAFEQA_VERSION_PATCH 0u
 #define THURAFEQA_VERSION                                                      \
     (THURAFEQA_VERSION_MAJOR << 16 | THURAFEQA_VERSION_MINOR << 8 |            \
@@ -104,6 +106,8 @@ typedef char thurafeqa_has_192_bytes[sizeof(thurafeqa) == 192 ? 1 : -1];
 #define THURAFEQA_BAD_RECORD 18u      /* trace: a record is wrong */
 #define THURAFEQA_TOO_MANY_CALLS 19u  /* trace: more than 65,535 calls */
 #define THURAFEQA_NO_ROOM 20u         /* a saved trace does not fit */
+#define THURAFEQA_BAD_LIST 21u        /* board: not one to four modules */
+#define THURAFEQA_NO_MODULE 22u       /* board: not there, or named twice */
 
 /* The refusal number of an answer, 0 if the call was done. */
 static inline uint16_t thurafeqa_refusal(uint32_t answer)
@@ -269,6 +273,135 @@ uint32_t thurafeqa_play(thurafeqa *m, const uint8_t *file, size_t length);
  * which 16,381 lines are the most; then all that is lent is as it was. */
 uint32_t thurafeqa_save(const uint8_t *script, size_t length, uint8_t *file,
                         size_t room);
+
+/* A board: one to four modules that lie one behind the other. `modules` points
+ * to the first, SPI1, which has the number 0, and `count` says how many there
+ * are. The list is the caller's, who may also make calls on its modules
+ * directly. thurafeqa_board_start powers all of them up:
+ *
+ *     thurafeqa spi[4];
+ *     thurafeqa_board board;
+ *     thurafeqa_board_start(&board, spi, 4);
+ *
+ * A list that is powered up already needs only the two fields to be set. */
+typedef struct {
+    thurafeqa *modules;
+    size_t count;
+} thurafeqa_board;
+
+/* The calls on a board. Each has the name of the call on one module, with
+ * board_ in it, takes the number of the module, and answers as that call does
+ * on that module alone; no other module changes. Those that are never refused
+ * on a module alone answer here too: levels with the levels as their value, the
+ * others with 0.
+ * Refusals: 21 (the list has no module, or more than four), then 22 (there is no
+ * module with that number; linked: also if both are the same). Both are tested
+ * before all others, and leave every module as it was.
+ * Traces are played and scripts saved on single modules alone.
+ *
+ * Use the functions over thurafeqa_board below. They call two of the library,
+ * which a program need not call itself: thurafeqa_board_linked, and for all
+ * others thurafeqa_board_call. That one takes a kind of call, a kind above 7
+ * counting as 7, and its arguments in their order, those left over having no
+ * effect. Only a clock report that is not refused writes to *report. */
+#define THURAFEQA_BOARD_POWER_UP 0u
+#define THURAFEQA_BOARD_READ 1u   /* register */
+#define THURAFEQA_BOARD_WRITE 2u  /* register, value */
+#define THURAFEQA_BOARD_TICK 3u   /* SDI, SS */
+#define THURAFEQA_BOARD_PINS 4u   /* SCK, SDI, SS */
+#define THURAFEQA_BOARD_CLEAR 5u
+#define THURAFEQA_BOARD_CLOCK 6u  /* rate */
+#define THURAFEQA_BOARD_LEVELS 7u
+uint32_t thurafeqa_board_call(thurafeqa *modules, size_t count, uint32_t n,
+                              uint32_t kind, uint32_t x, uint32_t y, uint32_t z,
+                              thurafeqa_clock_report *report);
+uint32_t thurafeqa_board_linked(thurafeqa *modules, size_t count, uint32_t host,
+                                uint32_t client, uint32_t limit);
+
+/* A call that is no clock report. */
+static inline uint32_t thurafeqa_board_ask(thurafeqa_board *b, uint32_t n,
+                                           uint32_t kind, uint32_t x,
+                                           uint32_t y, uint32_t z)
+{
+    thurafeqa_clock_report unused;
+
+    return thurafeqa_board_call(b->modules, b->count, n, kind, x, y, z,
+                                &unused);
+}
+
+static inline uint32_t thurafeqa_board_power_up(thurafeqa_board *b, uint32_t n)
+{
+    return thurafeqa_board_ask(b, n, THURAFEQA_BOARD_POWER_UP, 0, 0, 0);
+}
+
+static inline uint32_t thurafeqa_board_read(thurafeqa_board *b, uint32_t n,
+                                            uint32_t register_number)
+{
+    return thurafeqa_board_ask(b, n, THURAFEQA_BOARD_READ, register_number, 0,
+                               0);
+}
+
+static inline uint32_t thurafeqa_board_write(thurafeqa_board *b, uint32_t n,
+                                             uint32_t register_number,
+                                             uint32_t value)
+{
+    return thurafeqa_board_ask(b, n, THURAFEQA_BOARD_WRITE, register_number,
+                               value, 0);
+}
+
+static inline uint32_t thurafeqa_board_tick(thurafeqa_board *b, uint32_t n,
+                                            uint32_t sdi, uint32_t ss)
+{
+    return thurafeqa_board_ask(b, n, THURAFEQA_BOARD_TICK, sdi, ss, 0);
+}
+
+static inline uint32_t thurafeqa_board_pins(thurafeqa_board *b, uint32_t n,
+                                            uint32_t sck, uint32_t sdi,
+                                            uint32_t ss)
+{
+    return thurafeqa_board_ask(b, n, THURAFEQA_BOARD_PINS, sck, sdi, ss);
+}
+
+static inline uint32_t thurafeqa_board_clear(thurafeqa_board *b, uint32_t n)
+{
+    return thurafeqa_board_ask(b, n, THURAFEQA_BOARD_CLEAR, 0, 0, 0);
+}
+
+static inline uint32_t thurafeqa_board_levels(thurafeqa_board *b, uint32_t n)
+{
+    return thurafeqa_board_ask(b, n, THURAFEQA_BOARD_LEVELS, 0, 0, 0);
+}
+
+static inline uint32_t thurafeqa_board_clock(thurafeqa_board *b, uint32_t n,
+                                             uint32_t rate,
+                                             thurafeqa_clock_report *report)
+{
+    return thurafeqa_board_call(b->modules, b->count, n, THURAFEQA_BOARD_CLOCK,
+                                rate, 0, 0, report);
+}
+
+/* A linked run of two modules of the board, which changes those two. */
+static inline uint32_t thurafeqa_board_run(thurafeqa_board *b, uint32_t host,
+                                           uint32_t client, uint32_t limit)
+{
+    return thurafeqa_board_linked(b->modules, b->count, host, client, limit);
+}
+
+/* Makes a board of a list and powers all its modules up; what they held before
+ * may be anything.
+ * Refusal: 21, and the modules are as they were. */
+static inline uint32_t thurafeqa_board_start(thurafeqa_board *b,
+                                             thurafeqa *modules, size_t count)
+{
+    uint32_t answer, n = 0;
+
+    b->modules = modules;
+    b->count = count;
+    do
+        answer = thurafeqa_board_power_up(b, n);
+    while (thurafeqa_refusal(answer) == 0 && ++n < count);
+    return answer;
+}
 
 /* The version of the library, in the form of THURAFEQA_VERSION, and the number
  * of the format that it reads and writes. */

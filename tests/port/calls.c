@@ -10,8 +10,8 @@
 
 const char *const kind_name[KINDS] = {"power-up", "read",   "write",
                                       "tick",     "pins",   "clear",
-                                      "linked",   "clock",  "play",
-                                      "save"};
+                                      "linked",   "clock",  "levels",
+                                      "play",     "save"};
 const char *const view_name[VIEWS] = {"STAT", "CON1", "CON2", "BUF", "levels"};
 
 const thurafeqa_clock_report no_report = {-1, -2, -3};
@@ -70,6 +70,123 @@ void fill_lent(uint8_t *lent, size_t room, uint32_t number)
     }
 }
 
+/* ---- boards ---------------------------------------------------------- */
+
+int on_boards(enum kind kind)
+{
+    return kind != PLAY && kind != SAVE;
+}
+
+uint32_t board_kind(enum kind kind)
+{
+    switch (kind) {
+    case POWER_UP: return THURAFEQA_BOARD_POWER_UP;
+    case READ: return THURAFEQA_BOARD_READ;
+    case WRITE: return THURAFEQA_BOARD_WRITE;
+    case TICK: return THURAFEQA_BOARD_TICK;
+    case PINS: return THURAFEQA_BOARD_PINS;
+    case CLEAR: return THURAFEQA_BOARD_CLEAR;
+    case CLOCK: return THURAFEQA_BOARD_CLOCK;
+    default: return THURAFEQA_BOARD_LEVELS;
+    }
+}
+
+void put_on_board(struct call *c, int first, size_t count)
+{
+    static const uint32_t look[] = {8, 9, 255, 256, 0x10000, 0x80000000u,
+                                    0xFFFFFFFFu};
+    static const int arguments[] = {0, 1, 2, 2, 3, 0, 1, 1, 0};
+
+    c->board = 1;
+    c->first = first;
+    c->count = count;
+    c->n = (uint32_t)(c->module - first);
+    c->n_other = (uint32_t)(c->other - first);
+    c->of_kind = board_kind(c->kind);
+    c->direct = one_in(2);
+    if (c->kind == LOOK && c->direct && one_in(2))
+        c->of_kind = look[below(7)];
+    if (c->direct && arguments[c->kind] < 1)
+        c->x = any_number();
+    if (c->direct && arguments[c->kind] < 2)
+        c->y = any_number();
+    if (c->direct && arguments[c->kind] < 3)
+        c->z = any_number();
+}
+
+uint32_t board_refusal(const struct call *c)
+{
+    if (c->count < 1 || c->count > 4)
+        return THURAFEQA_BAD_LIST;
+    if (c->n >= c->count ||
+        (c->kind == LINKED && (c->n_other >= c->count || c->n == c->n_other)))
+        return THURAFEQA_NO_MODULE;
+    return 0;
+}
+
+/* A number that no board has, or this one has not. */
+static uint32_t missing_number(const struct call *c)
+{
+    static const uint32_t far[] = {4,       5,         6,
+                                   255,     256,       0x10000,
+                                   0x10001, 0x1000000, 0x80000000u,
+                                   0xFFFFFFFFu};
+
+    return one_in(2) ? (uint32_t)c->count + below(3) : far[below(10)];
+}
+
+void spoil_numbers(struct call *c, uint32_t of)
+{
+    if (!one_in(of))
+        return;
+    switch (c->kind == LINKED ? below(4) : 0) {
+    case 0: c->n = missing_number(c); break;
+    case 1: c->n_other = missing_number(c); break;
+    case 2: c->n = c->n_other = missing_number(c); break;
+    default:
+        if (one_in(2))
+            c->n_other = c->n;
+        else
+            c->n = c->n_other;
+        break;
+    }
+}
+
+static uint32_t ask_header(thurafeqa_board *b, const struct call *c,
+                           struct outcome *o)
+{
+    switch (c->kind) {
+    case POWER_UP: return thurafeqa_board_power_up(b, c->n);
+    case READ: return thurafeqa_board_read(b, c->n, c->x);
+    case WRITE: return thurafeqa_board_write(b, c->n, c->x, c->y);
+    case TICK: return thurafeqa_board_tick(b, c->n, c->x, c->y);
+    case PINS: return thurafeqa_board_pins(b, c->n, c->x, c->y, c->z);
+    case CLEAR: return thurafeqa_board_clear(b, c->n);
+    case LINKED: return thurafeqa_board_run(b, c->n, c->n_other, c->x);
+    case CLOCK: return thurafeqa_board_clock(b, c->n, c->x, &o->report);
+    default: return thurafeqa_board_levels(b, c->n);
+    }
+}
+
+void ask_board(thurafeqa *list, const struct call *c, struct outcome *o)
+{
+    thurafeqa_board b;
+
+    o->report = no_report;
+    b.modules = list;
+    b.count = c->count;
+    if (!c->direct)
+        o->answer = ask_header(&b, c, o);
+    else if (c->kind == LINKED)
+        o->answer = thurafeqa_board_linked(list, c->count, c->n, c->n_other,
+                                           c->x);
+    else
+        o->answer = thurafeqa_board_call(list, c->count, c->n, c->of_kind,
+                                         c->x, c->y, c->z, &o->report);
+}
+
+/* ---- telling of calls ------------------------------------------------ */
+
 static void print_file(const struct call *c)
 {
     struct call d = *c;
@@ -92,7 +209,11 @@ static void print_file(const struct call *c)
 
 void print_call(const struct call *c)
 {
-    if (concerned(c) > 0)
+    if (c->board)
+        printf("board of %lu from module %d, %s: module %" PRIu32 ": ",
+               (unsigned long)c->count, c->first,
+               c->direct ? "direct" : "header", c->n);
+    else if (concerned(c) > 0)
         printf("module %d: ", c->module);
     printf("%s", kind_name[c->kind]);
     switch (c->kind) {
@@ -104,7 +225,11 @@ void print_call(const struct call *c)
         printf(" %" PRIu32 " %" PRIu32 " %" PRIu32, c->x, c->y, c->z);
         break;
     case LINKED:
-        printf(" with client %d, limit %" PRIu32, c->other, c->x);
+        if (c->board)
+            printf(" with client %" PRIu32, c->n_other);
+        else
+            printf(" with client %d", c->other);
+        printf(", limit %" PRIu32, c->x);
         break;
     case PLAY:
     case SAVE: print_file(c); break;
@@ -126,6 +251,7 @@ void ask_library(thurafeqa *m, thurafeqa *other, const struct call *c,
     case CLEAR: thurafeqa_clear(m); break;
     case LINKED: o->answer = thurafeqa_linked(m, other, c->x); break;
     case CLOCK: o->answer = thurafeqa_clock(m, c->x, &o->report); break;
+    case LOOK: o->answer = thurafeqa_levels(m); break;
     case PLAY: o->answer = thurafeqa_play(m, c->file, c->length); break;
     case SAVE:
         o->answer = thurafeqa_save(c->file, c->length, c->lent, c->room);
@@ -150,7 +276,7 @@ int same_answer(const struct call *c, const struct outcome *a,
 {
     const thurafeqa_clock_report *r = &a->report, *s = &b->report;
 
-    if (a->answer != b->answer || c->kind != CLOCK)
+    if (a->answer != b->answer || (c->kind != CLOCK && !c->board))
         return a->answer == b->answer;
     return memcmp(&r->rate, &s->rate, sizeof r->rate) == 0 &&
            memcmp(&r->bittime, &s->bittime, sizeof r->bittime) == 0 &&

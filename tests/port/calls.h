@@ -16,6 +16,7 @@ enum kind {
     CLEAR,
     LINKED,
     CLOCK,
+    LOOK, /* at the levels */
     PLAY,
     SAVE,
     KINDS
@@ -33,7 +34,33 @@ struct call {
     size_t length;       /* its script, and what is lent; see bring_script */
     uint8_t *lent;
     size_t room;
+    int board;    /* made on a board, whose list has `count` modules from */
+    int first;    /* the module `first` on, and names its modules by these */
+    size_t count; /* numbers there, which need not be right */
+    uint32_t n, n_other;
+    int direct;       /* by the library's own function, which is told this */
+    uint32_t of_kind; /* kind; or else by those of the header */
 };
+
+/* Can a call of this kind be made on a board? All but plays and saves. */
+int on_boards(enum kind kind);
+
+/* What the library's own function takes for a kind; any number above that of
+ * the levels is as good. */
+uint32_t board_kind(enum kind kind);
+
+/* Puts a call on a board of a list of `count` modules from `first` on: its
+ * modules have the numbers that they have there. Arguments that the call does
+ * not have may become any numbers. */
+void put_on_board(struct call *c, int first, size_t count);
+
+/* The refusal that stands before those of the call on a module alone: 21 by the
+ * list's length, then 22 by the numbers; 0 if there is none. */
+uint32_t board_refusal(const struct call *c);
+
+/* Spoils the numbers of a call on a board now and then, in `of` cases once: a
+ * module that is not there, or the same one twice. */
+void spoil_numbers(struct call *c, uint32_t of);
 
 /* The file of a play, made from its number: sets `file` and `length`. It is
  * there until another number's is brought. */
@@ -51,7 +78,7 @@ int concerned(const struct call *c);
 
 /* Refusal numbers are below this. Does any call give that one? Not 4 and 12,
  * which are gone, and not 9, which is of scripts. */
-#define REFUSALS 21
+#define REFUSALS 23
 int is_given(uint32_t number);
 
 /* Of a play also the file, or its beginning, in hexadecimal; of a save the
@@ -67,22 +94,27 @@ extern const char *const view_name[VIEWS];
 
 struct outcome {
     uint32_t answer;
-    thurafeqa_clock_report report; /* of a clock call only */
+    thurafeqa_clock_report report; /* written by a clock call alone */
     uint32_t seen[2][VIEWS];       /* of the module; of the other one */
 };
 
 /* What a report holds before each call; a refused one leaves it so. */
 extern const thurafeqa_clock_report no_report;
 
-/* Makes a call; `seen` is left as it is. */
+/* Makes a call on one module, or of a linked run on two, as if it were not on a
+ * board; `seen` is left as it is. */
 void ask_library(thurafeqa *m, thurafeqa *other, const struct call *c,
                  struct outcome *o);
+
+/* Makes a call on a board with that list. */
+void ask_board(thurafeqa *list, const struct call *c, struct outcome *o);
 
 /* Looks at a module, by reads of three registers, a read of BUF on a copy, and
  * the levels. */
 void see_library(thurafeqa *m, uint32_t seen[VIEWS]);
 
-/* Are the answers the same, the floats bit for bit? */
+/* Are the answers the same, the floats of clock reports bit for bit? On boards
+ * every call is asked for a report. */
 int same_answer(const struct call *c, const struct outcome *a,
                 const struct outcome *b);
 

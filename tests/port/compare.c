@@ -5,7 +5,11 @@
  * or 12. Trace files are played too, right and wrong ones, and calls go on with
  * the module that a play has left. Scripts are saved as trace files: every byte
  * lent must agree, and the library plays the file to the module in which the
- * model ends the script.
+ * model ends the script. In every second sequence most calls are made on
+ * boards: lists of none to six of the modules, which are named by right and by
+ * wrong numbers. After each of these calls every module is looked at: those that
+ * it does not name, and after a refusal all, must be byte for byte as they were,
+ * and only a clock report that is not refused may write one.
  *
  * usage: compare CALLS SEED
  *
@@ -13,6 +17,7 @@
  * was reached, and no costly trace took more than a second. Exit 1: not so; of a
  * difference it prints a short list of calls that shows it from power-up on.
  * Exit 2: bad usage. */
+#include "board.h"
 #include "calls.h"
 #include "ref_spi.h"
 #include "save.h"
@@ -27,8 +32,8 @@
 #include <string.h>
 #include <time.h>
 
-/* Modules 0 and 1 are partners in linked runs, and so are 2 and 3. */
-#define MODULES 4
+/* Modules 0 and 1 are partners in linked runs, and so are 2 and 3, 4 and 5. */
+#define MODULES 6
 
 /* The most calls from one power-up of all modules to the next. */
 #define LONGEST 4000
@@ -40,41 +45,58 @@ static uint32_t as_answer(int number, unsigned value)
     return number > 0 ? (uint32_t)number << 16 : (uint32_t)value;
 }
 
-/* The model's clock report: its refusal number, 0 if it is not refused. */
+/* The model's clock report: what it tells, and its kind. */
+static unsigned as_report(int which, double rate, double bit_time,
+                          thurafeqa_clock_report *r)
+{
+    r->rate = which == 1 ? rate : 0;
+    r->bittime = which == 1 ? bit_time : 0;
+    r->below = which == 2 ? rate : 0;
+    return which == 1   ? THURAFEQA_CLOCK_INTERNAL
+           : which == 2 ? THURAFEQA_CLOCK_EXTERNAL
+                        : THURAFEQA_CLOCK_NONE;
+}
+
+/* Its refusal number, 0 if it is not refused. */
 static int model_report(const struct ref_spi *m, uint32_t f, unsigned *kind,
                         thurafeqa_clock_report *r)
 {
     double rate = 0, bit_time = 0;
     int which = 0, number = ref_clock(m, f, &which, &rate, &bit_time);
 
-    if (number != 0)
-        return number;
-    r->rate = which == 1 ? rate : 0;
-    r->bittime = which == 1 ? bit_time : 0;
-    r->below = which == 2 ? rate : 0;
-    *kind = which == 1   ? THURAFEQA_CLOCK_INTERNAL
-            : which == 2 ? THURAFEQA_CLOCK_EXTERNAL
-                         : THURAFEQA_CLOCK_NONE;
-    return 0;
+    if (number == 0)
+        *kind = as_report(which, rate, bit_time, r);
+    return number;
+}
+
+static uint32_t as_levels(const struct board_levels *seen)
+{
+    uint32_t levels = 0;
+
+    if (seen->flag)
+        levels |= THURAFEQA_LEVELS_INTERRUPT;
+    if (seen->sck)
+        levels |= THURAFEQA_LEVELS_SCK;
+    if (seen->sdo != REF_UNDRIVEN)
+        levels |= THURAFEQA_LEVELS_DRIVEN;
+    if (seen->sdo == 1)
+        levels |= THURAFEQA_LEVELS_SDO;
+    if (seen->ss != REF_UNDRIVEN)
+        levels |= THURAFEQA_LEVELS_SS_DRIVEN;
+    if (seen->ss == 1)
+        levels |= THURAFEQA_LEVELS_SS;
+    return levels;
 }
 
 static uint32_t model_levels(const struct ref_spi *m)
 {
-    uint32_t levels = 0;
+    struct board_levels seen;
 
-    if (ref_flag(m))
-        levels |= THURAFEQA_LEVELS_INTERRUPT;
-    if (ref_sck(m))
-        levels |= THURAFEQA_LEVELS_SCK;
-    if (ref_sdo(m) != REF_UNDRIVEN)
-        levels |= THURAFEQA_LEVELS_DRIVEN;
-    if (ref_sdo(m) == 1)
-        levels |= THURAFEQA_LEVELS_SDO;
-    if (ref_ss(m) != REF_UNDRIVEN)
-        levels |= THURAFEQA_LEVELS_SS_DRIVEN;
-    if (ref_ss(m) == 1)
-        levels |= THURAFEQA_LEVELS_SS;
-    return levels;
+    seen.flag = ref_flag(m);
+    seen.sck = ref_sck(m);
+    seen.sdo = ref_sdo(m);
+    seen.ss = ref_ss(m);
+    return as_levels(&seen);
 }
 
 static void see_model(const struct ref_spi *m, uint32_t seen[VIEWS])
@@ -118,9 +140,50 @@ static void ask_model(struct ref_spi *m, struct ref_spi *other,
     case CLEAR: ref_clear(m); break;
     case LINKED: r = ref_linked(m, other, c->x, &value); break;
     case CLOCK: r = model_report(m, c->x, &value, &o->report); break;
+    case LOOK: value = model_levels(m); break;
     case PLAY: r = trace_play(m, c->file, c->length, &value); break;
     case SAVE: r = model_save(c, &value); break;
     case KINDS: break;
+    }
+    o->answer = as_answer(r, value);
+}
+
+/* The same of a call on a board. */
+static void ask_model_board(struct ref_spi *list, const struct call *c,
+                            struct outcome *o)
+{
+    struct board b = {list, c->count};
+    struct board_levels seen;
+    double rate = 0, bit_time = 0;
+    unsigned value = 0;
+    int r = 0, which = 0;
+
+    o->report = no_report;
+    switch (c->kind) {
+    case POWER_UP: r = board_power_up(&b, c->n); break;
+    case READ: r = board_read(&b, c->n, c->x, &value); break;
+    case WRITE: r = board_write(&b, c->n, c->x, c->y & 0xFFFFu); break;
+    case TICK:
+        r = board_tick(&b, c->n, c->x != 0, c->y != 0);
+        value = r == 0;
+        break;
+    case PINS:
+        r = board_pins(&b, c->n, c->x != 0, c->y != 0, c->z != 0);
+        break;
+    case CLEAR: r = board_clear(&b, c->n); break;
+    case LINKED:
+        r = board_linked(&b, c->n, c->n_other, c->x, &value);
+        break;
+    case CLOCK:
+        r = board_clock(&b, c->n, c->x, &which, &rate, &bit_time);
+        if (r == 0)
+            value = as_report(which, rate, bit_time, &o->report);
+        break;
+    default:
+        r = board_see(&b, c->n, &seen);
+        if (r == 0)
+            value = as_levels(&seen);
+        break;
     }
     o->answer = as_answer(r, value);
 }
@@ -201,6 +264,50 @@ static int save_both(const struct call *c, struct outcome *l,
            memcmp(l->seen[0], m->seen[0], sizeof l->seen[0]) == 0;
 }
 
+/* The first module that changed on one side, though the call did not name it or
+ * was refused; -1 if there is none. */
+static int changed_module;
+
+static int find_changed(const struct sides *was, const struct sides *is,
+                        const struct call *c, uint32_t answer)
+{
+    int i;
+
+    for (i = 0; i < MODULES; i++) {
+        int named = i == c->module || (c->kind == LINKED && i == c->other);
+
+        if (named && thurafeqa_refusal(answer) == 0)
+            continue;
+        if (memcmp(&was->library[i], &is->library[i], sizeof(thurafeqa)) != 0 ||
+            memcmp(&was->model[i], &is->model[i], sizeof(struct ref_spi)) != 0)
+            return i;
+    }
+    return -1;
+}
+
+/* A call on a board, on both sides: do they agree in the answer, in what is seen
+ * of the modules that it names, and in leaving all others as they were? */
+static int board_both(struct sides *s, const struct call *c, struct outcome *l,
+                      struct outcome *m)
+{
+    const int at[2] = {c->module, c->other};
+    static struct sides before;
+    int i, same;
+
+    before = *s;
+    ask_board(&s->library[c->first], c, l);
+    ask_model_board(&s->model[c->first], c, m);
+    changed_module = find_changed(&before, s, c, l->answer);
+    same = same_answer(c, l, m) && changed_module < 0;
+    for (i = 0; i < concerned(c); i++) {
+        see_library(&s->library[at[i]], l->seen[i]);
+        see_model(&s->model[at[i]], m->seen[i]);
+        if (memcmp(l->seen[i], m->seen[i], sizeof l->seen[i]) != 0)
+            same = 0;
+    }
+    return same;
+}
+
 /* Makes a call on both sides: do they agree in the answer, and in what is seen
  * afterwards? */
 static int ask_both(struct sides *s, const struct call *c, struct outcome *l,
@@ -212,6 +319,8 @@ static int ask_both(struct sides *s, const struct call *c, struct outcome *l,
 
     if (c->kind == SAVE)
         return save_both(c, l, m);
+    if (c->board)
+        return board_both(s, c, l, m);
     if (c->kind == PLAY)
         bring_file(&d);
     ask_library(&s->library[c->module], &s->library[c->other], &d, l);
@@ -316,7 +425,9 @@ static void print_differences(const struct call *c, const struct outcome *l,
 {
     int i;
 
-    if (c->kind == CLOCK && l->answer == m->answer && !same_answer(c, l, m)) {
+    if (c->board && changed_module >= 0)
+        printf("    module %d changed, and should not have\n", changed_module);
+    if (l->answer == m->answer && !same_answer(c, l, m)) {
         print_report("library", &l->report);
         print_report("model", &m->report);
     } else if (!same_answer(c, l, m)) {
@@ -431,6 +542,17 @@ static struct {
     unsigned long no_lf, cut, empty_file, full_file, exact, more, wide;
     unsigned long one_short, none_lent, past_limit;
     unsigned long end_enabled, end_unread, end_marked, end_flag;
+    /* boards: calls that came to a module, by kind, the list's length and the
+     * module's number; linked runs that were done, by both numbers; through
+     * the header and direct; levels by a kind above theirs */
+    unsigned long board[LOOK + 1][5][4], board_linked[4][4], direct[2];
+    unsigned long far_kind;
+    /* 21 and 22, by kind; 21 by the list's length, and where 22 stands behind
+     * it; 22 for the host, the client and both, and for the same one twice; and
+     * which of the refusals of a module alone stand behind them */
+    unsigned long board_refused[2][LOOK + 1], bad_list[MODULES + 1];
+    unsigned long bad_list_too, no_module[3], twice;
+    unsigned long behind[2][REFUSALS];
 } reached;
 
 static enum role role_of(const struct ref_spi *m)
@@ -769,6 +891,71 @@ static void count_save(const struct call *c, const struct outcome *o)
     reached.end_flag += (unsigned long)m.flag;
 }
 
+/* Which refusal stands behind 21 or 22, as far as that can be told: the limit, a
+ * register or a rate are wrong on any module; a tick, a pin call or a linked run
+ * by a module that is there in memory. */
+static uint32_t refusal_behind(const struct call *c, const struct ref_spi *pool)
+{
+    int there = c->n < c->count, other = c->n_other < c->count;
+    const struct ref_spi *m = &pool[there ? c->first + (int)c->n : 0];
+    const struct ref_spi *o = &pool[other ? c->first + (int)c->n_other : 0];
+
+    switch (c->kind) {
+    case READ:
+    case WRITE: return c->x > THURAFEQA_BUF ? THURAFEQA_NO_SUCH_REGISTER : 0;
+    case CLOCK: return c->x == 0 ? THURAFEQA_NO_RATE : 0;
+    case TICK:
+    case PINS:
+        if (!there)
+            return 0;
+        if (!m->spien)
+            return THURAFEQA_DISABLED;
+        return (role_of(m) == OWN_CLOCK) == (c->kind == TICK)
+                   ? 0
+                   : THURAFEQA_WRONG_CLOCK;
+    case LINKED:
+        if (c->x > 288)
+            return THURAFEQA_TOO_MANY_EDGES;
+        if ((there && !m->spien) || (other && !o->spien))
+            return THURAFEQA_DISABLED;
+        return (there && role_of(m) != OWN_CLOCK) || (other && o->msten)
+                   ? THURAFEQA_WRONG_CLOCK
+                   : 0;
+    default: return 0;
+    }
+}
+
+/* A call on a board that was refused as one. */
+static void count_refused_board(const struct call *c, uint32_t number,
+                                const struct ref_spi *pool)
+{
+    int bad = number == THURAFEQA_BAD_LIST;
+    int there = c->n < c->count;
+    int other = c->kind != LINKED || c->n_other < c->count;
+    int same = c->kind == LINKED && c->n == c->n_other;
+
+    reached.board_refused[!bad][c->kind]++;
+    reached.behind[!bad][refusal_behind(c, pool)]++;
+    if (bad) {
+        reached.bad_list[c->count]++;
+        reached.bad_list_too += !there || !other || same;
+    } else if (there && other) {
+        reached.twice++;
+    } else {
+        reached.no_module[there ? 1 : other ? 0 : 2]++;
+    }
+}
+
+static void count_board(const struct call *c, uint32_t number)
+{
+    reached.direct[c->direct]++;
+    reached.far_kind += c->kind == LOOK && c->direct &&
+                        c->of_kind > THURAFEQA_BOARD_LEVELS;
+    reached.board[c->kind][c->count][c->n]++;
+    if (c->kind == LINKED && number == 0)
+        reached.board_linked[c->n][c->n_other]++;
+}
+
 static void count(const struct call *c, const struct outcome *o,
                   const struct ref_spi *before, const struct ref_spi *pool)
 {
@@ -777,6 +964,13 @@ static void count(const struct call *c, const struct outcome *o,
     unsigned edges = thurafeqa_value(o->answer);
 
     reached.kinds[c->kind]++;
+    if (number == THURAFEQA_BAD_LIST || number == THURAFEQA_NO_MODULE) {
+        count_refused_board(c, number, pool);
+        reached.refused[number]++;
+        return;
+    }
+    if (c->board)
+        count_board(c, number);
     if (c->kind == PLAY || c->kind == SAVE) {
         if (c->kind == PLAY) /* its calls are not counted one by one */
             count_trace(c, &before[0], m);
@@ -1037,6 +1231,55 @@ static void print_saves(void)
     print_count("with its flag up", reached.end_flag);
 }
 
+static void print_boards(void)
+{
+    static const uint32_t behind[] = {
+        THURAFEQA_NO_SUCH_REGISTER, THURAFEQA_DISABLED, THURAFEQA_WRONG_CLOCK,
+        THURAFEQA_NO_RATE, THURAFEQA_TOO_MANY_EDGES};
+    int k, n, o;
+
+    printf("\non boards, by their modules and the one named:");
+    for (k = 0; k <= LOOK; k++) {
+        printf("\n  %-8s", kind_name[k]);
+        for (n = k == LINKED ? 2 : 1; n <= 4; n++) {
+            printf("%s", n > 1 ? "," : "");
+            for (o = 0; o < n; o++)
+                print_count("", reached.board[k][n][o]);
+        }
+    }
+    printf("\nlinked runs done on boards, by host and client:");
+    for (n = 0; n < 4; n++) {
+        for (o = 0; o < 4; o++) {
+            if (n != o)
+                print_count("", reached.board_linked[n][o]);
+        }
+    }
+    printf("\ncalls on boards:");
+    print_count("through the header", reached.direct[0]);
+    print_count("direct", reached.direct[1]);
+    print_count("levels by a kind above 7", reached.far_kind);
+    for (o = 0; o < 2; o++) {
+        printf("\nrefused with %d:", (int)THURAFEQA_BAD_LIST + o);
+        for (k = 0; k <= LOOK; k++)
+            print_count(kind_name[k], reached.board_refused[o][k]);
+        printf("\n  before");
+        for (k = 0; k < 5; k++)
+            print_numbered("", (int)behind[k], reached.behind[o][behind[k]]);
+        if (o == 0)
+            print_numbered("", (int)THURAFEQA_NO_MODULE, reached.bad_list_too);
+    }
+    printf("\nlists of");
+    for (n = 0; n <= MODULES; n++) {
+        if (n < 1 || n > 4)
+            print_numbered("", n, reached.bad_list[n]);
+    }
+    printf("\nno such module:");
+    print_count("named, or the host", reached.no_module[0]);
+    print_count("the client", reached.no_module[1]);
+    print_count("both", reached.no_module[2]);
+    print_count("the same one twice", reached.twice);
+}
+
 static void print_reached(void)
 {
     int i;
@@ -1073,6 +1316,7 @@ static void print_reached(void)
     print_framed();
     print_traces();
     print_saves();
+    print_boards();
     printf("\n%-40s %9s %9s %9s %9s\n", "words finished, by CKE and CKP:",
            "0 0", "0 1", "1 0", "1 1");
     for (i = 0; i < 4 * ROLES; i++)
@@ -1090,6 +1334,35 @@ static struct sides now;
 static struct call sequence[LONGEST]; /* since power-up of all modules */
 static int length;
 static uint64_t noise;
+static int boarding;       /* most calls of this sequence are made on boards, */
+static uint32_t right = 30; /* and one in so many names wrong modules */
+
+/* Puts a call on a board, most often one that has its modules. */
+static void choose_board(struct call *c)
+{
+    int low = c->module, high = c->module, first, count;
+
+    if (c->kind == LINKED) {
+        low = c->other < low ? c->other : low;
+        high = c->other > high ? c->other : high;
+    }
+    if (high - low > 3 || one_in(right)) { /* a list that is too long */
+        count = 5 + (int)below(2);
+        first = (int)below((uint32_t)(MODULES - count + 1));
+    } else if (one_in(2 * right)) {
+        count = 0;
+        first = low;
+    } else {
+        int least = high > 3 ? high - 3 : 0;
+
+        first = least + (int)below((uint32_t)(low - least + 1));
+        count = high - first + 1;
+        while (count < 4 && first + count < MODULES && one_in(2))
+            count++;
+    }
+    put_on_board(c, first, (size_t)count);
+    spoil_numbers(c, right);
+}
 
 /* Makes a call on both sides and holds them to each other. Once the sequence is
  * as long as it may be, or all calls are made, nothing more happens. */
@@ -1108,6 +1381,8 @@ static void make(enum kind kind, int module, int other, uint32_t x, uint32_t y,
     c.x = x;
     c.y = y;
     c.z = z;
+    if (boarding && on_boards(kind) && !one_in(10))
+        choose_board(&c);
     sequence[length++] = c;
     made++;
     before[0] = now.model[module];
@@ -1136,6 +1411,7 @@ static void make(enum kind kind, int module, int other, uint32_t x, uint32_t y,
 static void power_up(int i) { make(POWER_UP, i, i, 0, 0, 0); }
 static void play_trace(int i) { make(PLAY, i, i, any_number(), 0, 0); }
 static void clear(int i) { make(CLEAR, i, i, 0, 0, 0); }
+static void look(int i) { make(LOOK, i, i, 0, 0, 0); }
 static void clock_report(int i, uint32_t f) { make(CLOCK, i, i, f, 0, 0); }
 static void read_register(int i, uint32_t n) { make(READ, i, i, n, 0, 0); }
 
@@ -1257,19 +1533,25 @@ static void set_up_alone(int i)
            some_con2(below(5) < 2));
 }
 
-/* Partners that can be linked, but for a mode now and then. */
-static void set_up_partners(int i)
+/* Two that can be linked, but for a mode now and then. */
+static void set_up_two(int host, int client)
 {
     uint32_t modes = some_modes();
     uint32_t other = modes;
-    int host = i ^ (int)below(2);
     enum role role = one_in(2) || (modes & THURAFEQA_CON1_CKE) ? SSEN_CLIENT
                                                                : CLIENT;
 
     if (one_in(12))
         other ^= some_modes();
     set_up(host, some_con1(OWN_CLOCK, modes), some_con2(one_in(20)));
-    set_up(host ^ 1, some_con1(role, other), some_con2(one_in(20)));
+    set_up(client, some_con1(role, other), some_con2(one_in(20)));
+}
+
+static void set_up_partners(int i)
+{
+    int host = i ^ (int)below(2);
+
+    set_up_two(host, host ^ 1);
 }
 
 /* ---- random acts on an enabled module -------------------------------- */
@@ -1423,9 +1705,10 @@ static void write_setting(int i)
 /* Any call, sensible or not. */
 static void do_anything(int i)
 {
-    switch (below(8)) {
+    switch (below(9)) {
     case 0: clock_report(i, some_rate(&now.model[i])); break;
     case 1: read_register(i, some_register()); break;
+    case 7: look(i); break;
     case 2: write_register(i, some_register(), any_number()); break;
     case 3: tick(i, (int)below(2)); break;
     case 4: pins(i, (int)below(2), (int)below(2)); break;
@@ -1505,6 +1788,45 @@ static void act(int i, size_t mood)
         act_marked(i);
 }
 
+/* Calls of every kind on boards, of which many are wrong ones, on modules as
+ * they are; then a linked run between any two that a board can have. */
+static void try_boards(void)
+{
+    uint32_t n = 4 + below(16);
+    int host = (int)below(MODULES), client;
+
+    right = 4;
+    while (n-- > 0) {
+        int i = (int)below(MODULES);
+
+        switch (below(5)) {
+        case 0: look(i); break;
+        case 1:
+            clock_report(i, one_in(2) ? 0 : some_rate(&now.model[i]));
+            break;
+        case 2:
+            make(LINKED, i, (i + 1 + (int)below(MODULES - 1)) % MODULES,
+                 some_limit(), 0, 0);
+            break;
+        case 3:
+            if (one_in(6))
+                power_up(i);
+            else
+                clear(i);
+            break;
+        default: do_anything(i); break;
+        }
+    }
+    right = 30;
+    do
+        client = (int)below(MODULES);
+    while (client == host || abs(client - host) > 3);
+    set_up_two(host, client);
+    write_words(host);
+    write_words(client);
+    make(LINKED, host, client, some_limit(), 0, 0);
+}
+
 /* Some traces, one after the other. The last that is not refused leaves the
  * module for what comes. Then some scripts are saved. */
 static void play_traces(int i)
@@ -1525,6 +1847,7 @@ static void run_sequence(void)
     int i;
 
     length = 0;
+    boarding = one_in(2);
     noise = ((uint64_t)any_number() << 32 | any_number()) | 1;
     power_up_all(&now, noise);
     for (i = 0; i < MODULES; i++)
@@ -1535,6 +1858,8 @@ static void run_sequence(void)
         size_t mood = below(MOODS);
 
         play_traces(module);
+        if (boarding && one_in(2))
+            try_boards();
         if (linked && one_in(2))
             set_up_partners(module);
         else if (!one_in(4))

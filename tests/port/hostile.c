@@ -26,7 +26,14 @@
  *   behind the file are as they were, the second model's check finds nothing
  *   wrong with the file, and it is played to what the script's calls show, made
  *   one by one. What is lent has a page that cannot be touched on one side and
- *   guards on the other, which are untouched.
+ *   guards on the other, which are untouched;
+ * - a call on a board, a list of none to six modules of any memory, is refused
+ *   with 21 exactly by the list's length, then with 22 exactly by the numbers,
+ *   else as the table says of the modules that it names. These show afterwards
+ *   what they show where the third copy has the call made on the module alone,
+ *   and all others hold the same memory as before. Modules that lie beside the
+ *   list are guards. A list of more than four is not touched at all, and nothing
+ *   but a clock report that is not refused writes one.
  * Exit 0: all held. Exit 1: something did not, or a refusal was not reached.
  * Exit 2: bad usage. */
 #define _DEFAULT_SOURCE
@@ -77,20 +84,21 @@ static void on_signal(int number)
 /* Large enough for every page size. */
 #define FENCE 65536u
 
-/* Numbers on either side of a module. */
+#define NUMBERS (sizeof(thurafeqa) / sizeof(uint16_t))
+#define AREA (FENCE / sizeof(uint16_t))
+
+/* Numbers on either side of a module, and of a board's list: a module's. */
 #define GUARDS 24u
+#define BOARD_GUARDS NUMBERS
 #define GUARD 0xA5C3u
 
 struct place {
     uint16_t *area;         /* FENCE bytes; before and behind: no access */
-    size_t at;              /* where in it the module begins */
-    uint16_t *first, *last; /* the guards: first up to the module, and from */
-                            /* behind it up to last */
+    size_t at, numbers;     /* where in it the modules begin, and their size */
+    uint16_t *first, *last; /* the guards: first up to the modules, and from */
+                            /* behind them up to last */
     thurafeqa *m;
 };
-
-#define NUMBERS (sizeof(thurafeqa) / sizeof(uint16_t))
-#define AREA (FENCE / sizeof(uint16_t))
 
 static void *new_area(size_t bytes)
 {
@@ -111,17 +119,17 @@ static void *new_area(size_t bytes)
     return p;
 }
 
-/* Puts a module near one fence or the other, most often right beside it. */
-static void move(struct place *p)
+/* Puts some modules near one fence or the other, most often right beside it. */
+static void move(struct place *p, size_t modules, size_t guards)
 {
-    size_t gap = one_in(2) ? 0 : below(GUARDS);
+    size_t gap = one_in(2) ? 0 : below((uint32_t)guards);
+    size_t n = p->numbers = modules * NUMBERS;
     uint16_t *g;
 
-    p->at = one_in(2) ? gap : AREA - NUMBERS - gap;
-    p->first = p->area + (p->at < GUARDS ? 0 : p->at - GUARDS);
-    p->last = p->area + (p->at + NUMBERS + GUARDS > AREA
-                             ? AREA
-                             : p->at + NUMBERS + GUARDS);
+    p->at = one_in(2) ? gap : AREA - n - gap;
+    p->first = p->area + (p->at < guards ? 0 : p->at - guards);
+    p->last = p->area + (p->at + n + guards > AREA ? AREA
+                                                   : p->at + n + guards);
     p->m = (thurafeqa *)(void *)(p->area + p->at);
     for (g = p->first; g < p->last; g++)
         *g = GUARD;
@@ -136,7 +144,7 @@ static int guarded(const struct place *p)
         if (*g != GUARD)
             return 0;
     }
-    for (g = m + NUMBERS; g < p->last; g++) {
+    for (g = m + p->numbers; g < p->last; g++) {
         if (*g != GUARD)
             return 0;
     }
@@ -520,6 +528,8 @@ static uint32_t linked_refusal(const struct call *c, const uint32_t *host,
 static uint32_t table_refusal(const struct call *c,
                               uint32_t seen[2][VIEWS])
 {
+    if (c->board && board_refusal(c) != 0)
+        return board_refusal(c);
     switch (c->kind) {
     case READ:
     case WRITE: return register_refusal(c, seen[0]);
@@ -545,6 +555,8 @@ static uint32_t table_refusal(const struct call *c,
  * be answered as if they were not. */
 static int may_be_undivided(const struct call *c, uint32_t seen[2][VIEWS])
 {
+    if (c->board && board_refusal(c) != 0)
+        return 0;
     return enabling(c, seen[0]) && undivided(seen[0]);
 }
 
@@ -607,11 +619,20 @@ static void hold_answer(const struct call *c, const struct outcome *o,
     hold(number == table_refusal(c, seen) ||
              (number == THURAFEQA_UNDIVIDED && may_be_undivided(c, seen)),
          "not the refusal that the table asks for");
-    if (c->kind == READ && c->x == THURAFEQA_BUF)
-        hold(o->answer == seen[0][BUF], "a copy answered BUF otherwise");
     if (c->kind == CLOCK)
         hold_report(c, o, seen[0]);
-    if (number != 0)
+    else if (c->board)
+        hold(memcmp(&o->report, &no_report, sizeof no_report) == 0,
+             "a call that is no clock report wrote one");
+    if (number == THURAFEQA_BAD_LIST || number == THURAFEQA_NO_MODULE) {
+        hold(value == 0, "a refused call tells a value");
+        return;
+    }
+    if (c->kind == READ && c->x == THURAFEQA_BUF)
+        hold(o->answer == seen[0][BUF], "a copy answered BUF otherwise");
+    if (c->kind == LOOK)
+        hold(o->answer == seen[0][LEVELS], "a look at the levels is another");
+    else if (number != 0)
         hold(value == 0, "a refused call tells a value");
     else if (c->kind == TICK && framed(seen[0]))
         hold(value == 1, "a framed host's tick made no edge");
@@ -703,7 +724,7 @@ static void hold_copies(void)
 static int no_effect(const struct call *c, const struct outcome *o)
 {
     if (thurafeqa_refusal(o->answer) != 0 || c->kind == CLOCK ||
-        c->kind == SAVE)
+        c->kind == LOOK || c->kind == SAVE)
         return 1;
     if (c->kind == READ)
         return c->x != THURAFEQA_BUF;
@@ -826,8 +847,9 @@ static void run_memory(void)
     uint32_t n = 1 + below(clocking ? 90 : 30);
     int i;
 
+    memset(&now, 0, sizeof now);
     for (i = 0; i < 4; i++)
-        move(&copies[i / 2][i % 2]);
+        move(&copies[i / 2][i % 2], 1, GUARDS);
     fill_both(third);
     for (i = 0; i < 2; i++)
         *copies[0][i].m = *copies[1][i].m = third[i];
@@ -840,6 +862,190 @@ static void run_memory(void)
             choose_edge();
         make();
     }
+}
+
+/* ---- boards ---------------------------------------------------------- */
+
+#define LIST 6 /* the longest list that is there */
+
+/* Two copies of the list; and each module alone, which is spared the calls that
+ * have no effect. */
+static struct place lists[2];
+static thurafeqa alone[LIST];
+static uint32_t list_seen[LIST][VIEWS];
+
+static unsigned long board_done[LOOK + 1], board_refused[2][LOOK + 1];
+static unsigned long list_lengths[LIST + 1];
+
+static void see_list(uint32_t shown[LIST][VIEWS])
+{
+    size_t i;
+
+    for (i = 0; i < now.count; i++) {
+        thurafeqa copy = lists[0].m[i];
+        see_library(&copy, shown[i]);
+    }
+}
+
+/* Is that module of the list one that the call names, and may change? */
+static int may_change(size_t i, int spared)
+{
+    return !spared && (i == now.n || (now.kind == LINKED && i == now.n_other));
+}
+
+static void hold_list(const thurafeqa *before, int spared)
+{
+    uint32_t after[LIST][VIEWS], shown[VIEWS];
+    size_t i;
+
+    see_list(after);
+    for (i = 0; i < now.count; i++) {
+        hold_views(after[i]);
+        if (!may_change(i, spared)) {
+            hold(memcmp(&before[i], &lists[0].m[i], sizeof before[i]) == 0,
+                 "a module changed that should not have");
+            continue;
+        }
+        hold_mark(&now, list_seen[i], after[i], &lists[0].m[i]);
+        see_library(&alone[i], shown);
+        hold(memcmp(after[i], shown, sizeof shown) == 0,
+             "a module shows other things than alone");
+    }
+    memcpy(list_seen, after, sizeof after);
+}
+
+/* Makes the call `now` on both copies, and on the modules alone if it has an
+ * effect. */
+static void make_on_board(void)
+{
+    thurafeqa before[LIST];
+    uint32_t shown[2][VIEWS] = {{0}};
+    struct outcome o[3];
+    uint32_t number;
+    int i, spared;
+
+    made++;
+    memcpy(before, lists[0].m, now.count * sizeof before[0]);
+    if (now.n < now.count)
+        memcpy(shown[0], list_seen[now.n], sizeof shown[0]);
+    if (now.n_other < now.count)
+        memcpy(shown[1], list_seen[now.n_other], sizeof shown[1]);
+    for (i = 0; i < 2; i++)
+        ask_board(lists[i].m, &now, &o[i]);
+    hold(same_answer(&now, &o[0], &o[1]), "two copies were answered otherwise");
+    hold(memcmp(lists[0].m, lists[1].m, now.count * sizeof before[0]) == 0,
+         "the same call left two copies different");
+    hold(guarded(&lists[0]) && guarded(&lists[1]),
+         "a number beside the list was changed");
+    hold_answer(&now, &o[0], shown);
+    number = thurafeqa_refusal(o[0].answer);
+    spared = no_effect(&now, &o[0]);
+    if (!spared) {
+        ask_library(&alone[now.n], &alone[now.kind == LINKED ? now.n_other : 0],
+                    &now, &o[2]);
+        hold(o[0].answer == o[2].answer, "the module alone answers otherwise");
+    }
+    hold_list(before, spared);
+    if (number == THURAFEQA_BAD_LIST || number == THURAFEQA_NO_MODULE)
+        board_refused[number - THURAFEQA_BAD_LIST][now.kind]++;
+    else
+        board_done[now.kind]++;
+    if (number != 0)
+        refused[number]++;
+    else
+        done[now.kind]++;
+}
+
+/* A call on the board; it names modules that are there more often than not. */
+static void choose_on_board(int clocking)
+{
+    size_t count = now.count;
+    uint32_t n = below(count > 0 ? (uint32_t)count : 1);
+
+    memcpy(seen[0], list_seen[n], sizeof seen[0]);
+    do
+        choose();
+    while (!on_boards(now.kind));
+    if (clocking && count > 0 && enabled(seen[0]) && !one_in(4))
+        choose_edge();
+    now.module = (int)n;
+    now.other = (int)below(count > 0 ? (uint32_t)count : 1);
+    put_on_board(&now, 0, count);
+    spoil_numbers(&now, 8);
+}
+
+/* New memory for a list, and some calls on it. */
+static void run_board(void)
+{
+    int clocking = one_in(4);
+    uint32_t n = 1 + below(clocking ? 90 : 30);
+    size_t count = one_in(4) ? below(LIST + 1) : 1 + below(4), i;
+
+    memset(&now, 0, sizeof now);
+    now.count = count;
+    for (i = 0; i < 2; i++)
+        move(&lists[i], count, BOARD_GUARDS);
+    for (i = 0; i < LIST; i += 2)
+        fill_both(&alone[i]);
+    for (i = 0; i < 2; i++)
+        memcpy(lists[i].m, alone, count * sizeof alone[0]);
+    see_list(list_seen);
+    list_lengths[count]++;
+    while (n-- > 0 && made < wanted) {
+        choose_on_board(clocking);
+        make_on_board();
+    }
+}
+
+/* Lists that are too long, in memory that cannot be touched. */
+static void long_lists(void)
+{
+    static const size_t length[] = {0, 5, 256, 258, 65536, 65537, 65540};
+    size_t bytes = 65540 * sizeof(thurafeqa), i;
+    thurafeqa *list = mmap(0, bytes, PROT_NONE, MAP_PRIVATE | MAP_ANONYMOUS,
+                           -1, 0);
+    struct outcome o;
+    int kind;
+
+    hold(list != MAP_FAILED, "mmap");
+    for (i = 0; i < sizeof length / sizeof length[0]; i++) {
+        for (kind = POWER_UP; kind <= LOOK; kind++) {
+            memset(&now, 0, sizeof now);
+            now.kind = (enum kind)kind;
+            now.other = 1;
+            put_on_board(&now, 0, length[i]);
+            ask_board(list, &now, &o);
+            hold(o.answer == THURAFEQA_BAD_LIST << 16,
+                 "a list of the wrong length was not refused");
+            hold(memcmp(&o.report, &no_report, sizeof no_report) == 0,
+                 "a refused call wrote a clock report");
+        }
+    }
+    munmap(list, bytes);
+}
+
+static int print_boards(void)
+{
+    int missing = 0, i, w;
+
+    printf("\non boards:");
+    for (i = 0; i <= LOOK; i++) {
+        printf(" %s %lu", kind_name[i], board_done[i]);
+        missing += board_done[i] == 0;
+    }
+    for (w = 0; w < 2; w++) {
+        printf("\nrefused with %d:", (int)THURAFEQA_BAD_LIST + w);
+        for (i = 0; i <= LOOK; i++) {
+            printf(" %s %lu", kind_name[i], board_refused[w][i]);
+            missing += board_refused[w][i] == 0;
+        }
+    }
+    printf("\nlists:");
+    for (i = 0; i <= LIST; i++) {
+        printf(" of %d: %lu", i, list_lengths[i]);
+        missing += list_lengths[i] == 0;
+    }
+    return missing;
 }
 
 int main(int argc, char **argv)
@@ -863,9 +1069,15 @@ int main(int argc, char **argv)
     for (i = 0; i < 2; i++) {
         file_area[i] = new_area(SOME_TRACE_BYTES);
         lent_area[i] = new_area(LENT_AREA);
+        lists[i].area = new_area(FENCE);
     }
-    while (made < wanted)
-        run_memory();
+    long_lists();
+    while (made < wanted) {
+        if (one_in(3))
+            run_board();
+        else
+            run_memory();
+    }
     printf("done:");
     for (i = 0; i < KINDS; i++) {
         printf(" %s %lu", kind_name[i], done[i]);
@@ -886,6 +1098,7 @@ int main(int argc, char **argv)
            "buffer %lu",
            saved_empty, saved_cut, refused_limit);
     missing += (saved_empty == 0) + (saved_cut == 0) + (refused_limit == 0);
+    missing += print_boards();
     printf("\n%lu hostile calls, each made twice, all held%s\n", made,
            missing ? ", but not every case was reached" : "");
     return missing != 0;

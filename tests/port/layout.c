@@ -14,13 +14,18 @@ HOLDS(sizeof(thurafeqa) == 96 * 2);
 HOLDS(_Alignof(thurafeqa) == 2);
 HOLDS(offsetof(thurafeqa, memory) == 0);
 
+/* A board's list has nothing between its modules. */
+HOLDS(sizeof(thurafeqa[4]) == 4 * 192);
+HOLDS(sizeof *((thurafeqa_board *)0)->modules == 192);
+HOLDS(sizeof ((thurafeqa_board *)0)->count == sizeof(size_t));
+
 HOLDS(sizeof(thurafeqa_clock_report) == 24);
 HOLDS(_Alignof(thurafeqa_clock_report) == 8);
 HOLDS(offsetof(thurafeqa_clock_report, rate) == 0);
 HOLDS(offsetof(thurafeqa_clock_report, bittime) == 8);
 HOLDS(offsetof(thurafeqa_clock_report, below) == 16);
 
-HOLDS(THURAFEQA_VERSION == 0x040200);
+HOLDS(THURAFEQA_VERSION == 0x040300);
 HOLDS(THURAFEQA_FORMAT == 3);
 
 HOLDS(THURAFEQA_STAT == 0);
@@ -65,3 +70,12 @@ HOLDS(THURAFEQA_LEVELS_SDO == BIT(2));
 HOLDS(THURAFEQA_LEVELS_DRIVEN == BIT(3));
 HOLDS(THURAFEQA_LEVELS_SS == BIT(4));
 HOLDS(THURAFEQA_LEVELS_SS_DRIVEN == BIT(5));
+
+HOLDS(THURAFEQA_BOARD_POWER_UP == 0);
+HOLDS(THURAFEQA_BOARD_READ == 1);
+HOLDS(THURAFEQA_BOARD_WRITE == 2);
+HOLDS(THURAFEQA_BOARD_TICK == 3);
+HOLDS(THURAFEQA_BOARD_PINS == 4);
+HOLDS(THURAFEQA_BOARD_CLEAR == 5);
+HOLDS(THURAFEQA_BOARD_CLOCK == 6);
+HOLDS(THURAFEQA_BOARD_LEVELS == 7);

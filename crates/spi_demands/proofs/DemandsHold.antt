@@ -8,6 +8,7 @@ use Rattle.spi_clock_rules.proofs.ClockDemandsHold.{clock-reports}
 use Rattle.spi_script_rules.proofs.ScriptDemandsHold.{scripts-hold}
 use Rattle.spi_trace_rules.proofs.TraceDemandsHold.{traces-hold}
 use Rattle.spi_save_rules.proofs.SaveDemandsHold.{saves-hold}
+use Rattle.spi_board_rules.proofs.BoardDemandsHold.{boards-hold}
 
 pub demands-hold : Demands
 demands-hold =
@@ -18,4 +19,5 @@ demands-hold =
       scripts = scripts-hold;
       traces = traces-hold;
       saves = saves-hold;
+      boards = boards-hold;
     }

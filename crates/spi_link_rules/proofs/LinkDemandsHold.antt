@@ -70,7 +70,7 @@ life-goes-on x (c ∷ cs) ds = life-goes-on (watchedCall x c) cs ds
 
 module _ (host client : Module) (limit : ℕ) where
   -- A run that is made tells the edges used.
-  made : refusalOf host client limit ≡ 0 → linkedOf host client limit .answer ≡ linked.Used (edgesUsed host client limit)
+  pub made : refusalOf host client limit ≡ 0 → linkedOf host client limit .answer ≡ linked.Used (edgesUsed host client limit)
   made e = is-used (linkedOf host client limit .answer) e
 
 pub linked-runs : LinkedRuns

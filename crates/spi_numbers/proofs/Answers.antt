@@ -1,13 +1,22 @@
 -- A call that is answered tells the number of its answer.
---     told   what a caller is told of it
+--     told   what a caller is told of a call of one module
+--     link-told   a linked run
+--     clock-refused, clock-told   a clock report
 -- Assumes nothing.
-use Prim.Native.Nat.{ℕ}
-use mathlib.Core.List.{List}
-use mathlib.Core.Path.{_≡_, _∙_, ap}
+use Prim.Native.Nat.{ℕ, _+_, _*_}
+use mathlib.Core.List.{List, [], _∷_}
+use mathlib.Core.Path.{_≡_, refl, sym, _∙_, ap}
+use native.Mathlib.Nat.{zero-add}
+use lib.Ieee.{Float}
 use Rattle.spi_rules.specs.declared.Answer.{Answer}
 use Rattle.spi_rules.specs.declared.Outcome.{Outcome}
+use Rattle.spi_rules.proofs.Choices.{so-eq, not-so-eq}
+use Rattle.spi_link_rules.specs.declared.LinkAnswer.{LinkAnswer}
+use Rattle.spi_link_rules.specs.declared.Linked.{Linked}
+use Rattle.spi_clock_rules.specs.declared.ClockSaid.{ClockSaid}
 use Rattle.spi_module.specs.Answered.{untouching, Answers}
-use Rattle.spi_numbers.specs.Told.{answerNumber, Tells}
+use Rattle.spi_link.specs.Wire.{isRefused, Links}
+use Rattle.spi_numbers.specs.Told.{answerNumber, Tells, linkNumber, LinkTells, kindNumber, clockNumber, clockFloats, ClockTells}
 
 pub told : {o : Outcome} {x : Answer} {r : ℕ} {a b : List ℕ} → Answers o x a b → r ≡ answerNumber x → Tells o r a b
 told h e =
@@ -16,4 +25,38 @@ told h e =
       number = e ∙ ap answerNumber same;
       holds = ap (λ (o : Outcome). o .after) (h .outcome);
       untouched = λ t. h .untouched (ap untouching same ∙ t);
+    }
+
+pub link-told : {l : Linked} {x : LinkAnswer} {r : ℕ} {a b c d : List ℕ} → Links l x a b c d → r ≡ linkNumber x →
+    LinkTells l r a b c d
+link-told h e =
+    let same = ap (λ (l : Linked). l .answer) (h .outcome) in
+    record {
+      number = e ∙ ap linkNumber same;
+      hostHolds = ap (λ (l : Linked). l .host) (h .outcome);
+      clientHolds = ap (λ (l : Linked). l .client) (h .outcome);
+      hostUntouched = λ t. h .hostUntouched (ap isRefused same ∙ t);
+      clientUntouched = λ t. h .clientUntouched (ap isRefused same ∙ t);
+    }
+
+pub clock-refused : {s t : ClockSaid} {r k : ℕ} {before : List Float} → t ≡ s → (t .number ≡ 0 → ⊥) →
+    k ≡ kindNumber (t .internal) (t .external) → r ≡ t .number * 65536 + k → ClockTells s r before before
+unfolding clockNumber clockFloats
+clock-refused {s} {t} e some kind all =
+    record {
+      number = all ∙ ap (λ (x : ℕ). t .number * 65536 + x) kind ∙ ap clockNumber e;
+      report = not-so-eq (s .number) 0 _ _ (λ none. some (ap (λ (x : ClockSaid). x .number) e ∙ none)) refl;
+    }
+
+pub clock-told : {s t : ClockSaid} {r : ℕ} {before : List Float} → t ≡ s → t .number ≡ 0 →
+    r ≡ kindNumber (t .internal) (t .external) → ClockTells s r before (t .rate ∷ t .bittime ∷ t .below ∷ [])
+unfolding clockNumber clockFloats
+clock-told {s} {t} e none kind =
+    record {
+      number =
+          kind
+          ∙ sym (zero-add (kindNumber (t .internal) (t .external)))
+          ∙ ap (λ (x : ℕ). x * 65536 + kindNumber (t .internal) (t .external)) (sym none)
+          ∙ ap clockNumber e;
+      report = so-eq (s .number) 0 _ _ (sym (ap (λ (x : ClockSaid). x .number) e) ∙ none) (ap (λ (x : ClockSaid). x .rate ∷ x .bittime ∷ x .below ∷ []) e);
     }

@@ -1,13 +1,25 @@
--- What a caller is told of a call: its answer as one number, and the memory after it.
+-- What a caller is told of modules in memory: each answer as one number, levels as numbers, and the memory after a call.
 use Prim.Native.Nat.{ℕ, _+_, _*_}
-use mathlib.Core.Bool.{true}
-use mathlib.Core.List.{List}
+use mathlib.Core.Bool.{Bool, true, not}
+use mathlib.Core.List.{List, [], _∷_}
 use mathlib.Core.Path.{_≡_}
+use lib.Dec.{eqb}
+use lib.Ieee.{Float}
+use Rattle.spi_rules.specs.declared.Module.{Module}
 use Rattle.spi_rules.specs.declared.Answer.{Answer}
 use Rattle.spi_rules.specs.declared.Outcome.{Outcome}
+use Rattle.spi_rules.specs.declared.Output.{Output}
+use Rattle.spi_rules.specs.declared.Output.the-variants.{Low, High, Undriven}
+use Rattle.spi_rules.specs.Choice.{if_then_else_}
 use Rattle.spi_rules.specs.Refusals.{saidOf}
+use Rattle.spi_rules.specs.Calls.{interruptOf, sckOf, sdoOf, ssOf}
+use Rattle.spi_link_rules.specs.declared.LinkAnswer.{LinkAnswer}
+use Rattle.spi_link_rules.specs.declared.Linked.{Linked}
+use Rattle.spi_link_rules.specs.Link.{linkSaidOf}
+use Rattle.spi_clock_rules.specs.declared.ClockSaid.{ClockSaid}
 use Rattle.spi_memory.specs.Memory.{moduleIn}
 use Rattle.spi_module.specs.Answered.{untouching}
+use Rattle.spi_link.specs.Wire.{isRefused}
 
 -- An answer as one number: the upper 16 bits are the refusal number, 0 if the call was not refused; the lower 16 bits are
 -- the register value of a read, or the edges that a tick made, 0 or 1.
@@ -20,3 +32,50 @@ pub record Tells (o : Outcome) (r : ℕ) (before after : List ℕ) : Type 0 wher
   pub number : r ≡ answerNumber (o .answer)
   pub holds : moduleIn after ≡ o .after
   pub untouched : untouching (o .answer) ≡ true → after ≡ before
+
+-- A level that comes in: 0 is low, any other number is high.
+unfoldable pub levelIn : ℕ → Bool
+levelIn x = not (eqb x 0)
+
+-- A pin that the module may drive takes two bits: the lower is its level, 0 if undriven, the upper whether it is driven.
+unfoldable pub outputBits : Output → ℕ
+outputBits Low = 2
+outputBits High = 3
+outputBits Undriven = 0
+
+-- The levels that are seen: bit 0 is the interrupt flag, bit 1 SCK, bits 2 and 3 are SDO, bits 4 and 5 SS.
+unfoldable pub seenNumber : Bool → Bool → Output → Output → ℕ
+seenNumber interrupt sck sdo ss = (if interrupt then 1 else 0) + (if sck then 2 else 0) + outputBits sdo * 4 + outputBits ss * 16
+
+unfoldable pub levelsNumber : Module → ℕ
+levelsNumber m = seenNumber (interruptOf m) (sckOf m) (sdoOf m) (ssOf m)
+
+-- A clock report: 1 is internal, 2 external, 0 none.
+unfoldable pub kindNumber : Bool → Bool → ℕ
+kindNumber internal external = if internal then 1 else if external then 2 else 0
+
+-- Its answer: the upper 16 bits are the refusal number, 0 if it was not refused, the lower 16 bits the kind.
+unfoldable pub clockNumber : ClockSaid → ℕ
+clockNumber s = s .number * 65536 + kindNumber (s .internal) (s .external)
+
+-- Its floats, in memory that the caller lends. A refused report leaves that as it was.
+unfoldable pub clockFloats : ClockSaid → List Float → List Float
+clockFloats s before = if eqb (s .number) 0 then s .rate ∷ s .bittime ∷ s .below ∷ [] else before
+
+-- A clock report returns its number, and its floats stand in the lent memory.
+pub record ClockTells (s : ClockSaid) (r : ℕ) (before after : List Float) : Type 0 where
+  pub number : r ≡ clockNumber s
+  pub report : after ≡ clockFloats s before
+
+-- The answer of a linked run: the upper 16 bits are the refusal number, 0 if it was not refused, the lower 16 bits the
+-- edges used.
+unfoldable pub linkNumber : LinkAnswer → ℕ
+linkNumber a = linkSaidOf a .number * 65536 + linkSaidOf a .edges
+
+-- A linked run returns the number of its answer, and both memories hold the definition's ends. A refused one leaves every number of both memories as it was.
+pub record LinkTells (l : Linked) (r : ℕ) (host hostAfter client clientAfter : List ℕ) : Type 0 where
+  pub number : r ≡ linkNumber (l .answer)
+  pub hostHolds : moduleIn hostAfter ≡ l .host
+  pub clientHolds : moduleIn clientAfter ≡ l .client
+  pub hostUntouched : isRefused (l .answer) ≡ true → hostAfter ≡ host
+  pub clientUntouched : isRefused (l .answer) ≡ true → clientAfter ≡ client

@@ -1,9 +1,15 @@
-// The calls of one module in memory, each answered by one number.
+// The calls of modules in memory, each answered by one number.
+use spi_link_rules::LinkAnswer;
 use spi_rules::Answer;
+use spi_rules::Output;
+ghost use Prim.Native.Nat.{_≤_};
 ghost use mathlib.Core.Path.{_≡_};
+ghost use Rattle.spi_rules.specs.Choice.{if_then_else_};
 ghost use Rattle.spi_rules.specs.Calls.{readOf, writeOf, tickOf, pinsOf, clearOf};
+ghost use Rattle.spi_link_rules.specs.Link.{linkedOf};
+ghost use Rattle.spi_clock_rules.specs.Clock.{reportOf, saidClock};
 ghost use Rattle.spi_memory.specs.Memory.{moduleIn};
-ghost use Rattle.spi_numbers.specs.Told.{answerNumber, Tells};
+ghost use Rattle.spi_numbers.specs.Told.{answerNumber, Tells, outputBits, levelsNumber, kindNumber, ClockTells, linkNumber, LinkTells};
 
 // An answer as a number.
 fn answer_number(a: Answer) -> u32
@@ -56,4 +62,81 @@ pub fn clear(w: &mut [u16; 96]) -> u32
 {
     let answer = spi_module::clear(w);
     answer_number(answer)
+}
+
+// A pin that the module may drive: its level, and whether it is driven.
+fn output_bits(pin: Output) -> u32
+    ensures { λ r. ⌜ (r ≡ outputBits pin) × (r ≤ 3) ⌝ }
+{
+    match pin {
+        Output::Low => 2,
+        Output::High => 3,
+        Output::Undriven => 0,
+    }
+}
+
+// A bit of a number, if it is set.
+fn weight(bit: bool, w: u32) -> u32
+    ensures { λ r. ⌜ (r ≡ (if bit then w else 0)) × (r ≤ w) ⌝ }
+{
+    if bit {
+        return w;
+    }
+    0
+}
+
+// The interrupt flag and the levels of SCK, SDO and SS.
+pub fn levels(w: &[u16; 96]) -> u32
+    ensures { λ r. ⌜ r ≡ levelsNumber (moduleIn (now (w .entry))) ⌝ }
+{
+    let pins = spi_memory::pins_in(w);
+    let flag = weight(spi_memory::interrupt_in(w), 1);
+    let sck = weight(pins.sck, 2);
+    let sdo = output_bits(spi_module::sdo(w));
+    let ss = output_bits(spi_module::ss(w));
+    flag + sck + sdo * 4 + ss * 16
+}
+
+// The kind of a clock: internal, external or none.
+fn kind_number(internal: bool, external: bool) -> u32
+    ensures { λ r. ⌜ (r ≡ kindNumber internal external) × (r ≤ 2) ⌝ }
+{
+    if internal {
+        return 1;
+    }
+    if external {
+        return 2;
+    }
+    0
+}
+
+// The clock report for an instruction rate. Its floats go into lent memory: the rate and the bit time of an internal clock, and
+// what an external one must stay below. A refused report leaves them as they were.
+pub fn clock(w: &[u16; 96], rate: u32, report: &mut [f64; 3]) -> u32
+    ensures { λ r. ⌜ ClockTells (saidClock (reportOf (moduleIn (now (w .entry))) rate)) r (now (report .entry)) (now (report .exit)) ⌝ }
+{
+    let s = spi_memory::settings_in(w);
+    let said = spi_clock::said(spi_clock::report_by(s, rate));
+    let kind = kind_number(said.internal, said.external);
+    if said.number != 0 {
+        return said.number as u32 * 65536 + kind;
+    }
+    *report = [said.rate, said.bittime, said.below];
+    kind
+}
+
+// The answer of a linked run as a number.
+fn link_number(a: LinkAnswer) -> u32
+    ensures { λ r. ⌜ r ≡ linkNumber a ⌝ }
+{
+    let said = spi_link::link_said(a);
+    said.number as u32 * 65536 + said.edges as u32
+}
+
+// Two modules on one wire, for at most `limit` edges.
+pub fn linked(host: &mut [u16; 96], client: &mut [u16; 96], limit: u32) -> u32
+    ensures { λ r. ⌜ LinkTells (linkedOf (moduleIn (now (host .entry))) (moduleIn (now (client .entry))) limit) r (now (host .entry)) (now (host .exit)) (now (client .entry)) (now (client .exit)) ⌝ }
+{
+    let answer = spi_link::linked(host, client, limit);
+    link_number(answer)
 }

@@ -54,6 +54,7 @@ pub mod OwedHold
 pub mod ExamplesHold
 -- The demands on one module, all of them:
 pub mod LivesHold
+pub mod LivesReach
 -- Frames, by the SS pin, the calls and the ledger:
 pub mod FramesSeen
 pub mod FramesCalls

@@ -9,12 +9,11 @@ use native.Mathlib.Omega.{arith}
 use borrow.Author.Tests.{ltb-false, not-true, not-false}
 use lib.Dec.{ltb}
 use Rattle.spi_rules.specs.declared.Module.{Module}
-use Rattle.spi_rules.specs.declared.Call.{Call}
 use Rattle.spi_rules.specs.Choice.{if_then_else_}
-use Rattle.spi_rules.specs.Calls.{poweredUp, afterCalls, performOf}
+use Rattle.spi_rules.specs.Calls.{poweredUp, afterCalls}
 use Rattle.spi_rules.specs.RefusalTable.{firstNumber}
-use Rattle.spi_rules.specs.Watch.{Watched, watchedCall, watchedCalls}
 use Rattle.spi_rules.specs.Demands.{powerUp, begins, life}
+use Rattle.spi_rules.proofs.LivesReach.{watched-reaches}
 use Rattle.spi_rules.proofs.Keeps.{if-true, if-false, clash, by-test}
 use Rattle.spi_trace_rules.specs.declared.Fault.the-variants.{BadContents, BadRecord, TooManyCalls}
 use Rattle.spi_trace_rules.specs.declared.Played.the-variants.{Refused, Made}
@@ -56,11 +55,6 @@ made-is f e =
     let w = made-when (contentsRight f) (recordsRight f) (ltb 65535 (fileCount f)) (fileCount f) e in
     (w .0, ltb-false 65535 (fileCount f) (w .1))
 
--- The module of a watched life is what its calls reach.
-watched-now : (cs : List Call) (x : Watched) → watchedCalls x cs .now ≡ afterCalls (x .now) cs
-watched-now [] x = refl
-watched-now (c ∷ cs) x = watched-now cs (watchedCall x c)
-
 pub traces-hold : Traces
 unfolding playedModule fileCalls fileCount
 traces-hold =
@@ -70,7 +64,7 @@ traces-hold =
       refusedUnchanged = λ m f refused. if-false (isMade (playedOf f)) _ _ refused;
       whole = contents-whole;
       right = whole-right;
-      plays = λ m f made. if-true (isMade (playedOf f)) _ _ made ∙ sym (watched-now (fileCalls f) (begins powerUp));
+      plays = λ m f made. if-true (isMade (playedOf f)) _ _ made ∙ sym (watched-reaches (fileCalls f) (begins powerUp));
       counts = λ f made. (
         ap countIn (made-is f made .0) ∙ count-is f 8 0,
         omega (arith, ap countIn (made-is f made .0), made-is f made .1),

@@ -1,26 +1,17 @@
 // The model for a program in C or Rust to link: the calls of one module, linked runs, clock reports and trace files over memory that the
 // caller holds, 96 numbers of 16 bits a module. Only numbers cross the boundary, and any numbers are answered.
-use spi_link_rules::LinkAnswer;
-use spi_rules::Output;
+use spi_board::Cells;
 use spi_save_rules::Saved;
 use spi_trace_rules::Played;
-ghost use Prim.Native.Nat.{_%_, _≤_};
+ghost use Prim.Native.Nat.{_%_};
 ghost use mathlib.Core.Path.{_≡_};
-ghost use Rattle.spi_rules.specs.Choice.{if_then_else_};
 ghost use Rattle.spi_rules.specs.Calls.{poweredUp, readOf, writeOf, tickOf, pinsOf, clearOf};
 ghost use Rattle.spi_link_rules.specs.Link.{linkedOf};
 ghost use Rattle.spi_clock_rules.specs.Clock.{reportOf, saidClock};
 ghost use Rattle.spi_memory.specs.Memory.{moduleIn};
-ghost use Rattle.spi_numbers.specs.Told.{Tells};
-ghost use Rattle.thurafeqa.specs.Numbers.{LinkTells, levelIn, linkNumber, outputBits, levelsNumber, kindNumber, ClockTells, playNumber, PlayTells, saveNumber, SaveTells, versionNumber, formatNumber};
-
-// The answer of a linked run as a number.
-fn link_number(a: LinkAnswer) -> u32
-    ensures { λ r. ⌜ r ≡ linkNumber a ⌝ }
-{
-    let said = spi_link::link_said(a);
-    said.number as u32 * 65536 + said.edges as u32
-}
+ghost use Rattle.spi_board.specs.Boards.{askedOf, BoardTells, PairTells};
+ghost use Rattle.spi_numbers.specs.Told.{Tells, levelIn, levelsNumber, ClockTells, LinkTells};
+ghost use Rattle.thurafeqa.specs.Numbers.{playNumber, PlayTells, saveNumber, SaveTells, versionNumber, formatNumber};
 
 // Power-up: the memory may hold anything before.
 #[no_mangle]
@@ -70,38 +61,12 @@ pub extern "C" fn thurafeqa_clear(w: &mut [u16; 96])
     spi_numbers::clear(w);
 }
 
-// A pin that the module may drive: its level, and whether it is driven.
-fn output_bits(pin: Output) -> u32
-    ensures { λ r. ⌜ (r ≡ outputBits pin) × (r ≤ 3) ⌝ }
-{
-    match pin {
-        Output::Low => 2,
-        Output::High => 3,
-        Output::Undriven => 0,
-    }
-}
-
-// A bit of a number, if it is set.
-fn weight(bit: bool, w: u32) -> u32
-    ensures { λ r. ⌜ (r ≡ (if bit then w else 0)) × (r ≤ w) ⌝ }
-{
-    if bit {
-        return w;
-    }
-    0
-}
-
 // The interrupt flag and the levels of SCK, SDO and SS.
 #[no_mangle]
 pub extern "C" fn thurafeqa_levels(w: &[u16; 96]) -> u32
     ensures { λ r. ⌜ r ≡ levelsNumber (moduleIn (now (w .entry))) ⌝ }
 {
-    let pins = spi_memory::pins_in(w);
-    let flag = weight(spi_memory::interrupt_in(w), 1);
-    let sck = weight(pins.sck, 2);
-    let sdo = output_bits(spi_module::sdo(w));
-    let ss = output_bits(spi_module::ss(w));
-    flag + sck + sdo * 4 + ss * 16
+    spi_numbers::levels(w)
 }
 
 // Two modules on one wire, for at most `limit` edges.
@@ -109,20 +74,7 @@ pub extern "C" fn thurafeqa_levels(w: &[u16; 96]) -> u32
 pub extern "C" fn thurafeqa_linked(host: &mut [u16; 96], client: &mut [u16; 96], limit: u32) -> u32
     ensures { λ r. ⌜ LinkTells (linkedOf (moduleIn (now (host .entry))) (moduleIn (now (client .entry))) limit) r (now (host .entry)) (now (host .exit)) (now (client .entry)) (now (client .exit)) ⌝ }
 {
-    let answer = spi_link::linked(host, client, limit);
-    link_number(answer)
-}
-
-fn kind_number(internal: bool, external: bool) -> u32
-    ensures { λ r. ⌜ (r ≡ kindNumber internal external) × (r ≤ 2) ⌝ }
-{
-    if internal {
-        return 1;
-    }
-    if external {
-        return 2;
-    }
-    0
+    spi_numbers::linked(host, client, limit)
 }
 
 // The clock report for an instruction rate. Its floats go into memory that the caller lends: the rate and the bit time of an
@@ -131,14 +83,49 @@ fn kind_number(internal: bool, external: bool) -> u32
 pub extern "C" fn thurafeqa_clock(w: &[u16; 96], rate: u32, report: &mut [f64; 3]) -> u32
     ensures { λ r. ⌜ ClockTells (saidClock (reportOf (moduleIn (now (w .entry))) rate)) r (now (report .entry)) (now (report .exit)) ⌝ }
 {
-    let s = spi_memory::settings_in(w);
-    let said = spi_clock::said(spi_clock::report_by(s, rate));
-    let kind = kind_number(said.internal, said.external);
-    if said.number != 0 {
-        return said.number as u32 * 65536 + kind;
+    spi_numbers::clock(w, rate, report)
+}
+
+// A call of module `n` of a board, by its kind: 0 power-up, 1 a read of register `x`, 2 a write of `y` to register `x`, 3 a tick with
+// the levels SDI `x` and SS `y`, 4 a pin call with SCK `x`, SDI `y` and SS `z`, 5 the clear call, 6 the clock report for the rate
+// `x`, any other a look at its levels.
+#[no_mangle]
+pub extern "C" fn thurafeqa_board_call(
+    board: &mut [Cells],
+    n: u32,
+    kind: u32,
+    x: u32,
+    y: u32,
+    z: u32,
+    report: &mut [f64; 3],
+) -> u32
+    ensures { λ r. ⌜ BoardTells n (askedOf kind x y z) r (now (report .entry)) (now (report .exit)) (now (board .entry)) (now (board .exit)) ⌝ }
+{
+    let why = spi_board::refusal(board.len(), n);
+    if why > 0 {
+        return why;
     }
-    *report = [said.rate, said.bittime, said.below];
-    kind
+    spi_board::make(&mut board[n as usize].numbers, kind, x, y, z, report)
+}
+
+// Two modules of a board on one wire, for at most `limit` edges.
+#[no_mangle]
+pub extern "C" fn thurafeqa_board_linked(
+    board: &mut [Cells],
+    host: u32,
+    client: u32,
+    limit: u32,
+) -> u32
+    ensures { λ r. ⌜ PairTells host client limit r (now (board .entry)) (now (board .exit)) ⌝ }
+{
+    let why = spi_board::refusal_of_two(board.len(), host, client);
+    if why > 0 {
+        return why;
+    }
+    let mut wired = board[client as usize].numbers;
+    let told = spi_numbers::linked(&mut board[host as usize].numbers, &mut wired, limit);
+    board[client as usize].numbers = wired;
+    told
 }
 
 // What playing a trace file answers as a number.
@@ -184,7 +171,7 @@ pub extern "C" fn thurafeqa_save(script: &[u8], file: &mut [u8]) -> u32
 pub extern "C" fn thurafeqa_version() -> u32
     ensures { λ r. ⌜ r ≡ versionNumber ⌝ }
 {
-    262656
+    262912
 }
 
 // The number of the memory's format: it rises wherever the meaning of the 96 numbers changes.

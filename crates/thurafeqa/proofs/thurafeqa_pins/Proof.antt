@@ -1,6 +1,6 @@
 -- What the call tells, its levels being numbers.
 use borrow.Author.Needs.{needs}
-use Rattle.thurafeqa.specs.Numbers.{levelIn}
+use Rattle.spi_numbers.specs.Told.{levelIn}
 use Rattle.thurafeqa.proofs.thurafeqa_pins.Statement.{statement}
 use Rattle.thurafeqa.proofs.thurafeqa_pins.Tie as tie
 

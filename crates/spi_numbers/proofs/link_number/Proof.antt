@@ -1,8 +1,8 @@
 -- The definition, with what the answer says.
 use borrow.Author.Needs.{needs}
-use Rattle.thurafeqa.specs.Numbers.{linkNumber}
-use Rattle.thurafeqa.proofs.link_number.Statement.{statement}
-use Rattle.thurafeqa.proofs.link_number.Tie as tie
+use Rattle.spi_numbers.specs.Told.{linkNumber}
+use Rattle.spi_numbers.proofs.link_number.Statement.{statement}
+use Rattle.spi_numbers.proofs.link_number.Tie as tie
 
 returns : tie.Need-returns
 unfolding linkNumber

@@ -1,9 +1,9 @@
 -- Each branch is a value of the choice.
 use borrow.Author.Needs.{needs}
 use Rattle.spi_rules.proofs.Choices.{so, not-so}
-use Rattle.thurafeqa.specs.Numbers.{kindNumber}
-use Rattle.thurafeqa.proofs.kind_number.Statement.{statement}
-use Rattle.thurafeqa.proofs.kind_number.Tie as tie
+use Rattle.spi_numbers.specs.Told.{kindNumber}
+use Rattle.spi_numbers.proofs.kind_number.Statement.{statement}
+use Rattle.spi_numbers.proofs.kind_number.Tie as tie
 
 returns : tie.Need-returns
 unfolding kindNumber

@@ -1,8 +1,8 @@
 -- Each arm is the clause of the definition for its case.
 use borrow.Author.Needs.{needs}
-use Rattle.thurafeqa.specs.Numbers.{outputBits}
-use Rattle.thurafeqa.proofs.output_bits.Statement.{statement}
-use Rattle.thurafeqa.proofs.output_bits.Tie as tie
+use Rattle.spi_numbers.specs.Told.{outputBits}
+use Rattle.spi_numbers.proofs.output_bits.Statement.{statement}
+use Rattle.spi_numbers.proofs.output_bits.Tie as tie
 
 returns : tie.Need-returns
 unfolding outputBits

@@ -1,12 +1,12 @@
 -- The definition, bit by bit.
 use borrow.Author.Needs.{needs}
 use Rattle.spi_rules.specs.Calls.{interruptOf, sckOf}
-use Rattle.thurafeqa.specs.Numbers.{levelsNumber}
-use Rattle.thurafeqa.proofs.thurafeqa_levels.Statement.{statement}
-use Rattle.thurafeqa.proofs.thurafeqa_levels.Tie as tie
+use Rattle.spi_numbers.specs.Told.{levelsNumber, seenNumber}
+use Rattle.spi_numbers.proofs.levels.Statement.{statement}
+use Rattle.spi_numbers.proofs.levels.Tie as tie
 
 returns : tie.Need-returns
-unfolding levelsNumber interruptOf sckOf
+unfolding levelsNumber seenNumber interruptOf sckOf
 returns c =
     let sdo-bits = c .before .before in
     let weight-ensures-0 = sdo-bits .before .before .before .weight .ensures .0 in
@@ -23,8 +23,8 @@ returns c =
       c .before .ss .ensures,
     )
 
-pub thurafeqa-levels-spec : {M : Type 1} → statement M
-thurafeqa-levels-spec =
+pub levels-spec : {M : Type 1} → statement M
+levels-spec =
     tie.close
     (tie.spec
     (λ c κs. search needs) (λ c κs. search needs) (λ c κs. search needs) (λ c κs. search needs)

@@ -1,8 +1,8 @@
 -- Each branch is a value of the choice.
 use borrow.Author.Needs.{needs}
 use Rattle.spi_rules.proofs.Choices.{so, not-so}
-use Rattle.thurafeqa.proofs.weight.Statement.{statement}
-use Rattle.thurafeqa.proofs.weight.Tie as tie
+use Rattle.spi_numbers.proofs.weight.Statement.{statement}
+use Rattle.spi_numbers.proofs.weight.Tie as tie
 
 returns : tie.Need-returns
 returns c = (so _ _ _ (cc) (cc), search needs)

@@ -1,9 +1,9 @@
 -- What the report says, refused or not.
 use borrow.Author.Needs.{needs}
 use Rattle.spi_clock_rules.specs.Clock.{reportOf}
-use Rattle.thurafeqa.proofs.Told.{clock-refused, clock-told}
-use Rattle.thurafeqa.proofs.thurafeqa_clock.Statement.{statement}
-use Rattle.thurafeqa.proofs.thurafeqa_clock.Tie as tie
+use Rattle.spi_numbers.proofs.Answers.{clock-refused, clock-told}
+use Rattle.spi_numbers.proofs.clock.Statement.{statement}
+use Rattle.spi_numbers.proofs.clock.Tie as tie
 
 returns : tie.Need-returns
 unfolding reportOf
@@ -23,8 +23,8 @@ returns-2 c =
     let said = rw (report-by, settings-in) at (c .before .before .before .before .said .ensures) in
     clock-told said (search needs) (kind-number .0)
 
-pub thurafeqa-clock-spec : {M : Type 1} → statement M
-thurafeqa-clock-spec =
+pub clock-spec : {M : Type 1} → statement M
+clock-spec =
     tie.close
     (tie.spec
     (λ c κs. search needs) (λ c κs. search needs) (λ c κs. search needs) (λ c κs. search needs) (λ c. search needs)

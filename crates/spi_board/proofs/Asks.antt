@@ -1,0 +1,151 @@
+-- Calls by their kind, and what is told of each kind.
+--     asked-as     a kind that is a number asks what that number asks
+--     asked-look   any other kind is a look
+--     made, powered, reported, looked   what is told of each
+--     few, many, right                            whether a list of so many is wrong
+--     refuses-list, refuses-module, refuses-not   the board's test, by what it finds
+--     pair-first, pair-twice, pair-second          that of a linked run, by the tests of its two modules
+-- Assumes nothing.
+use Prim.Native.Nat.{ℕ, _<_, _≤_, _*_}
+use mathlib.Core.Bool.{Bool, true, false, _||_, true≢false}
+use mathlib.Core.List.{List, [], _∷_}
+use mathlib.Core.Path.{_≡_, refl, sym, ap, subst, _∙_}
+use native.Mathlib.Omega.{arith}
+use borrow.Author.Tests.{lt-ltb, le-ltb, le-leb, lt-leb, eq-eqb, ne-eqb}
+use lib.Dec.{ltb, leb}
+use lib.Ieee.{Float}
+use lib.ListN.{length}
+use Rattle.spi_rules.specs.declared.Module.{Module}
+use Rattle.spi_rules.specs.declared.Call.{Call}
+use Rattle.spi_rules.specs.Choice.{if_then_else_}
+use Rattle.spi_rules.specs.RefusalTable.{row, firstNumber}
+use Rattle.spi_rules.specs.Calls.{poweredUp, performOf}
+use Rattle.spi_rules.proofs.Choices.{so, not-so, not-so-eq}
+use Rattle.spi_clock_rules.specs.Clock.{reportOf, saidClock}
+use Rattle.spi_board_rules.specs.declared.BoardCall.{BoardCall}
+use Rattle.spi_board_rules.specs.declared.BoardCall.the-variants.{PowerUp, Make, Report, Look}
+use Rattle.spi_board_rules.specs.Board.{answerAlone, afterAlone, seenOf}
+use Rattle.spi_board_rules.specs.BoardDemands.{boardRows}
+use Rattle.spi_memory.specs.Memory.{moduleIn}
+use Rattle.spi_numbers.specs.Told.{Tells, levelsNumber, ClockTells}
+use Rattle.spi_board.specs.Boards.{askedOf, boardNumber, floatsAfter, Refuses, RefusesPair, MakeTells}
+
+module _ {r : ℕ} {floats floatsAt : List Float} {before after : List ℕ} where
+  pub asked-as : (k x y z : ℕ) {kind : ℕ} → kind ≡ k → MakeTells (askedOf k x y z) r floats floatsAt before after →
+      MakeTells (askedOf kind x y z) r floats floatsAt before after
+  asked-as k x y z e h = subst (λ (j : ℕ). MakeTells (askedOf j x y z) r floats floatsAt before after) (sym e) h
+
+  pub asked-look : (x y z : ℕ) {kind : ℕ} → (kind ≡ 0 → ⊥) → (kind ≡ 1 → ⊥) → (kind ≡ 2 → ⊥) → (kind ≡ 3 → ⊥) → (kind ≡ 4 → ⊥) →
+      (kind ≡ 5 → ⊥) → (kind ≡ 6 → ⊥) → MakeTells Look r floats floatsAt before after → MakeTells (askedOf kind x y z) r floats floatsAt before after
+  unfolding askedOf
+  asked-look x y z {kind} n0 n1 n2 n3 n4 n5 n6 h =
+      let is : Look ≡ askedOf kind x y z =
+      not-so-eq kind 0 _ _ n0 (not-so-eq kind 1 _ _ n1 (not-so-eq kind 2 _ _ n2 (not-so-eq kind 3 _ _ n3 (not-so-eq kind 4 _ _ n4
+      (not-so-eq kind 5 _ _ n5 (not-so-eq kind 6 _ _ n6 refl))))))
+      in
+      subst (λ (c : BoardCall). MakeTells c r floats floatsAt before after) is h
+
+pub made : {c : Call} {r : ℕ} {floats : List Float} {before after : List ℕ} → Tells (performOf (moduleIn before) c) r before after →
+    MakeTells (Make c) r floats floats before after
+unfolding boardNumber answerAlone afterAlone floatsAfter
+made h = record { number = h .number; holds = h .holds; report = refl; untouched = h .untouched }
+
+pub powered : {floats : List Float} {before after : List ℕ} → moduleIn after ≡ poweredUp → MakeTells PowerUp 0 floats floats before after
+unfolding boardNumber answerAlone afterAlone floatsAfter
+powered h = record { number = refl; holds = h; report = refl; untouched = λ t. absurd (true≢false (sym t)) }
+
+pub reported : {f r : ℕ} {floats floatsAt : List Float} {before : List ℕ} →
+    ClockTells (saidClock (reportOf (moduleIn before) f)) r floats floatsAt → MakeTells (Report f) r floats floatsAt before before
+unfolding boardNumber answerAlone afterAlone floatsAfter
+reported h = record { number = h .number; holds = refl; report = h .report; untouched = λ _. refl }
+
+pub looked : {r : ℕ} {floats : List Float} {before : List ℕ} → r ≡ levelsNumber (moduleIn before) → MakeTells Look r floats floats before before
+unfolding boardNumber answerAlone afterAlone floatsAfter seenOf levelsNumber
+looked e = record { number = e; holds = refl; report = refl; untouched = λ _. refl }
+
+-- The board's test.
+pub bad : ℕ → Bool
+bad count = ltb count 1 || ltb 4 count
+
+pub few : {count : ℕ} → count < 1 → bad count ≡ true
+unfolding bad
+few {count} h = rw (lt-ltb count 1 h) refl
+
+pub many : {count : ℕ} → 1 ≤ count → 4 < count → bad count ≡ true
+unfolding bad
+many {count} h k = rw (le-ltb count 1 h, lt-ltb 4 count k) refl
+
+pub right : {count : ℕ} → 1 ≤ count → count ≤ 4 → bad count ≡ false
+unfolding bad
+right {count} h k = rw (le-ltb count 1 h, le-ltb 4 count k) refl
+
+module _ {count n : ℕ} where
+  pub refuses-list : bad count ≡ true → Refuses count n (21 * 65536)
+  unfolding bad
+  refuses-list b = record { number = λ ms e. ap (λ (x : ℕ). x * 65536) (so _ _ _ (ap bad e ∙ b) refl) }
+
+  pub refuses-module : bad count ≡ false → count ≤ n → Refuses count n (22 * 65536)
+  unfolding bad
+  refuses-module b h = record {
+    number = λ ms e. ap (λ (x : ℕ). x * 65536) (not-so _ _ _ (ap bad e ∙ b) (so _ _ _ (ap (λ (k : ℕ). leb k n) e ∙ le-leb count n h) refl));
+  }
+
+  pub refuses-not : bad count ≡ false → n < count → Refuses count n 0
+  unfolding bad
+  refuses-not b h = record {
+    number = λ ms e. ap (λ (x : ℕ). x * 65536) (not-so _ _ _ (ap bad e ∙ b) (not-so _ _ _ (ap (λ (k : ℕ). leb k n) e ∙ lt-leb count n h) refl));
+  }
+
+-- The first row that applies, if a further test stands in the second row: a row that applies without it stays, and if none does the
+-- further test decides.
+stays : (bad here more : Bool) → (firstNumber (row 21 bad ∷ row 22 here ∷ []) ≡ 0 → ⊥) →
+    firstNumber (row 21 bad ∷ row 22 here ∷ []) ≡ firstNumber (row 21 bad ∷ row 22 (here || more) ∷ [])
+unfolding if_then_else_
+stays true here more h = refl
+stays false true more h = refl
+stays false false more h = absurd (h refl)
+
+decides : (bad here more : Bool) → firstNumber (row 21 bad ∷ row 22 here ∷ []) ≡ 0 →
+    firstNumber (row 21 bad ∷ row 22 (here || more) ∷ []) ≡ firstNumber (row 21 bad ∷ row 22 more ∷ [])
+unfolding if_then_else_
+decides true here more e = absurd (omega (arith, e))
+decides false true more e = absurd (omega (arith, e))
+decides false false more e = refl
+
+twice : (bad here there : Bool) → firstNumber (row 21 bad ∷ row 22 here ∷ []) ≡ 0 →
+    22 ≡ firstNumber (row 21 bad ∷ row 22 (here || (there || true)) ∷ [])
+unfolding if_then_else_
+twice true here there e = absurd (omega (arith, e))
+twice false true there e = refl
+twice false false true e = refl
+twice false false false e = refl
+
+or-false : (b : Bool) → b ≡ (b || false)
+or-false true = refl
+or-false false = refl
+
+none-first : {count a r : ℕ} → Refuses count a r → r ≡ 0 → (ms : List Module) → length ms ≡ count → firstNumber (boardRows ms a) ≡ 0
+none-first h none ms e = omega (arith, h .number ms e, none)
+
+module _ {count a b : ℕ} where
+  pub pair-first : {r : ℕ} → Refuses count a r → (r ≡ 0 → ⊥) → RefusesPair count a b r
+  pair-first h some = record {
+    number = λ ms e. h .number ms e ∙ ap (λ (x : ℕ). x * 65536) (stays (ltb (length ms) 1 || ltb 4 (length ms)) (leb (length ms) a) _ (λ none. some (h .number ms e ∙ ap (λ (x : ℕ). x * 65536) none)));
+  }
+
+  pub pair-twice : {r : ℕ} → Refuses count a r → r ≡ 0 → a ≡ b → RefusesPair count a b (22 * 65536)
+  pair-twice h none same = record {
+    number = λ ms e.
+        ap (λ (x : ℕ). x * 65536) (twice (ltb (length ms) 1 || ltb 4 (length ms)) (leb (length ms) a) (leb (length ms) b) (none-first h none ms e)
+        ∙ ap (λ (t : Bool). firstNumber (row 21 (ltb (length ms) 1 || ltb 4 (length ms)) ∷ row 22 (leb (length ms) a || (leb (length ms) b || t)) ∷ [])) (sym (eq-eqb a b same)));
+  }
+
+  pub pair-second : {first r : ℕ} → Refuses count a first → first ≡ 0 → (a ≡ b → ⊥) → Refuses count b r → RefusesPair count a b r
+  pair-second h none other k = record {
+    number = λ ms e.
+        k .number ms e
+        ∙ ap (λ (x : ℕ). x * 65536)
+        (ap (λ (t : Bool). firstNumber (row 21 (ltb (length ms) 1 || ltb 4 (length ms)) ∷ row 22 t ∷ []))
+        (or-false (leb (length ms) b) ∙ ap (λ (t : Bool). leb (length ms) b || t) (sym (ne-eqb a b other)))
+        ∙ sym (decides (ltb (length ms) 1 || ltb 4 (length ms)) (leb (length ms) a) _ (none-first h none ms e)));
+  }

@@ -1,0 +1,63 @@
+-- Each kind is the call of one module that it asks for.
+use borrow.Author.Needs.{needs}
+use Rattle.spi_rules.specs.Choice.{if_then_else_}
+use Rattle.spi_rules.specs.Calls.{performOf}
+use Rattle.spi_numbers.specs.Told.{levelIn}
+use Rattle.spi_board.specs.Boards.{askedOf}
+use Rattle.spi_board.proofs.Asks.{asked-as, asked-look, made, powered, reported, looked}
+use Rattle.spi_board.proofs.make.Statement.{statement}
+use Rattle.spi_board.proofs.make.Tie as tie
+
+returns : tie.Need-returns
+unfolding askedOf if_then_else_ performOf levelIn
+returns c = asked-as 3 _ _ (c .before .before .before .args .z) (c .before .before .if1 .taken) (made (c .tick .ensures))
+
+returns-2 : tie.Need-returns-2
+unfolding askedOf if_then_else_ performOf levelIn
+returns-2 c = asked-as 4 _ _ (c .before .before .before .before .args .z) (c .before .before .if2 .taken) (made (c .pins .ensures))
+
+returns-3 : tie.Need-returns-3
+unfolding askedOf if_then_else_ performOf
+returns-3 c = asked-as 1 _ _ _ (c .before .before .if3 .taken) (made (c .read .ensures))
+
+returns-4 : tie.Need-returns-4
+unfolding askedOf if_then_else_ performOf
+returns-4 c = asked-as 2 _ _ _ (c .before .before .if4 .taken) (made (c .write .ensures))
+
+returns-5 : tie.Need-returns-5
+unfolding askedOf if_then_else_ performOf
+returns-5 c = asked-as 5 _ _ _ (c .before .before .if5 .taken) (made (c .clear .ensures))
+
+returns-6 : tie.Need-returns-6
+unfolding askedOf if_then_else_
+returns-6 c = asked-as 6 _ _ _ (c .before .before .before .if6 .taken) (reported (c .clock .ensures))
+
+returns-7 : tie.Need-returns-7
+unfolding askedOf if_then_else_
+returns-7 c = asked-as 0 _ _ _ (c .before .before .if7 .taken) (powered (c .power-up .ensures))
+
+returns-8 : tie.Need-returns-8
+returns-8 c =
+    asked-look _ _ _ (search needs) (search needs) (search needs) (search needs) (search needs) (search needs) (search needs) (looked (c .levels .ensures))
+
+pub make-spec : {M : Type 1} → statement M
+make-spec =
+    tie.close
+    (tie.spec
+    (λ c κs. search needs)
+    returns
+    (λ c κs. search needs)
+    returns-2
+    (λ c κs. search needs)
+    returns-3
+    (λ c. search needs)
+    (λ c κs. search needs)
+    returns-4
+    (λ c κs. search needs)
+    returns-5
+    (λ c κs. search needs)
+    returns-6
+    (λ c κs. search needs)
+    returns-7
+    (λ c κs. search needs)
+    returns-8)

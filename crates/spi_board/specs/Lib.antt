@@ -1,0 +1,2 @@
+-- What a caller is told of the board.
+pub mod Boards

@@ -1,0 +1,5 @@
+-- What follows from the rules of the board.
+pub mod BoardExamplesHold
+pub mod BoardCalls
+pub mod BoardLives
+pub mod BoardDemandsHold

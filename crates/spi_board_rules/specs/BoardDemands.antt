@@ -1,0 +1,123 @@
+-- The customer's demands on the board. The record Boards holds every statement, and proofs/BoardDemandsHold.antt proves it.
+use Prim.Native.Nat.{ℕ, _≤_, _<_}
+use mathlib.Core.Bool.{Bool, true, false, _&&_, _||_}
+use mathlib.Core.List.{List, [], _∷_, _++_}
+use mathlib.Core.Path.{_≡_}
+use lib.Dec.{eqb, ltb, leb}
+use lib.ListN.{length, getD, replicate}
+use Rattle.spi_rules.specs.declared.Module.{Module}
+use Rattle.spi_rules.specs.declared.Call.{Call}
+use Rattle.spi_rules.specs.Choice.{if_then_else_}
+use Rattle.spi_rules.specs.RefusalTable.{Row, row, firstNumber}
+use Rattle.spi_rules.specs.Calls.{poweredUp, performOf, interruptOf, sckOf, sdoOf, ssOf}
+use Rattle.spi_rules.specs.Demands.{powerUp, life}
+use Rattle.spi_link_rules.specs.Link.{linkedOf, runHostCalls, runClientCalls}
+use Rattle.spi_link_rules.specs.LinkDemands.{refusalOf}
+use Rattle.spi_clock_rules.specs.Clock.{reportOf}
+use Rattle.spi_board_rules.specs.declared.BoardCall.{BoardCall}
+use Rattle.spi_board_rules.specs.declared.BoardCall.the-variants.{PowerUp, Make, Report, Look}
+use Rattle.spi_board_rules.specs.declared.BoardAnswer.{BoardAnswer}
+use Rattle.spi_board_rules.specs.declared.BoardAnswer.the-variants.{Refused, Powered, Made, Told, Shown}
+use Rattle.spi_board_rules.specs.declared.PairAnswer.{PairAnswer}
+use Rattle.spi_board_rules.specs.declared.PairAnswer.the-variants as pair
+use Rattle.spi_board_rules.specs.Board.{boardNumberOf, boardOf, pairOf, Step, one, two, boardStepped, boardAfter}
+use Rattle.spi_board_rules.specs.BoardExamples.{boardExamples}
+
+-- The number with which the board refuses, 0 if it hands the call on.
+abbrev pub faultIn : BoardAnswer → ℕ
+faultIn (Refused w) = boardNumberOf w
+faultIn Powered = 0
+faultIn (Made a) = 0
+faultIn (Told r) = 0
+faultIn (Shown s) = 0
+
+abbrev pub pairFaultIn : PairAnswer → ℕ
+pairFaultIn (pair.Refused w) = boardNumberOf w
+pairFaultIn (pair.Ran a) = 0
+
+-- The rows of the table, in the order of the tests. Both stand before every row of one module and of a linked run.
+abbrev pub boardRows : List Module → ℕ → List Row
+boardRows ms n =
+    -- the list's length is outside 1 to 4
+    row 21 (ltb (length ms) 1 || ltb 4 (length ms))
+    -- no such module
+    ∷ row 22 (leb (length ms) n)
+    ∷ []
+
+abbrev pub pairRows : List Module → ℕ → ℕ → List Row
+pairRows ms a b =
+    row 21 (ltb (length ms) 1 || ltb 4 (length ms))
+    -- no such module, or the same one twice
+    ∷ row 22 (leb (length ms) a || (leb (length ms) b || eqb a b))
+    ∷ []
+
+-- The module at a place of the list.
+abbrev pub at : List Module → ℕ → Module
+at ms k = getD ms k poweredUp
+
+-- A list after a call: as long as before, and every record but those that the call names is as it was.
+pub record Others (named : ℕ → Bool) (before after : List Module) : Type 0 where
+  pub same : length after ≡ length before
+  pub stay : (k : ℕ) → named k ≡ false → at after k ≡ at before k
+
+-- What a call of one module, which the board hands on, answers and does: that of the module alone.
+pub record Alone (ms : List Module) (n : ℕ) : Type 0 where
+  pub powered : (boardOf ms n PowerUp .answer ≡ Powered) × (at (boardOf ms n PowerUp .after) n ≡ poweredUp)
+  pub made : (c : Call) →
+      (boardOf ms n (Make c) .answer ≡ Made (performOf (at ms n) c .answer))
+      × (at (boardOf ms n (Make c) .after) n ≡ performOf (at ms n) c .after)
+  pub reported : (f : ℕ) →
+      (boardOf ms n (Report f) .answer ≡ Told (reportOf (at ms n) f)) × (at (boardOf ms n (Report f) .after) n ≡ at ms n)
+  pub shown :
+      (boardOf ms n Look .answer
+      ≡ Shown (record { interrupt = interruptOf (at ms n); sck = sckOf (at ms n); sdo = sdoOf (at ms n); ss = ssOf (at ms n) }))
+      × (at (boardOf ms n Look .after) n ≡ at ms n)
+  pub others : (c : BoardCall) → Others (eqb n) ms (boardOf ms n c .after)
+
+-- What a linked run of two modules, which the board hands on, answers and does: that of the two alone.
+pub record Joined (ms : List Module) (a b limit : ℕ) : Type 0 where
+  pub answer : pairOf ms a b limit .answer ≡ pair.Ran (linkedOf (at ms a) (at ms b) limit .answer)
+  pub host : at (pairOf ms a b limit .after) a ≡ linkedOf (at ms a) (at ms b) limit .host
+  pub client : at (pairOf ms a b limit .after) b ≡ linkedOf (at ms a) (at ms b) limit .client
+  pub others : Others (λ k. eqb a k || eqb b k) ms (pairOf ms a b limit .after)
+
+-- The calls that a module has made since its last power-up, if it has made `own` so far and the board stands at `ms`: a call that
+-- names it adds itself, a linked run that joins it adds the run's list, and a refused one adds nothing.
+abbrev pub ownAfterCall : List Call → BoardCall → List Call
+ownAfterCall own PowerUp = []
+ownAfterCall own (Make c) = own ++ (c ∷ [])
+ownAfterCall own (Report f) = own
+ownAfterCall own Look = own
+
+abbrev pub ownAfterRun : ℕ → List Module → List Call → ℕ → ℕ → ℕ → List Call
+ownAfterRun k ms own a b limit =
+    if eqb a k then own ++ runHostCalls (at ms a) (at ms b) limit
+    else if eqb b k then own ++ runClientCalls (at ms a) (at ms b) limit
+    else own
+
+abbrev pub ownAfter : ℕ → List Module → List Call → Step → List Call
+ownAfter k ms own (one n c) = if eqb (firstNumber (boardRows ms n)) 0 && eqb n k then ownAfterCall own c else own
+ownAfter k ms own (two a b limit) =
+    if eqb (firstNumber (pairRows ms a b)) 0 && eqb (refusalOf (at ms a) (at ms b) limit) 0 then ownAfterRun k ms own a b limit else own
+
+abbrev pub ownCalls : ℕ → List Module → List Call → List Step → List Call
+ownCalls k ms own [] = own
+ownCalls k ms own (s ∷ ss) = ownCalls k (boardStepped ms s) (ownAfter k ms own s) ss
+
+-- A call is refused with 21 or 22 exactly as the table says, before anything else, and then leaves the list as it was. Any other
+-- answers and does what the named modules alone would, and the other records stay. So after any steps from power-up of all
+-- modules, each is the one that its own calls reach from power-up: all that is said of one module (registers, flags, pins, word
+-- order, edges owed) is said of it.
+pub record Boards : Type 0 where
+  pub paperExamples : boardExamples ≡ true
+  pub refusedExactly : (ms : List Module) (n : ℕ) (c : BoardCall) → faultIn (boardOf ms n c .answer) ≡ firstNumber (boardRows ms n)
+  pub refusedUnchanged : (ms : List Module) (n : ℕ) (c : BoardCall) → 1 ≤ faultIn (boardOf ms n c .answer) → boardOf ms n c .after ≡ ms
+  pub alone : (ms : List Module) (n : ℕ) → firstNumber (boardRows ms n) ≡ 0 → Alone ms n
+  pub pairRefusedExactly : (ms : List Module) (a b limit : ℕ) →
+      pairFaultIn (pairOf ms a b limit .answer) ≡ firstNumber (pairRows ms a b)
+  pub pairRefusedUnchanged : (ms : List Module) (a b limit : ℕ) → 1 ≤ pairFaultIn (pairOf ms a b limit .answer) →
+      pairOf ms a b limit .after ≡ ms
+  pub joined : (ms : List Module) (a b limit : ℕ) → firstNumber (pairRows ms a b) ≡ 0 → Joined ms a b limit
+  pub each : (size : ℕ) (steps : List Step) (k : ℕ) → k < size →
+      at (boardAfter (replicate size poweredUp) steps) k
+      ≡ life powerUp (ownCalls k (replicate size poweredUp) [] steps) .now

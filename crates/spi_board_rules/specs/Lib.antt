@@ -1,0 +1,4 @@
+-- Document 02's rules of the board, and the demands on it.
+pub mod Board
+pub mod BoardExamples
+pub mod BoardDemands

@@ -1,0 +1,45 @@
+// The vocabulary of document 02, Seven: a board of one to four modules. Its rules are the definitions in specs/, and what follows
+// from them is in proofs/.
+use spi_clock_rules::Reported;
+use spi_link_rules::LinkAnswer;
+use spi_rules::Answer;
+use spi_rules::Call;
+use spi_rules::Output;
+
+// A call of one module of the board: power-up, a call, a clock report for an instruction rate, or a look at its pins.
+pub enum BoardCall {
+    PowerUp,
+    Make(Call),
+    Report(u32),
+    Look,
+}
+
+// What a look sees: the interrupt flag, and the levels of SCK, SDO and SS.
+pub struct Seen {
+    pub interrupt: bool,
+    pub sck: bool,
+    pub sdo: Output,
+    pub ss: Output,
+}
+
+// Why the board refuses a call: the list's length is wrong, or there is no such module. The paper's numbers are given by
+// boardNumberOf in specs/Board.antt.
+pub enum BoardFault {
+    BadList,
+    NoModule,
+}
+
+// What a call of one module answers: why the board refuses it, or what the module alone answers.
+pub enum BoardAnswer {
+    Refused(BoardFault),
+    Powered,
+    Made(Answer),
+    Told(Reported),
+    Shown(Seen),
+}
+
+// What a linked run of two modules of the board answers: why the board refuses it, or what the two alone answer.
+pub enum PairAnswer {
+    Refused(BoardFault),
+    Ran(LinkAnswer),
+}

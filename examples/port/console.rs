@@ -1,0 +1,87 @@
+//! A console with a board of four modules. SPI1 and SPI2 are joined by a wire on the board, SPI3 has its output joined to its
+//! input, and SPI4 is not in use. The firmware names a module by its place in the list, from 0. It prints what console.c
+//! prints.
+
+#[path = "../../bindings/thurafeqa.rs"]
+mod thurafeqa;
+
+use thurafeqa::register::{BUF, CON1, CON1_MODE16, CON1_MSTEN, CON1_SSEN, CON2, CON2_SPIBEN, STAT, STAT_SPIEN};
+use thurafeqa::{Board, Module, Refusal, Sdo};
+
+const SPI1: u32 = 0;
+const SPI2: u32 = 1;
+const SPI3: u32 = 2;
+const SPI4: u32 = 3;
+
+fn open(b: &mut Board, n: u32, con1: u16, con2: u16) -> Result<(), Refusal> {
+    b.write(n, CON1, con1)?;
+    b.write(n, CON2, con2)?;
+    b.write(n, STAT, STAT_SPIEN)
+}
+
+fn print_board(b: &mut Board) -> Result<(), Refusal> {
+    print!("STAT");
+    for n in SPI1..=SPI4 {
+        print!(" SPI{} {:04X}", n + 1, b.read(n, STAT)?);
+    }
+    println!();
+    Ok(())
+}
+
+/// SPI1 sends a text to SPI2, two letters in a word, while SPI2 sends words of its own.
+fn send_text(b: &mut Board, text: &[u8]) -> Result<(), Refusal> {
+    for two in text.chunks(2) {
+        b.write(SPI1, BUF, u16::from_be_bytes([two[0], two[1]]))?;
+        b.write(SPI2, BUF, 0x4F4B)?;
+    }
+    print_board(b)?;
+    println!("SPI1 and SPI2: {} edges", b.linked(SPI1, SPI2, 288)?);
+    print_board(b)?;
+    print!("SPI2 read \"");
+    for _ in text.chunks(2) {
+        let [high, low] = b.read(SPI2, BUF)?.to_be_bytes();
+        print!("{}{}", high as char, low as char);
+    }
+    println!("\"");
+    Ok(())
+}
+
+/// SPI3 sends a byte to itself, edge by edge.
+fn send_round(b: &mut Board, byte: u8) -> Result<(), Refusal> {
+    let mut edges = 0;
+    b.write(SPI3, BUF, byte.into())?;
+    loop {
+        let sdi = b.sdo(SPI3)? == Sdo::High;
+        if !b.tick(SPI3, sdi, false)? {
+            break;
+        }
+        edges += 1;
+    }
+    println!("SPI3 read {:02X} after {edges} edges", b.read(SPI3, BUF)?);
+    Ok(())
+}
+
+fn refused<T>(what: &str, answer: Result<T, Refusal>) {
+    if let Err(refusal) = answer {
+        println!("port: {what} refused with {}", refusal as u32);
+    }
+}
+
+fn main() -> Result<(), Refusal> {
+    let mut spi = [(); 5].map(|_| Module::new());
+    let mut b = Board::new(&mut spi[..4])?;
+    open(&mut b, SPI1, CON1_MSTEN | CON1_MODE16, CON2_SPIBEN)?;
+    open(&mut b, SPI2, CON1_SSEN | CON1_MODE16, CON2_SPIBEN)?;
+    open(&mut b, SPI3, CON1_MSTEN, 0)?;
+    send_text(&mut b, b"OUTFIT 7")?;
+    send_round(&mut b, 0xA5)?;
+    print_board(&mut b)?;
+
+    // what a port may get wrong: nothing changes
+    refused("read of SPI5", b.read(4, STAT));
+    refused("run of SPI1 with itself", b.linked(SPI1, SPI1, 288));
+    refused("read on a board of five", Board::with(&mut spi).read(SPI1, STAT));
+    let mut b = Board::with(&mut spi[..4]);
+    refused("tick of SPI4", b.tick(SPI4, false, false));
+    print_board(&mut b)
+}

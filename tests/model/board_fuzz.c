@@ -1,0 +1,584 @@
+/* Boards of the second model (board.c). First some that are worked out: figures
+ * of document 01 on modules of a board, linked runs between any two, and the
+ * order of the refusals. Then random calls on lists of none to six modules:
+ * beside the list goes a plain model for each of its modules, to which the same
+ * calls are made one by one, and after every call
+ * - the answer is 21 exactly if the list has none or more than four, else 22
+ *   exactly if a module that is named is not there or is named twice, else that
+ *   of the plain model, with all that it tells;
+ * - every module of the list is its plain model, byte for byte, so all but the
+ *   named ones are as they were, and after a refusal all;
+ * - the modules that lie before and behind the list are as they were.
+ *
+ * usage: board_fuzz [seed] [calls]
+ *
+ * Exit 0: all held, and every case was met. Exit 1: not so. */
+#include "board.h"
+
+#include <stdio.h>
+#include <stdlib.h>
+#include <string.h>
+
+/* ---- boards that are worked out ------------------------------------------ */
+
+static int failures, here;
+
+static void expect(int ok, const char *what, int line)
+{
+    if (ok)
+        return;
+    here++;
+    failures++;
+    printf("  FAIL line %d: %s\n", line, what);
+}
+#define EXPECT(c) expect((c) != 0, #c, __LINE__)
+
+static void end(const char *name)
+{
+    printf("%-60s %s\n", name, here == 0 ? "ok" : "FAILED");
+    here = 0;
+}
+
+/* A list of six, of which a board takes the first ones. */
+static struct ref_spi six[6];
+
+static struct board fresh(size_t count)
+{
+    struct board b = {six, count};
+    uint32_t n;
+
+    memset(six, 0x55, sizeof six);
+    for (n = 0; n < count; n++)
+        EXPECT(board_power_up(&b, n) == 0);
+    return b;
+}
+
+/* What a read returns, or E0000 plus the refusal number. */
+static unsigned get(struct board *b, uint32_t n, unsigned reg)
+{
+    unsigned v = 0xFFFFFFFFu;
+    int r = board_read(b, n, reg, &v);
+
+    return r == 0 ? v : 0xE0000u + (unsigned)r;
+}
+
+static void enable(struct board *b, uint32_t n, unsigned con1, unsigned con2)
+{
+    EXPECT(board_write(b, n, 1, con1) == 0);
+    EXPECT(board_write(b, n, 2, con2) == 0);
+    EXPECT(board_write(b, n, 0, 0x8000) == 0);
+}
+
+/* All modules are as in a copy but those two. */
+static int kept(const struct ref_spi *copy, uint32_t a, uint32_t b)
+{
+    uint32_t n;
+
+    for (n = 0; n < 6; n++) {
+        if (n != a && n != b && memcmp(&copy[n], &six[n], sizeof six[n]) != 0)
+            return 0;
+    }
+    return 1;
+}
+
+/* Each module has its own registers, buffers, levels and flag. */
+static void each_by_itself(void)
+{
+    struct board b = fresh(4);
+    struct ref_spi copy[6];
+    struct board_levels seen;
+    unsigned n;
+    int i;
+
+    for (n = 0; n < 4; n++)
+        EXPECT(get(&b, n, 0) == 0x0000); /* example a */
+    memcpy(copy, six, sizeof six);
+    enable(&b, 3, 0x0020, 1); /* example h, on SPI4 */
+    for (i = 0; i < 9; i++)
+        EXPECT(board_write(&b, 3, 3, 0x30u + (unsigned)i) == 0);
+    EXPECT(get(&b, 3, 0) == 0x8722);
+    EXPECT(board_write(&b, 3, 3, 0x39) == 5);
+    EXPECT(kept(copy, 3, 3));
+    EXPECT(get(&b, 2, 3) == 0xE0002);
+    enable(&b, 0, 0x0020, 0); /* example j, on SPI1, SPI4 ticking between */
+    EXPECT(board_write(&b, 0, 3, 0xA5) == 0);
+    for (i = 0; i < 15; i++) {
+        EXPECT(board_tick(&b, 0, 1, 0) == 0);
+        EXPECT(board_tick(&b, 3, 0, 0) == 0);
+    }
+    EXPECT(get(&b, 0, 3) == 0xE0006);
+    memcpy(copy, six, sizeof six);
+    EXPECT(board_tick(&b, 0, 1, 0) == 0);
+    EXPECT(kept(copy, 0, 0));
+    EXPECT(board_see(&b, 0, &seen) == 0 && seen.flag == 1);
+    EXPECT(get(&b, 0, 3) == 0x00FF);
+    EXPECT(get(&b, 3, 3) == 0xE0006);
+    EXPECT(board_tick(&b, 3, 0, 0) == 0); /* its edge 16 */
+    EXPECT(board_see(&b, 3, &seen) == 0 && seen.flag == 0); /* SISEL 0 */
+    EXPECT(get(&b, 3, 3) == 0x0000);
+    EXPECT(board_see(&b, 3, &seen) == 0 && seen.flag == 1);
+    EXPECT(board_clear(&b, 0) == 0);
+    EXPECT(six[0].flag == 0 && six[3].flag == 1);
+    EXPECT(board_power_up(&b, 3) == 0);
+    EXPECT(get(&b, 3, 0) == 0x0000 && get(&b, 0, 0) == 0x8000);
+    end("each module by itself");
+}
+
+/* Example l between every two modules of boards of every length. */
+static void every_two(void)
+{
+    size_t count;
+    uint32_t h, c;
+
+    for (count = 1; count <= 4; count++) {
+        for (h = 0; h < count; h++) {
+            for (c = 0; c < count; c++) {
+                struct board b = fresh(count);
+                struct ref_spi copy[6];
+                unsigned used = 77;
+
+                enable(&b, h, 0x0020, 0);
+                if (h != c)
+                    enable(&b, c, 0x0080, 0);
+                EXPECT(board_write(&b, h, 3, 0xA5) == 0);
+                EXPECT(board_write(&b, c, 3, 0x3C) == 0);
+                memcpy(copy, six, sizeof six);
+                if (h == c) {
+                    EXPECT(board_linked(&b, h, c, 288, &used) == 22);
+                    EXPECT(used == 77 && kept(copy, 9, 9));
+                    continue;
+                }
+                EXPECT(board_linked(&b, h, c, 288, &used) == 0 && used == 16);
+                EXPECT(kept(copy, h, c));
+                EXPECT(get(&b, h, 3) == 0x3C && get(&b, c, 3) == 0xA5);
+            }
+        }
+    }
+    end("example l between every two modules");
+}
+
+/* 21, then 22, then what the module says. */
+static void order(void)
+{
+    struct board b = fresh(4), none = {six, 0}, five = {six, 5};
+    struct board two = {six, 2}, one = {six, 1};
+    struct ref_spi copy[6];
+    struct board_levels seen = {7, 7, 7, 7};
+    unsigned v = 77;
+    int kind = 77;
+    double rate = 77, bit_time = 77;
+
+    enable(&b, 0, 0x0020, 0);
+    enable(&b, 1, 0x0000, 0);
+    memcpy(copy, six, sizeof six);
+    EXPECT(board_read(&none, 0, 0, &v) == 21);
+    EXPECT(board_read(&five, 0, 4, &v) == 21); /* before 1 */
+    EXPECT(board_read(&five, 5, 0, &v) == 21); /* before 22 */
+    EXPECT(board_read(&two, 2, 4, &v) == 22);
+    EXPECT(board_write(&two, 2, 4, 0) == 22);
+    EXPECT(board_write(&two, 1, 4, 0) == 1);
+    EXPECT(board_write(&b, 0xFFFFFFFFu, 0, 0) == 22);
+    EXPECT(board_write(&b, 0x10000u, 0, 0) == 22); /* not module 0 */
+    EXPECT(board_clock(&none, 0, 0, &kind, &rate, &bit_time) == 21);
+    EXPECT(board_clock(&b, 4, 0, &kind, &rate, &bit_time) == 22);
+    EXPECT(board_clock(&b, 3, 0, &kind, &rate, &bit_time) == 8);
+    EXPECT(board_tick(&five, 2, 0, 0) == 21); /* before 2 and 7 */
+    EXPECT(board_tick(&five, 1, 0, 0) == 21);
+    EXPECT(board_tick(&b, 2, 0, 0) == 2 && board_tick(&b, 1, 0, 0) == 7);
+    EXPECT(board_pins(&five, 0, 1, 0, 0) == 21);
+    EXPECT(board_pins(&two, 2, 1, 0, 0) == 22);
+    EXPECT(board_pins(&two, 0, 1, 0, 0) == 7);
+    EXPECT(board_power_up(&five, 0) == 21 && board_power_up(&b, 4) == 22);
+    EXPECT(board_clear(&none, 0) == 21 && board_clear(&one, 1) == 22);
+    EXPECT(board_see(&five, 9, &seen) == 21 && board_see(&b, 9, &seen) == 22);
+    EXPECT(board_linked(&five, 0, 1, 288, &v) == 21);
+    EXPECT(board_linked(&five, 1, 1, 289, &v) == 21); /* before 22 and 11 */
+    EXPECT(board_linked(&b, 0, 4, 289, &v) == 22);    /* before 11 */
+    EXPECT(board_linked(&b, 4, 1, 289, &v) == 22);
+    EXPECT(board_linked(&b, 0, 0, 289, &v) == 22);
+    EXPECT(board_linked(&b, 2, 2, 0, &v) == 22); /* before 2 */
+    EXPECT(board_linked(&b, 1, 1, 0, &v) == 22); /* before 7 */
+    EXPECT(board_linked(&b, 0, 1, 289, &v) == 11);
+    EXPECT(board_linked(&b, 0, 2, 0, &v) == 2);
+    EXPECT(board_linked(&b, 1, 0, 0, &v) == 7);
+    EXPECT(board_linked(&one, 0, 0, 0, &v) == 22);
+    EXPECT(v == 77 && kind == 77 && rate == 77 && bit_time == 77);
+    EXPECT(seen.flag == 7 && seen.sck == 7 && seen.sdo == 7 && seen.ss == 7);
+    EXPECT(kept(copy, 9, 9));
+    end("21, then 22, then the module's own refusals");
+}
+
+/* Document 01's clock figure, beside modules of other kinds. */
+static void clocks(void)
+{
+    struct board b = fresh(3);
+    int kind = 77;
+    double rate = 77, bit_time = 77;
+
+    enable(&b, 0, 0x0000, 0);
+    enable(&b, 1, 0x003A, 0);
+    EXPECT(board_clock(&b, 1, 40000000, &kind, &rate, &bit_time) == 0);
+    EXPECT(kind == 1 && rate == 5000000.0 && bit_time == 8.0 / 40000000.0);
+    EXPECT(board_clock(&b, 0, 40000000, &kind, &rate, &bit_time) == 0);
+    EXPECT(kind == 2 && rate == 40000000.0);
+    EXPECT(board_clock(&b, 2, 40000000, &kind, &rate, &bit_time) == 0);
+    EXPECT(kind == 0);
+    end("clock reports of three modules");
+}
+
+/* ---- random calls -------------------------------------------------------- */
+
+static unsigned long seed, calls, made;
+
+static void fail(const char *what)
+{
+    printf("FAIL seed %lu call %lu: %s\n", seed, made, what);
+    exit(1);
+}
+
+static uint64_t rs;
+
+static unsigned rnd(unsigned n)
+{
+    rs ^= rs << 13;
+    rs ^= rs >> 7;
+    rs ^= rs << 17;
+    return (unsigned)((rs >> 11) % n);
+}
+
+static int one_in(unsigned n) { return rnd(n) == 0; }
+
+enum kind {
+    POWER_UP, READ, WRITE, TICK, PINS, CLEAR, CLOCK, SEE, LINKED, KINDS
+};
+static const char *const kind_name[KINDS] = {
+    "power-up", "read", "write", "tick", "pins", "clear",
+    "clock",    "levels", "linked"};
+
+struct call {
+    enum kind kind;
+    uint32_t n, other; /* the other one: a linked run's client */
+    unsigned x, y, z;
+};
+
+/* What a call answers and tells; all of it is set before the call. */
+struct told {
+    int answer;
+    unsigned value;
+    int kind;
+    double rate, bit_time;
+    struct board_levels seen;
+};
+
+static void ask_board(struct board *b, const struct call *c, struct told *t)
+{
+    switch (c->kind) {
+    case POWER_UP: t->answer = board_power_up(b, c->n); break;
+    case READ: t->answer = board_read(b, c->n, c->x, &t->value); break;
+    case WRITE: t->answer = board_write(b, c->n, c->x, c->y); break;
+    case TICK: t->answer = board_tick(b, c->n, (int)c->x, (int)c->y); break;
+    case PINS:
+        t->answer = board_pins(b, c->n, (int)c->x, (int)c->y, (int)c->z);
+        break;
+    case CLEAR: t->answer = board_clear(b, c->n); break;
+    case CLOCK:
+        t->answer = board_clock(b, c->n, c->x, &t->kind, &t->rate,
+                                &t->bit_time);
+        break;
+    case SEE: t->answer = board_see(b, c->n, &t->seen); break;
+    default:
+        t->answer = board_linked(b, c->n, c->other, c->x, &t->value);
+        break;
+    }
+}
+
+static void ask_alone(struct ref_spi *m, struct ref_spi *other,
+                      const struct call *c, struct told *t)
+{
+    t->answer = 0;
+    switch (c->kind) {
+    case POWER_UP: ref_power_up(m); break;
+    case READ: t->answer = ref_read(m, c->x, &t->value); break;
+    case WRITE: t->answer = ref_write(m, c->x, c->y); break;
+    case TICK: t->answer = ref_tick(m, (int)c->x, (int)c->y); break;
+    case PINS:
+        t->answer = ref_pins(m, (int)c->x, (int)c->y, (int)c->z);
+        break;
+    case CLEAR: ref_clear(m); break;
+    case CLOCK:
+        t->answer = ref_clock(m, c->x, &t->kind, &t->rate, &t->bit_time);
+        break;
+    case SEE:
+        t->seen.flag = ref_flag(m);
+        t->seen.sck = ref_sck(m);
+        t->seen.sdo = ref_sdo(m);
+        t->seen.ss = ref_ss(m);
+        break;
+    default: t->answer = ref_linked(m, other, c->x, &t->value); break;
+    }
+}
+
+/* The list with a module before it and one behind, and the plain models. */
+static struct ref_spi list[8], alone[6];
+static struct ref_spi guard;
+static size_t count;
+
+/* How often each kind of call was done, by the list's length and the module's
+ * number; refused with 21 and 22, by kind; linked runs, by their two; 21 where
+ * 22 stands behind it; 22 where 1, 8, 11, 2 and 7 do; 21 where they do. */
+static unsigned long done[KINDS][5][4], refused[2][KINDS], pairs[4][4];
+static unsigned long both_wrong, twice, own_refusals;
+enum behind { ONE, TWO, SEVEN, EIGHT, ELEVEN, BEHINDS };
+static const char *const behind_name[BEHINDS] = {"1", "2", "7", "8", "11"};
+static unsigned long behind[2][BEHINDS];
+
+/* The refusal of the module's own that stands behind 21 or 22, as far as the
+ * module is there at all. */
+static void meet_behind(const struct call *c, int which)
+{
+    const struct ref_spi *m = c->n < count ? &alone[c->n] : 0;
+    const struct ref_spi *o = c->other < count ? &alone[c->other] : 0;
+    int linked = c->kind == LINKED;
+
+    if ((c->kind == READ || c->kind == WRITE) && c->x > 3)
+        behind[which][ONE]++;
+    if (c->kind == CLOCK && c->x == 0)
+        behind[which][EIGHT]++;
+    if (linked && c->x > 288)
+        behind[which][ELEVEN]++;
+    if ((linked || c->kind == TICK) && ((m && !m->spien) ||
+                                        (linked && o && !o->spien)))
+        behind[which][TWO]++;
+    else if ((linked || c->kind == TICK) && m && !(m->msten && !m->dissck))
+        behind[which][SEVEN]++;
+}
+
+static void meet(const struct call *c, int answer)
+{
+    int there = c->n < count && (c->kind != LINKED || c->other < count);
+    int same = c->kind == LINKED && c->n == c->other;
+
+    if (answer == 21 || answer == 22) {
+        refused[answer - 21][c->kind]++;
+        both_wrong += answer == 21 && !(there && !same);
+        twice += answer == 22 && there && same;
+        meet_behind(c, answer - 21);
+        return;
+    }
+    own_refusals += answer > 0;
+    done[c->kind][count][c->n]++;
+    if (c->kind == LINKED && answer == 0)
+        pairs[c->n][c->other]++;
+}
+
+static void make(const struct call *c)
+{
+    struct board b = {list + 1, count};
+    struct told t, want;
+    int there = c->n < count && (c->kind != LINKED || c->other < count);
+
+    made++;
+    memset(&t, 0, sizeof t);
+    t.value = 77777;
+    t.kind = 77;
+    t.rate = t.bit_time = 77;
+    memcpy(&want, &t, sizeof t);
+    ask_board(&b, c, &t);
+    if (count < 1 || count > 4)
+        want.answer = 21;
+    else if (!there || (c->kind == LINKED && c->n == c->other))
+        want.answer = 22;
+    else
+        ask_alone(&alone[c->n], &alone[c->kind == LINKED ? c->other : c->n], c,
+                  &want);
+    if (memcmp(&t, &want, sizeof t) != 0)
+        fail("another answer than that of the module alone");
+    if (memcmp(list + 1, alone, count * sizeof alone[0]) != 0)
+        fail("a module of the list is another");
+    if (memcmp(&list[0], &guard, sizeof guard) != 0 ||
+        memcmp(&list[1 + count], &guard, sizeof guard) != 0)
+        fail("a module beside the list changed");
+    meet(c, t.answer);
+}
+
+/* A module's number: most often one that is there. */
+static uint32_t some_number(void)
+{
+    static const uint32_t far[] = {4,       5,       6,           255, 256,
+                                   0x10000, 0x10001, 0x80000000u, 0xFFFFFFFFu};
+
+    if (one_in(12))
+        return far[rnd(9)];
+    return one_in(12) ? (uint32_t)count : rnd(count > 0 ? (unsigned)count : 2);
+}
+
+static void call(enum kind kind, uint32_t n, unsigned x, unsigned y, unsigned z)
+{
+    struct call c = {POWER_UP, 0, 0, 0, 0, 0};
+
+    c.kind = kind;
+    c.n = n;
+    c.x = x;
+    c.y = y;
+    c.z = z;
+    make(&c);
+}
+
+static void link_two(void)
+{
+    struct call c = {LINKED, 0, 0, 0, 0, 0};
+    uint32_t h = some_number(), o = some_number();
+    unsigned modes = rnd(0x10000) & 0x0440;
+
+    if (!one_in(4)) {
+        call(WRITE, h, 0, 0, 0);
+        call(WRITE, o, 0, 0, 0);
+        call(WRITE, h, 1, 0x0020 | modes, 0);
+        call(WRITE, o, 1, 0x0080 | (one_in(6) ? 0 : modes), 0);
+        call(WRITE, h, 2, rnd(2), 0);
+        call(WRITE, o, 2, rnd(2), 0);
+        call(WRITE, h, 0, 0x8000 | rnd(0x20), 0);
+        call(WRITE, o, 0, 0x8000 | rnd(0x20), 0);
+    }
+    call(WRITE, h, 3, rnd(0x10000), 0);
+    call(WRITE, o, 3, rnd(0x10000), 0);
+    c.n = h;
+    c.other = o;
+    c.x = one_in(4) ? 285 + rnd(8) : rnd(289);
+    make(&c);
+}
+
+static void any_call(void)
+{
+    static const unsigned con1[] = {0x0020, 0x0420, 0x0120, 0x0080, 0x0480,
+                                    0x0180, 0x0000, 0x1020, 0x0060, 0x003F};
+    uint32_t n = some_number();
+    int i;
+
+    switch (rnd(14)) {
+    case 0: call(WRITE, n, rnd(6), rnd(0x10000), 0); break;
+    case 1: call(READ, n, one_in(2) ? 3 : rnd(6), 0, 0); break;
+    case 2:
+        if (one_in(6))
+            call(POWER_UP, n, 0, 0, 0);
+        break;
+    case 3: call(CLEAR, n, 0, 0, 0); break;
+    case 4: call(CLOCK, n, one_in(4) ? 0 : rnd(0x7FFFFFFF), 0, 0); break;
+    case 5: call(SEE, n, 0, 0, 0); break;
+    case 6: link_two(); break;
+    case 7:
+        if (!one_in(3))
+            break;
+        call(WRITE, n, 0, rnd(0x8000), 0);
+        call(WRITE, n, 1, con1[rnd(10)], 0);
+        call(WRITE, n, 2, rnd(0x10000) & (one_in(4) ? 0xE003 : 1), 0);
+        call(WRITE, n, 0, 0x8000 | rnd(0x40), 0);
+        break;
+    case 8:
+        for (i = 0; i < 3; i++)
+            call(WRITE, n, 3, rnd(0x10000), 0);
+        break;
+    default:
+        for (i = 0; i < 18; i++) {
+            if (n < 6 && alone[n].msten && !alone[n].dissck)
+                call(TICK, n, rnd(2), rnd(2), 0);
+            else
+                call(PINS, n, (unsigned)i & 1, rnd(2), one_in(40));
+        }
+        call(one_in(2) ? TICK : PINS, n, rnd(2), rnd(2), rnd(2));
+        break;
+    }
+}
+
+/* A new list, of none to six modules and mostly of one to four, and calls. */
+static void run_list(void)
+{
+    int i, n = 50 + (int)rnd(400);
+
+    count = one_in(5) ? rnd(7) : 1 + rnd(4);
+    memset(&guard, (int)rnd(256), sizeof guard);
+    for (i = 0; i < 8; i++)
+        list[i] = guard;
+    for (i = 0; i < 6; i++) {
+        ref_power_up(&alone[i]);
+        if (i < (int)count) {
+            /* a list that is too long has modules at work too */
+            if (one_in(2)) {
+                (void)ref_write(&alone[i], 1, one_in(2) ? 0x20 : 0x80);
+                (void)ref_write(&alone[i], 0, 0x8000);
+                (void)ref_write(&alone[i], 3, rnd(0x100));
+            }
+            list[1 + i] = alone[i];
+        }
+    }
+    while (n-- > 0 && made < calls)
+        any_call();
+}
+
+static int missing;
+
+static void print_met(const char *what, unsigned long n)
+{
+    printf(" %s: %lu", what, n);
+    missing += n == 0;
+}
+
+static void print_all(void)
+{
+    static const char *const name[2] = {"21", "22"};
+    size_t length;
+    unsigned n, o;
+    int k, w;
+
+    for (k = 0; k < KINDS; k++) {
+        printf("%s:", kind_name[k]);
+        for (length = k == LINKED ? 2 : 1; length <= 4; length++) {
+            for (n = 0; n < length; n++) {
+                printf(" %lu", done[k][length][n]);
+                missing += done[k][length][n] == 0;
+            }
+            printf(length < 4 ? "," : "\n");
+        }
+    }
+    for (w = 0; w < 2; w++) {
+        printf("%s:", name[w]);
+        for (k = 0; k < KINDS; k++)
+            print_met(kind_name[k], refused[w][k]);
+        printf("\n%s stands before:", name[w]);
+        for (k = 0; k < BEHINDS; k++)
+            print_met(behind_name[k], behind[w][k]);
+        printf("\n");
+    }
+    printf("21 stands before 22: %lu, the same one twice: %lu, refused by the "
+           "module: %lu\nlinked runs of four modules and fewer:",
+           both_wrong, twice, own_refusals);
+    missing += (both_wrong == 0) + (twice == 0) + (own_refusals == 0);
+    for (n = 0; n < 4; n++) {
+        for (o = 0; o < 4; o++) {
+            if (n == o)
+                continue;
+            printf(" %lu", pairs[n][o]);
+            missing += pairs[n][o] == 0;
+        }
+    }
+    printf("\n");
+}
+
+int main(int argc, char **argv)
+{
+    seed = argc > 1 ? strtoul(argv[1], 0, 10) : 1;
+    calls = argc > 2 ? strtoul(argv[2], 0, 10) : 1000000;
+    each_by_itself();
+    every_two();
+    order();
+    clocks();
+    if (failures > 0)
+        return 1;
+    rs = seed * UINT64_C(0x9E3779B97F4A7C15) + 1;
+    while (made < calls)
+        run_list();
+    print_all();
+    printf("%lu calls on boards%s\n", made,
+           missing ? ", but not everything was met" : "");
+    return missing != 0;
+}
