@@ -1,6 +1,6 @@
 /* Runs every case for the proved library and for plain C in turn, many short
- * rounds, and then the library's boards beside its own calls. It prints one line
- * for each: its name, the unit, the best processor time of each side in
+ * rounds, and then the library's boards beside its own calls. It prints one
+ * line for each: its name, the unit, the best processor time of each side in
  * nanoseconds for a unit, and what the sides are, between tabs.
  *
  * usage: bench [rounds]
@@ -39,6 +39,11 @@ static const struct ways boards[] = {
      {"board", "own call"},
      {tick_on_board, tick_alone},
      2000},
+    {"words owed by four modules",
+     "call",
+     {"asked", "walk"},
+     {ask_board, walk_board},
+     60},
 };
 
 static int rounds;

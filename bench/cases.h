@@ -36,4 +36,9 @@ extern const struct side library_side, plain_side;
 struct outcome tick_on_board(uint32_t times);
 struct outcome tick_alone(uint32_t times);
 
+/* How many words a board of four enhanced hosts owes: asked of the board, and
+ * by a walk of its modules. */
+struct outcome ask_board(uint32_t times);
+struct outcome walk_board(uint32_t times);
+
 #endif

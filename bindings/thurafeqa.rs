@@ -58,7 +58,7 @@ pub mod register {
 
 /// The version of this file: major, minor and patch numbers. [`version`] tells the library's.
 #[allow(dead_code)]
-pub const VERSION: (u8, u8, u8) = (4, 3, 0);
+pub const VERSION: (u8, u8, u8) = (5, 0, 0);
 
 /// The format of a module's words. It rises wherever their meaning changes, so save it beside them.
 #[allow(dead_code)]
@@ -94,9 +94,13 @@ unsafe extern "C" {
     unsafe fn thurafeqa_play(m: &mut Module, file: *const u8, length: usize) -> u32;
     unsafe fn thurafeqa_save(script: *const u8, length: usize, file: *mut u8, room: usize) -> u32;
     unsafe fn thurafeqa_board_call(
-        modules: *mut Module, count: usize, n: u32, kind: u32, x: u32, y: u32, z: u32, report: &mut ClockReport,
-    ) -> u32;
-    unsafe fn thurafeqa_board_linked(modules: *mut Module, count: usize, host: u32, client: u32, limit: u32) -> u32;
+        modules: *mut Module, count: usize, owed: u32, n: u32, kind: u32, x: u32, y: u32, z: u32,
+        report: &mut ClockReport,
+    ) -> u64;
+    unsafe fn thurafeqa_board_linked(
+        modules: *mut Module, count: usize, owed: u32, host: u32, client: u32, limit: u32,
+    ) -> u64;
+    safe fn thurafeqa_board_owed(count: usize, owed: u32) -> u32;
     safe fn thurafeqa_version() -> u32;
     safe fn thurafeqa_format() -> u32;
 }
@@ -399,11 +403,14 @@ impl Default for Module {
 /// Every call is refused with `BadList` if the list has no module or more than four, then with `NoModule` if there is no module
 /// with that number. Both come before the refusals that the call has on a module alone, and change nothing.
 ///
+/// The board keeps how many words its modules have accepted and not yet finished, see [`Board::owed`].
+///
 /// Traces are played and scripts saved on single modules alone.
 #[allow(dead_code)]
 #[derive(Debug)]
 pub struct Board<'a> {
     modules: &'a mut [Module],
+    owed: u16,
 }
 
 // The kinds of calls on a board.
@@ -422,7 +429,7 @@ impl<'a> Board<'a> {
     ///
     /// Refused: `BadList`, and the modules are as they were.
     pub fn new(modules: &'a mut [Module]) -> Result<Board<'a>, Refusal> {
-        let mut board = Board::with(modules);
+        let mut board = Board::with(modules, 0);
         board.power_up(0)?;
         for n in 1..board.modules.len() as u32 {
             board.power_up(n)?;
@@ -430,9 +437,19 @@ impl<'a> Board<'a> {
         Ok(board)
     }
 
-    /// A board of these modules as they are. A list of the wrong length is told by each call.
-    pub fn with(modules: &'a mut [Module]) -> Board<'a> {
-        Board { modules }
+    /// A board of these modules as they are, which owe so many words: what [`Board::owed`] told of the same modules, as where a
+    /// board is restored. With another number the modules are what they are, and the number only moves with them, within 0 and
+    /// 65,535. A list of the wrong length is told by each call.
+    pub fn with(modules: &'a mut [Module], owed: u16) -> Board<'a> {
+        Board { modules, owed }
+    }
+
+    /// How many words do the modules still owe: accepted and not yet finished, in their shift registers and waiting? A filler is
+    /// none. It is what the board keeps: no module is looked at.
+    ///
+    /// Refused: `BadList`.
+    pub fn owed(&self) -> Result<u16, Refusal> {
+        value(thurafeqa_board_owed(self.modules.len(), self.owed.into()))
     }
 
     /// The modules.
@@ -440,9 +457,17 @@ impl<'a> Board<'a> {
         self.modules
     }
 
+    // The words owed are in the upper half, the answer in the lower.
+    fn keep(&mut self, both: u64) -> u32 {
+        self.owed = (both >> 32) as u16;
+        both as u32
+    }
+
     fn ask(&mut self, n: u32, kind: u32, x: u32, y: u32, z: u32, report: &mut ClockReport) -> u32 {
+        let (list, count) = (self.modules.as_mut_ptr(), self.modules.len());
         // SAFETY: the pointer and the length are a slice's, which can be changed
-        unsafe { thurafeqa_board_call(self.modules.as_mut_ptr(), self.modules.len(), n, kind, x, y, z, report) }
+        let both = unsafe { thurafeqa_board_call(list, count, self.owed.into(), n, kind, x, y, z, report) };
+        self.keep(both)
     }
 
     fn call(&mut self, n: u32, kind: u32, x: u32, y: u32, z: u32) -> Result<u16, Refusal> {
@@ -513,10 +538,10 @@ impl<'a> Board<'a> {
     /// A linked run of two modules of the board, which changes those two; see [`Module::linked`]. `NoModule` also if both are
     /// the same.
     pub fn linked(&mut self, host: u32, client: u32, limit: u32) -> Result<u16, Refusal> {
+        let (list, count) = (self.modules.as_mut_ptr(), self.modules.len());
         // SAFETY: the pointer and the length are a slice's, which can be changed
-        let answer =
-            unsafe { thurafeqa_board_linked(self.modules.as_mut_ptr(), self.modules.len(), host, client, limit) };
-        value(answer)
+        let both = unsafe { thurafeqa_board_linked(list, count, self.owed.into(), host, client, limit) };
+        value(self.keep(both))
     }
 }
 

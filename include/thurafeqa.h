@@ -65,8 +65,8 @@ extern "C" {
 /* The version of this header. thurafeqa_version() tells the library's: the two
  * must have the same major number, and the library's minor number must not be
  * lower. */
-#define THURAFEQA_VERSION_MAJOR 4u
-#define THURAFEQA_VERSION_MINOR 3u
+#define THURAFEQA_VERSION_MAJOR 5u
+#define THURAFEQA_VERSION_MINOR 0u
 #define THURAFEQA_VERSION_PATCH 0u
 #define THURAFEQA_VERSION                                                      \
     (THURAFEQA_VERSION_MAJOR << 16 | THURAFEQA_VERSION_MINOR << 8 |            \
@@ -115,8 +115,8 @@ static inline uint16_t thurafeqa_refusal(uint32_t answer)
     return (uint16_t)(answer >> 16);
 }
 
-/* What an answer tells: a register's value, or a number of edges, calls or
- * bytes. */
+/* What an answer tells: a register's value, or a number of edges, calls, bytes
+ * or words. */
 static inline uint16_t thurafeqa_value(uint32_t answer)
 {
     return (uint16_t)(answer & 0xFFFFu);
@@ -276,17 +276,22 @@ uint32_t thurafeqa_save(const uint8_t *script, size_t length, uint8_t *file,
 
 /* A board: one to four modules that lie one behind the other. `modules` points
  * to the first, SPI1, which has the number 0, and `count` says how many there
- * are. The list is the caller's, who may also make calls on its modules
- * directly. thurafeqa_board_start powers all of them up:
+ * are; `owed` is how many words they have accepted and not yet finished. The
+ * list is the caller's. thurafeqa_board_start powers all its modules up:
  *
  *     thurafeqa spi[4];
  *     thurafeqa_board board;
  *     thurafeqa_board_start(&board, spi, 4);
  *
- * A list that is powered up already needs only the two fields to be set. */
+ * From then on each call on the board keeps `owed`, as long as no module of the
+ * list is changed otherwise: by a call on it alone, a trace that is played on
+ * it or another board. Save and restore `owed` together with the modules. A
+ * board with another number there is safe to pass, and its modules are what
+ * they are: the number only moves with them, and stays within 0 and 65,535. */
 typedef struct {
     thurafeqa *modules;
     size_t count;
+    uint16_t owed;
 } thurafeqa_board;
 
 /* The calls on a board. Each has the name of the call on one module, with
@@ -294,16 +299,19 @@ typedef struct {
  * on that module alone; no other module changes. Those that are never refused
  * on a module alone answer here too: levels with the levels as their value, the
  * others with 0.
- * Refusals: 21 (the list has no module, or more than four), then 22 (there is no
- * module with that number; linked: also if both are the same). Both are tested
- * before all others, and leave every module as it was.
+ * Refusals: 21 (the list has no module, or more than four), then 22 (there is
+ * no module with that number; linked: also if both are the same). Both are
+ * tested before all others, and leave every module and `owed` as they were.
  * Traces are played and scripts saved on single modules alone.
  *
- * Use the functions over thurafeqa_board below. They call two of the library,
- * which a program need not call itself: thurafeqa_board_linked, and for all
- * others thurafeqa_board_call. That one takes a kind of call, a kind above 7
- * counting as 7, and its arguments in their order, those left over having no
- * effect. Only a clock report that is not refused writes to *report. */
+ * Use the functions over thurafeqa_board below. They call three of the library,
+ * which a program need not call itself: thurafeqa_board_owed for the question,
+ * thurafeqa_board_linked for the linked run, and thurafeqa_board_call for all
+ * others. That one takes a kind of call, a kind above 7 counting as 7, and its
+ * arguments in their order, those left over having no effect. Only a clock
+ * report that is not refused writes to *report. Both answer in 64 bits: in the
+ * lower 32 what the call answers, in the upper 32 the number of words owed
+ * after it. `owed` counts by its low 16 bits. */
 #define THURAFEQA_BOARD_POWER_UP 0u
 #define THURAFEQA_BOARD_READ 1u   /* register */
 #define THURAFEQA_BOARD_WRITE 2u  /* register, value */
@@ -312,11 +320,20 @@ typedef struct {
 #define THURAFEQA_BOARD_CLEAR 5u
 #define THURAFEQA_BOARD_CLOCK 6u  /* rate */
 #define THURAFEQA_BOARD_LEVELS 7u
-uint32_t thurafeqa_board_call(thurafeqa *modules, size_t count, uint32_t n,
-                              uint32_t kind, uint32_t x, uint32_t y, uint32_t z,
-                              thurafeqa_clock_report *report);
-uint32_t thurafeqa_board_linked(thurafeqa *modules, size_t count, uint32_t host,
-                                uint32_t client, uint32_t limit);
+uint64_t thurafeqa_board_call(thurafeqa *modules, size_t count, uint32_t owed,
+                              uint32_t n, uint32_t kind, uint32_t x, uint32_t y,
+                              uint32_t z, thurafeqa_clock_report *report);
+uint64_t thurafeqa_board_linked(thurafeqa *modules, size_t count, uint32_t owed,
+                                uint32_t host, uint32_t client,
+                                uint32_t limit);
+uint32_t thurafeqa_board_owed(size_t count, uint32_t owed);
+
+/* Keeps the number of words owed, and hands the answer on. */
+static inline uint32_t thurafeqa_board_keep(thurafeqa_board *b, uint64_t both)
+{
+    b->owed = (uint16_t)(both >> 32);
+    return (uint32_t)(both & 0xFFFFFFFFu);
+}
 
 /* A call that is no clock report. */
 static inline uint32_t thurafeqa_board_ask(thurafeqa_board *b, uint32_t n,
@@ -324,9 +341,20 @@ static inline uint32_t thurafeqa_board_ask(thurafeqa_board *b, uint32_t n,
                                            uint32_t y, uint32_t z)
 {
     thurafeqa_clock_report unused;
+    uint64_t both = thurafeqa_board_call(b->modules, b->count, b->owed, n, kind,
+                                         x, y, z, &unused);
 
-    return thurafeqa_board_call(b->modules, b->count, n, kind, x, y, z,
-                                &unused);
+    return thurafeqa_board_keep(b, both);
+}
+
+/* How many words does the board still owe? The answer's value is the number of
+ * words that its modules have accepted and not yet finished, in their shift
+ * registers and waiting; a filler is none. It is what the board keeps: no
+ * module is looked at.
+ * Refusal: 21. */
+static inline uint32_t thurafeqa_board_owes(const thurafeqa_board *b)
+{
+    return thurafeqa_board_owed(b->count, b->owed);
 }
 
 static inline uint32_t thurafeqa_board_power_up(thurafeqa_board *b, uint32_t n)
@@ -376,19 +404,25 @@ static inline uint32_t thurafeqa_board_clock(thurafeqa_board *b, uint32_t n,
                                              uint32_t rate,
                                              thurafeqa_clock_report *report)
 {
-    return thurafeqa_board_call(b->modules, b->count, n, THURAFEQA_BOARD_CLOCK,
-                                rate, 0, 0, report);
+    uint64_t both = thurafeqa_board_call(b->modules, b->count, b->owed, n,
+                                         THURAFEQA_BOARD_CLOCK, rate, 0, 0,
+                                         report);
+
+    return thurafeqa_board_keep(b, both);
 }
 
 /* A linked run of two modules of the board, which changes those two. */
 static inline uint32_t thurafeqa_board_run(thurafeqa_board *b, uint32_t host,
                                            uint32_t client, uint32_t limit)
 {
-    return thurafeqa_board_linked(b->modules, b->count, host, client, limit);
+    uint64_t both = thurafeqa_board_linked(b->modules, b->count, b->owed, host,
+                                           client, limit);
+
+    return thurafeqa_board_keep(b, both);
 }
 
-/* Makes a board of a list and powers all its modules up; what they held before
- * may be anything.
+/* Makes a board of a list and powers all its modules up, so that no word is
+ * owed; what they held before may be anything.
  * Refusal: 21, and the modules are as they were. */
 static inline uint32_t thurafeqa_board_start(thurafeqa_board *b,
                                              thurafeqa *modules, size_t count)
@@ -397,6 +431,7 @@ static inline uint32_t thurafeqa_board_start(thurafeqa_board *b,
 
     b->modules = modules;
     b->count = count;
+    b->owed = 0;
     do
         answer = thurafeqa_board_power_up(b, n);
     while (thurafeqa_refusal(answer) == 0 && ++n < count);

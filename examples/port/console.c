@@ -1,6 +1,7 @@
 /* A console with a board of four modules. SPI1 and SPI2 are joined by a wire on
  * the board, SPI3 has its output joined to its input, and SPI4 is not in use.
- * The firmware names a module by its place in the list, from 0. */
+ * The firmware names a module by its place in the list, from 0. A screen shows
+ * how many words are still to be sent. */
 #include "thurafeqa.h"
 
 #include <stdio.h>
@@ -26,7 +27,7 @@ static void open_module(thurafeqa_board *b, uint32_t n, uint16_t con1,
 
 static void print_board(thurafeqa_board *b)
 {
-    printf("STAT");
+    printf("owed %d, STAT", told("owed", thurafeqa_board_owes(b)));
     for (uint32_t n = 0; n < MODULES; n++)
         printf(" SPI%u %04X", (unsigned)n + 1,
                told("STAT read", thurafeqa_board_read(b, n, THURAFEQA_STAT)));
@@ -66,6 +67,7 @@ static void send_round(thurafeqa_board *b, uint8_t byte)
     int edges = 0;
 
     told("BUF write", thurafeqa_board_write(b, SPI3, THURAFEQA_BUF, byte));
+    print_board(b);
     for (;;) {
         uint16_t levels = told("levels", thurafeqa_board_levels(b, SPI3));
 
@@ -82,7 +84,7 @@ static void send_round(thurafeqa_board *b, uint8_t byte)
 int main(void)
 {
     thurafeqa spi[MODULES + 1];
-    thurafeqa_board board, longer = {spi, MODULES + 1};
+    thurafeqa_board board, longer = {spi, MODULES + 1, 0};
 
     told("start", thurafeqa_board_start(&board, spi, MODULES));
     open_module(&board, SPI1, THURAFEQA_CON1_MSTEN | THURAFEQA_CON1_MODE16,
@@ -94,12 +96,21 @@ int main(void)
     send_round(&board, 0xA5);
     print_board(&board);
 
+    /* two words, one of them under way, are dropped by disabling */
+    told("BUF write", thurafeqa_board_write(&board, SPI3, THURAFEQA_BUF, 1));
+    told("BUF write", thurafeqa_board_write(&board, SPI3, THURAFEQA_BUF, 2));
+    told("tick", thurafeqa_board_tick(&board, SPI3, 0, 0));
+    print_board(&board);
+    told("STAT write", thurafeqa_board_write(&board, SPI3, THURAFEQA_STAT, 0));
+    print_board(&board);
+
     /* what a port may get wrong: nothing changes */
     told("read of SPI5", thurafeqa_board_read(&board, 4, THURAFEQA_STAT));
     told("run of SPI1 with itself",
          thurafeqa_board_run(&board, SPI1, SPI1, 288));
     told("read on a board of five",
          thurafeqa_board_read(&longer, SPI1, THURAFEQA_STAT));
+    told("question to a board of five", thurafeqa_board_owes(&longer));
     told("tick of SPI4", thurafeqa_board_tick(&board, SPI4, 0, 0));
     print_board(&board);
     return 0;

@@ -1,6 +1,6 @@
 //! A console with a board of four modules. SPI1 and SPI2 are joined by a wire on the board, SPI3 has its output joined to its
-//! input, and SPI4 is not in use. The firmware names a module by its place in the list, from 0. It prints what console.c
-//! prints.
+//! input, and SPI4 is not in use. The firmware names a module by its place in the list, from 0. A screen shows how many words
+//! are still to be sent. It prints what console.c prints.
 
 #[path = "../../bindings/thurafeqa.rs"]
 mod thurafeqa;
@@ -20,7 +20,7 @@ fn open(b: &mut Board, n: u32, con1: u16, con2: u16) -> Result<(), Refusal> {
 }
 
 fn print_board(b: &mut Board) -> Result<(), Refusal> {
-    print!("STAT");
+    print!("owed {}, STAT", b.owed()?);
     for n in SPI1..=SPI4 {
         print!(" SPI{} {:04X}", n + 1, b.read(n, STAT)?);
     }
@@ -50,6 +50,7 @@ fn send_text(b: &mut Board, text: &[u8]) -> Result<(), Refusal> {
 fn send_round(b: &mut Board, byte: u8) -> Result<(), Refusal> {
     let mut edges = 0;
     b.write(SPI3, BUF, byte.into())?;
+    print_board(b)?;
     loop {
         let sdi = b.sdo(SPI3)? == Sdo::High;
         if !b.tick(SPI3, sdi, false)? {
@@ -77,11 +78,22 @@ fn main() -> Result<(), Refusal> {
     send_round(&mut b, 0xA5)?;
     print_board(&mut b)?;
 
+    // two words, one of them under way, are dropped by disabling
+    b.write(SPI3, BUF, 1)?;
+    b.write(SPI3, BUF, 2)?;
+    b.tick(SPI3, false, false)?;
+    print_board(&mut b)?;
+    b.write(SPI3, STAT, 0)?;
+    print_board(&mut b)?;
+
     // what a port may get wrong: nothing changes
     refused("read of SPI5", b.read(4, STAT));
     refused("run of SPI1 with itself", b.linked(SPI1, SPI1, 288));
-    refused("read on a board of five", Board::with(&mut spi).read(SPI1, STAT));
-    let mut b = Board::with(&mut spi[..4]);
+    let owed = b.owed()?;
+    let mut longer = Board::with(&mut spi, owed);
+    refused("read on a board of five", longer.read(SPI1, STAT));
+    refused("question to a board of five", longer.owed());
+    let mut b = Board::with(&mut spi[..4], owed);
     refused("tick of SPI4", b.tick(SPI4, false, false));
     print_board(&mut b)
 }

@@ -1,5 +1,5 @@
 /* A board of modules over the second model. A comment gives the part of request
- * Seven that the code below it follows, in other words. */
+ * Seven or Eight that the code below it follows, in other words. */
 #include "board.h"
 
 /* A board has at least one module and at most four: 21, which is looked at
@@ -26,44 +26,107 @@ static int named(const struct board *b, uint32_t n)
     return 0;
 }
 
-/* A call is made on the record that it names, as if that were alone. */
+/* ---- request Eight: the words still owed ------------------------------ */
+
+/* Accepted is what a BUF write has taken. It waits in the queue, or is loaded;
+ * at its last edge it is finished and is in neither. The word that a client
+ * under select control has begun is still the first of its queue, so it counts
+ * once. A filler was never written, and is in neither place. */
+unsigned board_owes(const struct ref_spi *m)
+{
+    return (unsigned)m->tx.n + (m->loaded ? 1u : 0u);
+}
+
+/* What a call has changed of a module's own count goes into the total. A total
+ * that was not the list's own may leave its range by that: it stays within. */
+static void keep_total(struct board *b, unsigned before, unsigned after)
+{
+    long total = (long)b->owed + (long)after - (long)before;
+
+    b->owed = total < 0            ? 0
+              : total > BOARD_MOST ? BOARD_MOST
+                                   : (unsigned)total;
+}
+
+int board_owed(const struct board *b, unsigned *total)
+{
+    if (wrong_length(b))
+        return BOARD_BAD_LIST;
+    *total = b->owed;
+    return 0;
+}
+
+/* ---- the calls --------------------------------------------------------- */
+
+/* A call is made on the record that it names, as if that were alone, and the
+ * total follows that record. */
 
 int board_power_up(struct board *b, uint32_t n)
 {
     int r = named(b, n);
+    unsigned before;
 
-    if (r == 0)
-        ref_power_up(&b->module[n]);
-    return r;
+    if (r != 0)
+        return r;
+    before = board_owes(&b->module[n]);
+    ref_power_up(&b->module[n]);
+    keep_total(b, before, board_owes(&b->module[n]));
+    return 0;
 }
 
 int board_read(struct board *b, uint32_t n, unsigned reg, unsigned *value)
 {
     int r = named(b, n);
+    unsigned before;
 
-    return r != 0 ? r : ref_read(&b->module[n], reg, value);
+    if (r != 0)
+        return r;
+    before = board_owes(&b->module[n]);
+    r = ref_read(&b->module[n], reg, value);
+    keep_total(b, before, board_owes(&b->module[n]));
+    return r;
 }
 
 int board_write(struct board *b, uint32_t n, unsigned reg, unsigned value)
 {
     int r = named(b, n);
+    unsigned before;
 
-    return r != 0 ? r : ref_write(&b->module[n], reg, value);
+    if (r != 0)
+        return r;
+    before = board_owes(&b->module[n]);
+    r = ref_write(&b->module[n], reg, value);
+    keep_total(b, before, board_owes(&b->module[n]));
+    return r;
 }
 
 int board_tick(struct board *b, uint32_t n, int sdi, int ss)
 {
     int r = named(b, n);
+    unsigned before;
 
-    return r != 0 ? r : ref_tick(&b->module[n], sdi, ss);
+    if (r != 0)
+        return r;
+    before = board_owes(&b->module[n]);
+    r = ref_tick(&b->module[n], sdi, ss);
+    keep_total(b, before, board_owes(&b->module[n]));
+    return r;
 }
 
 int board_pins(struct board *b, uint32_t n, int sck, int sdi, int ss)
 {
     int r = named(b, n);
+    unsigned before;
 
-    return r != 0 ? r : ref_pins(&b->module[n], sck, sdi, ss);
+    if (r != 0)
+        return r;
+    before = board_owes(&b->module[n]);
+    r = ref_pins(&b->module[n], sck, sdi, ss);
+    keep_total(b, before, board_owes(&b->module[n]));
+    return r;
 }
+
+/* The interrupt flag, the clock and the levels have no part in it. */
 
 int board_clear(struct board *b, uint32_t n)
 {
@@ -101,9 +164,18 @@ int board_see(struct board *b, uint32_t n, struct board_levels *seen)
 int board_linked(struct board *b, uint32_t host, uint32_t client,
                  unsigned limit, unsigned *used)
 {
+    struct ref_spi *h, *c;
+    unsigned before;
+    int r;
+
     if (wrong_length(b))
         return BOARD_BAD_LIST;
     if (!is_there(b, host) || !is_there(b, client) || host == client)
         return BOARD_NO_MODULE;
-    return ref_linked(&b->module[host], &b->module[client], limit, used);
+    h = &b->module[host];
+    c = &b->module[client];
+    before = board_owes(h) + board_owes(c);
+    r = ref_linked(h, c, limit, used);
+    keep_total(b, before, board_owes(h) + board_owes(c));
+    return r;
 }

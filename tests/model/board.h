@@ -1,5 +1,6 @@
-/* A board: one to four modules of the second model in a list. Written from
- * request Seven of document 02 and from nothing else. */
+/* A board: one to four modules of the second model in a list, and beside it the
+ * words that they still owe. Written from requests Seven and Eight of document
+ * 02 and from nothing else. */
 #ifndef BOARD_H
 #define BOARD_H
 
@@ -10,18 +11,29 @@
 #define BOARD_MODULES 4    /* the most that a board has */
 #define BOARD_BAD_LIST 21  /* the refusals: the list's length is wrong, */
 #define BOARD_NO_MODULE 22 /* a module is not there, or is named twice */
+#define BOARD_MOST 65535   /* the most that a total holds */
 
 /* The list is lent; its first module is SPI1 and has the number 0. It may have
- * any length: the calls say that it is wrong. */
+ * any length: the calls say that it is wrong. The total is 0 where all modules
+ * are at power-up, and the calls keep it; it may be any number up to the most,
+ * but is of use only where it is the list's own. */
 struct board {
     struct ref_spi *module;
     size_t count;
+    unsigned owed;
 };
 
 /* What is seen of a module without changing it. */
 struct board_levels {
     int flag, sck, sdo, ss;
 };
+
+/* The words that a module has accepted and not finished. */
+unsigned board_owes(const struct ref_spi *m);
+
+/* The total, from what the board keeps and not from its modules: 0, or 21 and
+ * nothing is told. */
+int board_owed(const struct board *b, unsigned *total);
 
 /* The calls of one module, by its number, and the linked run of two. Each
  * answers 21 or 22, and then nothing is changed or told; else what ref_spi.h

@@ -1,14 +1,20 @@
 /* Boards of the second model (board.c). First some that are worked out: figures
- * of document 01 on modules of a board, linked runs between any two, and the
- * order of the refusals. Then random calls on lists of none to six modules:
- * beside the list goes a plain model for each of its modules, to which the same
- * calls are made one by one, and after every call
+ * of document 01 on modules of a board, linked runs between any two, the order
+ * of the refusals, and words owed. Then random calls on lists of none to six
+ * modules: beside the list goes a plain model for each of its modules, to which
+ * the same calls are made one by one, and after every call
  * - the answer is 21 exactly if the list has none or more than four, else 22
  *   exactly if a module that is named is not there or is named twice, else that
  *   of the plain model, with all that it tells;
  * - every module of the list is its plain model, byte for byte, so all but the
  *   named ones are as they were, and after a refusal all;
- * - the modules that lie before and behind the list are as they were.
+ * - the modules that lie before and behind the list are as they were;
+ * - the total of a board that was powered up whole is that of a ledger, which
+ *   counts what was accepted, less what was finished, edge by edge, and what
+ *   went by disabling and power-up. It knows no queue: a word is finished with
+ *   the last edge of one that was begun and is no filler. A linked run is made
+ *   again by single edges for it. A total that was not the list's own moves by
+ *   as much, as far as it can.
  *
  * usage: board_fuzz [seed] [calls]
  *
@@ -44,12 +50,13 @@ static struct ref_spi six[6];
 
 static struct board fresh(size_t count)
 {
-    struct board b = {six, count};
+    struct board b = {six, count, 0};
     uint32_t n;
 
     memset(six, 0x55, sizeof six);
     for (n = 0; n < count; n++)
         EXPECT(board_power_up(&b, n) == 0);
+    b.owed = 0; /* what the modules were before counts for nothing */
     return b;
 }
 
@@ -160,8 +167,8 @@ static void every_two(void)
 /* 21, then 22, then what the module says. */
 static void order(void)
 {
-    struct board b = fresh(4), none = {six, 0}, five = {six, 5};
-    struct board two = {six, 2}, one = {six, 1};
+    struct board b = fresh(4), none = {six, 0, 0}, five = {six, 5, 0};
+    struct board two = {six, 2, 0}, one = {six, 1, 0};
     struct ref_spi copy[6];
     struct board_levels seen = {7, 7, 7, 7};
     unsigned v = 77;
@@ -224,6 +231,141 @@ static void clocks(void)
     EXPECT(board_clock(&b, 2, 40000000, &kind, &rate, &bit_time) == 0);
     EXPECT(kind == 0);
     end("clock reports of three modules");
+}
+
+/* What a board says that it owes, or E0000 plus the refusal number; and the
+ * same by a walk. */
+static unsigned owed(const struct board *b)
+{
+    unsigned total = 0xFFFFFFFFu, walk = 0;
+    int r = board_owed(b, &total);
+    size_t i;
+
+    if (r != 0)
+        return total == 0xFFFFFFFFu ? 0xE0000u + (unsigned)r : 0;
+    for (i = 0; i < b->count; i++)
+        walk += board_owes(&b->module[i]);
+    EXPECT(total == walk);
+    return total;
+}
+
+/* Edges of a client, SCK being at rest before. */
+static void clock_client(struct board *b, uint32_t n, int edges)
+{
+    int i;
+
+    for (i = 0; i < edges; i++)
+        EXPECT(board_pins(b, n, ~i & 1, 0, 0) == 0);
+}
+
+/* Hosts: a word counts until its edge 2w, the one in the shift register too. */
+static void owed_by_hosts(void)
+{
+    struct board b = fresh(4);
+    unsigned i;
+
+    EXPECT(owed(&b) == 0);
+    enable(&b, 3, 0x0020, 1); /* example h */
+    for (i = 1; i <= 9; i++) {
+        EXPECT(board_write(&b, 3, 3, i) == 0);
+        EXPECT(owed(&b) == i);
+    }
+    EXPECT(board_write(&b, 3, 3, 0) == 5 && owed(&b) == 9);
+    for (i = 0; i < 15; i++)
+        EXPECT(board_tick(&b, 3, 0, 0) == 0);
+    EXPECT(owed(&b) == 9); /* example j */
+    EXPECT(board_tick(&b, 3, 0, 0) == 0 && owed(&b) == 8);
+    EXPECT(get(&b, 3, 3) == 0 && owed(&b) == 8);
+    enable(&b, 0, 0x0420, 0); /* standard: one loaded, one waiting */
+    EXPECT(board_write(&b, 0, 3, 1) == 0 && board_write(&b, 0, 3, 2) == 0);
+    EXPECT(board_write(&b, 0, 3, 3) == 5 && owed(&b) == 10);
+    EXPECT(board_write(&b, 2, 3, 1) == 2 && owed(&b) == 10);
+    EXPECT(board_write(&b, 0, 0, 0x8000) == 0 && owed(&b) == 10);
+    EXPECT(board_write(&b, 3, 0, 0) == 0 && owed(&b) == 2); /* disabled */
+    EXPECT(board_write(&b, 3, 0, 0x8000) == 0 && owed(&b) == 2);
+    EXPECT(board_write(&b, 3, 3, 5) == 0 && owed(&b) == 3);
+    EXPECT(board_power_up(&b, 0) == 0 && owed(&b) == 1);
+    EXPECT(board_clear(&b, 3) == 0 && owed(&b) == 1);
+    EXPECT(board_power_up(&b, 1) == 0 && owed(&b) == 1);
+    EXPECT(board_tick(&b, 4, 0, 0) == 22 && owed(&b) == 1);
+    end("words owed by hosts");
+}
+
+/* Clients: a begun word under SSEN counts once, an abort takes nothing away,
+ * and a filler is no word. */
+static void owed_by_clients(void)
+{
+    struct board b = fresh(2);
+
+    enable(&b, 0, 0x0080, 1);
+    EXPECT(board_write(&b, 0, 3, 0xA5) == 0 && board_write(&b, 0, 3, 1) == 0);
+    EXPECT(owed(&b) == 2);
+    clock_client(&b, 0, 7);
+    EXPECT(owed(&b) == 2);
+    EXPECT(board_pins(&b, 0, 1, 0, 1) == 0 && owed(&b) == 2); /* abort */
+    EXPECT(board_pins(&b, 0, 0, 0, 1) == 0);
+    clock_client(&b, 0, 15);
+    EXPECT(owed(&b) == 2);
+    EXPECT(board_pins(&b, 0, 0, 0, 0) == 0 && owed(&b) == 1);
+    clock_client(&b, 0, 16);
+    EXPECT(owed(&b) == 0);
+    clock_client(&b, 0, 3); /* a filler */
+    EXPECT(six[0].filler == 1 && owed(&b) == 0);
+    EXPECT(board_write(&b, 0, 3, 0x3C) == 0 && owed(&b) == 1);
+    EXPECT(board_pins(&b, 0, 1, 0, 1) == 0 && owed(&b) == 1); /* aborted */
+    EXPECT(board_pins(&b, 0, 0, 0, 1) == 0);
+    clock_client(&b, 0, 16);
+    EXPECT(owed(&b) == 0);
+    enable(&b, 1, 0x0000, 0); /* a client that loads its words */
+    clock_client(&b, 1, 2);
+    EXPECT(six[1].filler == 1 && owed(&b) == 0);
+    EXPECT(board_write(&b, 1, 3, 0x3C) == 0 && owed(&b) == 1);
+    clock_client(&b, 1, 14); /* the filler ends, the word loads */
+    EXPECT(six[1].loaded == 1 && owed(&b) == 1);
+    EXPECT(board_write(&b, 1, 3, 0x5A) == 0 && owed(&b) == 2);
+    clock_client(&b, 1, 16);
+    EXPECT(owed(&b) == 1);
+    end("words owed by clients");
+}
+
+/* Linked runs take away at both ends, and fillers nothing. */
+static void owed_on_a_wire(void)
+{
+    struct board b = fresh(3);
+    unsigned used;
+
+    enable(&b, 2, 0x0020, 1);
+    enable(&b, 0, 0x0080, 1);
+    EXPECT(board_write(&b, 2, 3, 1) == 0 && board_write(&b, 2, 3, 2) == 0);
+    EXPECT(board_write(&b, 2, 3, 3) == 0 && board_write(&b, 0, 3, 4) == 0);
+    EXPECT(owed(&b) == 4);
+    EXPECT(board_linked(&b, 2, 0, 15, &used) == 0 && owed(&b) == 4);
+    EXPECT(board_linked(&b, 2, 0, 1, &used) == 0 && owed(&b) == 2);
+    EXPECT(board_linked(&b, 2, 0, 289, &used) == 11 && owed(&b) == 2);
+    EXPECT(board_linked(&b, 2, 0, 288, &used) == 0 && used == 32);
+    EXPECT(owed(&b) == 0);
+    end("words owed on a wire");
+}
+
+/* The question asks the list's length alone; a total that is not the list's own
+ * moves with the modules and stays within its range. */
+static void totals(void)
+{
+    struct board b = fresh(4), none = {six, 0, 7}, five = {six, 5, 7};
+    int i;
+
+    EXPECT(owed(&none) == 0xE0015 && owed(&five) == 0xE0015);
+    enable(&b, 1, 0x0020, 1);
+    for (i = 0; i < 9; i++)
+        EXPECT(board_write(&b, 1, 3, 1) == 0);
+    b.owed = 4;
+    EXPECT(board_write(&b, 1, 0, 0) == 0 && b.owed == 0); /* not below 0 */
+    EXPECT(board_write(&b, 1, 0, 0x8000) == 0 && b.owed == 0);
+    b.owed = 65534;
+    EXPECT(board_write(&b, 1, 3, 1) == 0 && b.owed == 65535);
+    EXPECT(board_write(&b, 1, 3, 1) == 0 && b.owed == 65535); /* nor above */
+    EXPECT(board_write(&b, 1, 0, 0) == 0 && b.owed == 65533);
+    end("totals made otherwise");
 }
 
 /* ---- random calls -------------------------------------------------------- */
@@ -323,6 +465,12 @@ static struct ref_spi list[8], alone[6];
 static struct ref_spi guard;
 static size_t count;
 
+/* The board's total, and whether it is the list's own; and the ledger: what
+ * each module owes. */
+static unsigned total;
+static int own;
+static long ledger[6];
+
 /* How often each kind of call was done, by the list's length and the module's
  * number; refused with 21 and 22, by kind; linked runs, by their two; 21 where
  * 22 stands behind it; 22 where 1, 8, 11, 2 and 7 do; 21 where they do. */
@@ -353,6 +501,142 @@ static void meet_behind(const struct call *c, int which)
         behind[which][SEVEN]++;
 }
 
+/* Totals that went up, by a write alone; that went down, by kind, of these by
+ * several words; by disabling; that stayed at an abort of a word, a filler and
+ * a finished filler; that met an end of their range. */
+static unsigned long up, down[KINDS], down_more, down_disabled, kept_abort;
+static unsigned long kept_filler, at_none, at_most;
+static unsigned most;
+
+static int is_ssen_client(const struct ref_spi *m)
+{
+    return !m->msten && m->ssen && !m->frmen;
+}
+
+/* A single edge or none of a plain model: what its ledger says of it. */
+static void enter_edge(const struct ref_spi *was, const struct ref_spi *is,
+                       long *owes)
+{
+    int width = was->mode16 ? 16 : 8;
+    int aborted = is_ssen_client(was) && !was->ss && is->ss;
+
+    if (aborted) {
+        kept_abort += was->begun && !was->filler;
+        return;
+    }
+    if (!was->begun || is->begun || was->edges != 2 * width - 1)
+        return;
+    if (was->filler)
+        kept_filler++;
+    else
+        --*owes;
+}
+
+static int level(const struct ref_spi *m)
+{
+    return ref_sdo(m) == 1;
+}
+
+static void enter_pins(uint32_t n, int sck, int sdi, int ss)
+{
+    struct ref_spi was = alone[n];
+
+    if (ref_pins(&alone[n], sck, sdi, ss) != 0)
+        fail("pins in a linked run");
+    enter_edge(&was, &alone[n], &ledger[n]);
+}
+
+/* A linked run that is not refused, by single edges. */
+static void enter_linked(const struct call *c)
+{
+    struct ref_spi *h = &alone[c->n], *o = &alone[c->other];
+    unsigned left = c->x;
+
+    enter_pins(c->other, ref_sck(h), level(h), 0);
+    for (; left > 0; left--) {
+        struct ref_spi was = *h;
+
+        if (ref_tick(h, level(o), 0) != 0)
+            break;
+        enter_edge(&was, h, &ledger[c->n]);
+        enter_pins(c->other, ref_sck(h), level(h), 0);
+    }
+}
+
+/* Enters a call into the ledger; `was` are the modules before it, and the plain
+ * models after it are `alone`. */
+static void enter(const struct call *c, int answer, const struct ref_spi *was)
+{
+    struct ref_spi h, o;
+
+    if (answer != 0)
+        return;
+    switch (c->kind) {
+    case POWER_UP: ledger[c->n] = 0; break;
+    case WRITE:
+        if (c->x == 3)
+            ledger[c->n]++;
+        if (c->x == 0 && !(c->y & 0x8000)) {
+            down_disabled += was[c->n].spien && ledger[c->n] > 0;
+            ledger[c->n] = 0;
+        }
+        break;
+    case TICK:
+    case PINS: enter_edge(&was[c->n], &alone[c->n], &ledger[c->n]); break;
+    case LINKED:
+        h = alone[c->n];
+        o = alone[c->other];
+        alone[c->n] = was[c->n];
+        alone[c->other] = was[c->other];
+        enter_linked(c);
+        if (memcmp(&h, &alone[c->n], sizeof h) != 0 ||
+            memcmp(&o, &alone[c->other], sizeof o) != 0)
+            fail("a linked run is not its edges");
+        break;
+    default: break;
+    }
+}
+
+/* Holds the total after a call to the ledger. */
+static void hold_total(const struct call *c, const struct board *b,
+                       const long *ledger_was)
+{
+    long sum = 0, change = 0, want;
+    size_t i;
+
+    for (i = 0; i < count; i++) {
+        sum += ledger[i];
+        change += ledger[i] - ledger_was[i];
+    }
+    want = (long)total + change;
+    at_none += want < 0;
+    at_most += want > 65535;
+    want = want < 0 ? 0 : want > 65535 ? 65535 : want;
+    if ((long)b->owed != want)
+        fail("the total is not what it was and what the call changed");
+    if (own && want != sum)
+        fail("the total is not the list's");
+    up += change > 0;
+    if (change > 1 || (change > 0 && c->kind != WRITE))
+        fail("a total that rises");
+    if (change < 0)
+        down[c->kind]++;
+    down_more += change < -1;
+    if (own && b->owed > most)
+        most = b->owed;
+    total = b->owed;
+}
+
+static void hold_question(const struct board *b)
+{
+    unsigned told = 77777;
+    int r = board_owed(b, &told);
+
+    if (r != (count < 1 || count > 4 ? 21 : 0) ||
+        told != (r == 0 ? total : 77777))
+        fail("the answer of what is owed");
+}
+
 static void meet(const struct call *c, int answer)
 {
     int there = c->n < count && (c->kind != LINKED || c->other < count);
@@ -373,11 +657,15 @@ static void meet(const struct call *c, int answer)
 
 static void make(const struct call *c)
 {
-    struct board b = {list + 1, count};
+    struct board b = {list + 1, count, total};
+    struct ref_spi was[6];
+    long ledger_was[6];
     struct told t, want;
     int there = c->n < count && (c->kind != LINKED || c->other < count);
 
     made++;
+    memcpy(was, alone, sizeof was);
+    memcpy(ledger_was, ledger, sizeof ledger_was);
     memset(&t, 0, sizeof t);
     t.value = 77777;
     t.kind = 77;
@@ -398,6 +686,9 @@ static void make(const struct call *c)
     if (memcmp(&list[0], &guard, sizeof guard) != 0 ||
         memcmp(&list[1 + count], &guard, sizeof guard) != 0)
         fail("a module beside the list changed");
+    enter(c, t.answer, was);
+    hold_total(c, &b, ledger_was);
+    hold_question(&b);
     meet(c, t.answer);
 }
 
@@ -496,17 +787,24 @@ static void run_list(void)
     int i, n = 50 + (int)rnd(400);
 
     count = one_in(5) ? rnd(7) : 1 + rnd(4);
+    own = !one_in(4);
+    total = 0;
+    if (!own)
+        total = one_in(2) ? rnd(12) : one_in(2) ? 65535 - rnd(12) : rnd(65536);
     memset(&guard, (int)rnd(256), sizeof guard);
     for (i = 0; i < 8; i++)
         list[i] = guard;
     for (i = 0; i < 6; i++) {
         ref_power_up(&alone[i]);
+        ledger[i] = 0;
         if (i < (int)count) {
             /* a list that is too long has modules at work too */
             if (one_in(2)) {
                 (void)ref_write(&alone[i], 1, one_in(2) ? 0x20 : 0x80);
                 (void)ref_write(&alone[i], 0, 0x8000);
                 (void)ref_write(&alone[i], 3, rnd(0x100));
+                ledger[i] = 1;
+                total += own ? 1 : 0;
             }
             list[1 + i] = alone[i];
         }
@@ -521,6 +819,26 @@ static void print_met(const char *what, unsigned long n)
 {
     printf(" %s: %lu", what, n);
     missing += n == 0;
+}
+
+static void print_totals(void)
+{
+    static const enum kind falls[] = {POWER_UP, WRITE, TICK, PINS, LINKED};
+    int k;
+
+    printf("totals:");
+    print_met("up", up);
+    for (k = 0; k < 5; k++) {
+        printf(" down by");
+        print_met(kind_name[falls[k]], down[falls[k]]);
+    }
+    print_met("by several", down_more);
+    print_met("by disabling", down_disabled);
+    print_met("kept at an abort", kept_abort);
+    print_met("at a filler's end", kept_filler);
+    print_met("stopped at 0", at_none);
+    print_met("at 65,535", at_most);
+    printf(" the most: %u\n", most);
 }
 
 static void print_all(void)
@@ -562,6 +880,7 @@ static void print_all(void)
         }
     }
     printf("\n");
+    print_totals();
 }
 
 int main(int argc, char **argv)
@@ -572,6 +891,10 @@ int main(int argc, char **argv)
     every_two();
     order();
     clocks();
+    owed_by_hosts();
+    owed_by_clients();
+    owed_on_a_wire();
+    totals();
     if (failures > 0)
         return 1;
     rs = seed * UINT64_C(0x9E3779B97F4A7C15) + 1;

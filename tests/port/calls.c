@@ -168,21 +168,31 @@ static uint32_t ask_header(thurafeqa_board *b, const struct call *c,
     }
 }
 
-void ask_board(thurafeqa *list, const struct call *c, struct outcome *o)
+void ask_board(thurafeqa *list, uint32_t owed, const struct call *c,
+               struct outcome *o)
 {
     thurafeqa_board b;
+    uint64_t both;
 
     o->report = no_report;
-    b.modules = list;
-    b.count = c->count;
-    if (!c->direct)
+    if (!c->direct) {
+        b.modules = list;
+        b.count = c->count;
+        b.owed = (uint16_t)owed;
         o->answer = ask_header(&b, c, o);
-    else if (c->kind == LINKED)
-        o->answer = thurafeqa_board_linked(list, c->count, c->n, c->n_other,
-                                           c->x);
+        o->owed = b.owed;
+        o->owes = thurafeqa_board_owes(&b);
+        return;
+    }
+    if (c->kind == LINKED)
+        both = thurafeqa_board_linked(list, c->count, owed, c->n, c->n_other,
+                                      c->x);
     else
-        o->answer = thurafeqa_board_call(list, c->count, c->n, c->of_kind,
-                                         c->x, c->y, c->z, &o->report);
+        both = thurafeqa_board_call(list, c->count, owed, c->n, c->of_kind,
+                                    c->x, c->y, c->z, &o->report);
+    o->answer = (uint32_t)both;
+    o->owed = (uint32_t)(both >> 32);
+    o->owes = thurafeqa_board_owed(c->count, o->owed | (owed & 0xFFFF0000u));
 }
 
 /* ---- telling of calls ------------------------------------------------ */
@@ -210,9 +220,11 @@ static void print_file(const struct call *c)
 void print_call(const struct call *c)
 {
     if (c->board)
-        printf("board of %lu from module %d, %s: module %" PRIu32 ": ",
+        printf("board of %lu from module %d, %s, owing %s%" PRIX32
+               ": module %" PRIu32 ": ",
                (unsigned long)c->count, c->first,
-               c->direct ? "direct" : "header", c->n);
+               c->direct ? "direct" : "header", c->carried ? "its " : "",
+               c->owed, c->n);
     else if (concerned(c) > 0)
         printf("module %d: ", c->module);
     printf("%s", kind_name[c->kind]);
@@ -278,6 +290,8 @@ int same_answer(const struct call *c, const struct outcome *a,
 
     if (a->answer != b->answer || (c->kind != CLOCK && !c->board))
         return a->answer == b->answer;
+    if (c->board && (a->owed != b->owed || a->owes != b->owes))
+        return 0;
     return memcmp(&r->rate, &s->rate, sizeof r->rate) == 0 &&
            memcmp(&r->bittime, &s->bittime, sizeof r->bittime) == 0 &&
            memcmp(&r->below, &s->below, sizeof r->below) == 0;
@@ -309,6 +323,18 @@ uint32_t below(uint32_t n)
 int one_in(uint32_t n)
 {
     return below(n) == 0;
+}
+
+uint32_t some_total(void)
+{
+    uint32_t total = below(one_in(2) ? 3 : 24);
+    uint32_t noise = one_in(2) ? 0 : any_number() << 16;
+
+    if (one_in(3))
+        total = 0xFFFFu - total;
+    else if (one_in(3))
+        total = below(0x10000);
+    return total | noise;
 }
 
 uint32_t some_level(int high)

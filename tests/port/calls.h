@@ -40,6 +40,8 @@ struct call {
     uint32_t n, n_other;
     int direct;       /* by the library's own function, which is told this */
     uint32_t of_kind; /* kind; or else by those of the header */
+    int carried;      /* with the total that the board has, or with this one, */
+    uint32_t owed;    /* whose low 16 bits count */
 };
 
 /* Can a call of this kind be made on a board? All but plays and saves. */
@@ -94,6 +96,8 @@ extern const char *const view_name[VIEWS];
 
 struct outcome {
     uint32_t answer;
+    uint32_t owed, owes; /* on a board: the total after the call, and the */
+                         /* answer to the question, asked then */
     thurafeqa_clock_report report; /* written by a clock call alone */
     uint32_t seen[2][VIEWS];       /* of the module; of the other one */
 };
@@ -106,15 +110,17 @@ extern const thurafeqa_clock_report no_report;
 void ask_library(thurafeqa *m, thurafeqa *other, const struct call *c,
                  struct outcome *o);
 
-/* Makes a call on a board with that list. */
-void ask_board(thurafeqa *list, const struct call *c, struct outcome *o);
+/* Makes a call on a board with that list and that total, and then asks how many
+ * words it owes. */
+void ask_board(thurafeqa *list, uint32_t owed, const struct call *c,
+               struct outcome *o);
 
 /* Looks at a module, by reads of three registers, a read of BUF on a copy, and
  * the levels. */
 void see_library(thurafeqa *m, uint32_t seen[VIEWS]);
 
 /* Are the answers the same, the floats of clock reports bit for bit? On boards
- * every call is asked for a report. */
+ * every call is asked for a report, and the totals must be the same. */
 int same_answer(const struct call *c, const struct outcome *a,
                 const struct outcome *b);
 
@@ -124,6 +130,10 @@ void start_numbers(uint64_t seed);
 uint32_t any_number(void);
 uint32_t below(uint32_t n);
 int one_in(uint32_t n);
+
+/* A total of words owed that need not be right: small, near the most, or any
+ * number. */
+uint32_t some_total(void);
 
 /* A level as a caller may give it: 0, or anything else for high. */
 uint32_t some_level(int high);

@@ -5,11 +5,15 @@
  * or 12. Trace files are played too, right and wrong ones, and calls go on with
  * the module that a play has left. Scripts are saved as trace files: every byte
  * lent must agree, and the library plays the file to the module in which the
- * model ends the script. In every second sequence most calls are made on
- * boards: lists of none to six of the modules, which are named by right and by
- * wrong numbers. After each of these calls every module is looked at: those that
- * it does not name, and after a refusal all, must be byte for byte as they were,
- * and only a clock report that is not refused may write one.
+ * model ends the script. In every third sequence most calls are made on boards:
+ * lists of none to six of the modules, which are named by right and by wrong
+ * numbers. After each of these calls every module is looked at: those that it
+ * does not name, and after a refusal all, must be byte for byte as they were,
+ * and only a clock report that is not refused may write one. The totals of
+ * words owed that such calls return must agree, whatever total they were given.
+ * Another third of the sequences has a board of its own, whose modules are
+ * called through it alone: its total is handed from call to call, and must be
+ * what a walk of the model's modules counts after each of them.
  *
  * usage: compare CALLS SEED
  *
@@ -149,10 +153,10 @@ static void ask_model(struct ref_spi *m, struct ref_spi *other,
 }
 
 /* The same of a call on a board. */
-static void ask_model_board(struct ref_spi *list, const struct call *c,
-                            struct outcome *o)
+static void ask_model_board(struct ref_spi *list, uint32_t owed,
+                            const struct call *c, struct outcome *o)
 {
-    struct board b = {list, c->count};
+    struct board b = {list, c->count, owed & 0xFFFFu};
     struct board_levels seen;
     double rate = 0, bit_time = 0;
     unsigned value = 0;
@@ -186,6 +190,9 @@ static void ask_model_board(struct ref_spi *list, const struct call *c,
         break;
     }
     o->answer = as_answer(r, value);
+    o->owed = b.owed;
+    r = board_owed(&b, &value);
+    o->owes = as_answer(r, value);
 }
 
 /* ---- both sides, from power-up --------------------------------------- */
@@ -193,6 +200,7 @@ static void ask_model_board(struct ref_spi *list, const struct call *c,
 struct sides {
     thurafeqa library[MODULES];
     struct ref_spi model[MODULES];
+    uint32_t library_owed, model_owed; /* by the board of this sequence */
 };
 
 /* Power-up of all modules; before it the library's memory is filled from
@@ -201,6 +209,7 @@ static void power_up_all(struct sides *s, uint64_t noise)
 {
     size_t i, k;
 
+    s->library_owed = s->model_owed = 0;
     for (i = 0; i < MODULES; i++) {
         for (k = 0; k < sizeof s->library[i].memory / sizeof(uint16_t); k++) {
             noise *= UINT64_C(6364136223846793005);
@@ -285,8 +294,23 @@ static int find_changed(const struct sides *was, const struct sides *is,
     return -1;
 }
 
-/* A call on a board, on both sides: do they agree in the answer, in what is seen
- * of the modules that it names, and in leaving all others as they were? */
+/* What a walk of the model's modules counts of a list. */
+static uint32_t walk_owed(const struct ref_spi *list, size_t count)
+{
+    uint32_t sum = 0;
+    size_t i;
+
+    for (i = 0; i < count; i++)
+        sum += board_owes(&list[i]);
+    return sum;
+}
+
+/* The total before the last call on a board; and the walk, if it must agree. */
+static uint32_t total_before, walked_total;
+
+/* A call on a board, on both sides: do they agree in the answer, in the total,
+ * in what is seen of the modules that it names, and in leaving all others as
+ * they were? */
 static int board_both(struct sides *s, const struct call *c, struct outcome *l,
                       struct outcome *m)
 {
@@ -295,10 +319,19 @@ static int board_both(struct sides *s, const struct call *c, struct outcome *l,
     int i, same;
 
     before = *s;
-    ask_board(&s->library[c->first], c, l);
-    ask_model_board(&s->model[c->first], c, m);
+    total_before = (c->carried ? s->model_owed : c->owed) & 0xFFFFu;
+    ask_board(&s->library[c->first], c->carried ? s->library_owed : c->owed, c,
+              l);
+    ask_model_board(&s->model[c->first], total_before, c, m);
     changed_module = find_changed(&before, s, c, l->answer);
     same = same_answer(c, l, m) && changed_module < 0;
+    walked_total = m->owed;
+    if (c->carried) {
+        s->library_owed = l->owed;
+        s->model_owed = m->owed;
+        walked_total = walk_owed(&s->model[c->first], c->count);
+        same = same && l->owed == walked_total;
+    }
     for (i = 0; i < concerned(c); i++) {
         see_library(&s->library[at[i]], l->seen[i]);
         see_model(&s->model[at[i]], m->seen[i]);
@@ -427,10 +460,16 @@ static void print_differences(const struct call *c, const struct outcome *l,
 
     if (c->board && changed_module >= 0)
         printf("    module %d changed, and should not have\n", changed_module);
-    if (l->answer == m->answer && !same_answer(c, l, m)) {
+    if (c->board)
+        printf("    owed: %" PRIX32 " before; library %" PRIX32
+               " (asked: %08" PRIX32 "), model %" PRIX32 " (asked: %08" PRIX32
+               "), by a walk %" PRIX32 "\n",
+               total_before, l->owed, l->owes, m->owed, m->owes, walked_total);
+    if (l->answer == m->answer && l->owed == m->owed && l->owes == m->owes &&
+        !same_answer(c, l, m)) {
         print_report("library", &l->report);
         print_report("model", &m->report);
-    } else if (!same_answer(c, l, m)) {
+    } else if (l->answer != m->answer) {
         printf("    answer: library %08" PRIX32 ", model %08" PRIX32 "\n",
                l->answer, m->answer);
     } else if (c->kind == SAVE) {
@@ -553,6 +592,18 @@ static struct {
     unsigned long board_refused[2][LOOK + 1], bad_list[MODULES + 1];
     unsigned long bad_list_too, no_module[3], twice;
     unsigned long behind[2][REFUSALS];
+    /* totals of sequences with a board of their own: calls by kind, refused as
+     * on no board; totals that rose, that fell, by kind, those of them by more
+     * than one word, by disabling, to none; that stayed as a word was aborted,
+     * as a filler began and as it ended; the highest. Other totals: right ones,
+     * wrong ones, with bits above the 16, that were stopped at 0 and at the
+     * most, that a refusal left */
+    unsigned long carried[LOOK + 1], carried_refused, rose, fell[LOOK + 1];
+    unsigned long fell_more, fell_disabled, fell_to_none, kept_abort;
+    unsigned long kept_filler, kept_filler_end;
+    uint32_t highest;
+    unsigned long total_right, total_wrong, total_high, at_none, at_most;
+    unsigned long total_refused;
 } reached;
 
 static enum role role_of(const struct ref_spi *m)
@@ -891,9 +942,9 @@ static void count_save(const struct call *c, const struct outcome *o)
     reached.end_flag += (unsigned long)m.flag;
 }
 
-/* Which refusal stands behind 21 or 22, as far as that can be told: the limit, a
- * register or a rate are wrong on any module; a tick, a pin call or a linked run
- * by a module that is there in memory. */
+/* Which refusal stands behind 21 or 22, as far as that can be told: the limit,
+ * a register or a rate are wrong on any module; a tick, a pin call or a linked
+ * run by a module that is there in memory. */
 static uint32_t refusal_behind(const struct call *c, const struct ref_spi *pool)
 {
     int there = c->n < c->count, other = c->n_other < c->count;
@@ -946,6 +997,62 @@ static void count_refused_board(const struct call *c, uint32_t number,
     }
 }
 
+/* A total that was handed from call to call. */
+static void count_carried(const struct call *c, const struct outcome *o,
+                          const struct ref_spi *before,
+                          const struct ref_spi *after)
+{
+    int was_filler = is_filler(before);
+
+    reached.carried[c->kind]++;
+    if (o->owed > reached.highest)
+        reached.highest = o->owed;
+    reached.rose += o->owed > total_before;
+    if (o->owed < total_before) {
+        reached.fell[c->kind]++;
+        reached.fell_more += o->owed < total_before - 1;
+        reached.fell_disabled += c->kind == WRITE;
+        reached.fell_to_none += o->owed == 0;
+    }
+    if (c->kind == PINS && before->begun && !after->begun &&
+        before->edges < word_edges(before) - 1 && total_before > 0)
+        reached.kept_abort += !was_filler && o->owed == total_before;
+    if (c->kind == PINS || c->kind == TICK) {
+        reached.kept_filler += !was_filler && is_filler(after) &&
+                               o->owed == total_before;
+        reached.kept_filler_end += was_filler && !after->begun &&
+                                   before->edges == word_edges(before) - 1 &&
+                                   o->owed == total_before && total_before > 0;
+    }
+}
+
+/* The total of any call on a board. */
+static void count_total(const struct call *c, const struct outcome *o,
+                        const struct ref_spi *before,
+                        const struct ref_spi *pool)
+{
+    uint32_t number = thurafeqa_refusal(o->answer);
+    int off = number == THURAFEQA_BAD_LIST || number == THURAFEQA_NO_MODULE;
+    uint32_t own;
+
+    if (c->carried) {
+        reached.carried_refused += (unsigned long)off;
+        if (!off)
+            count_carried(c, o, before, &pool[c->module]);
+        return;
+    }
+    reached.total_high += c->direct && c->owed > 0xFFFFu;
+    reached.total_refused += off && o->owed == total_before;
+    if (off)
+        return;
+    own = walk_owed(&pool[c->first], c->count);
+    reached.total_right += o->owed == own;
+    reached.total_wrong += o->owed != own;
+    reached.at_none += o->owed == 0 && o->owed < total_before && own > 0;
+    reached.at_most += o->owed == 0xFFFFu && total_before == 0xFFFFu &&
+                       c->kind == WRITE && c->x == THURAFEQA_BUF && number == 0;
+}
+
 static void count_board(const struct call *c, uint32_t number)
 {
     reached.direct[c->direct]++;
@@ -964,6 +1071,8 @@ static void count(const struct call *c, const struct outcome *o,
     unsigned edges = thurafeqa_value(o->answer);
 
     reached.kinds[c->kind]++;
+    if (c->board)
+        count_total(c, o, &before[0], pool);
     if (number == THURAFEQA_BAD_LIST || number == THURAFEQA_NO_MODULE) {
         count_refused_board(c, number, pool);
         reached.refused[number]++;
@@ -1280,6 +1389,37 @@ static void print_boards(void)
     print_count("the same one twice", reached.twice);
 }
 
+static void print_totals(void)
+{
+    static const enum kind falls[] = {POWER_UP, WRITE, TICK, PINS, LINKED};
+    int k;
+
+    printf("\nwords owed, handed from call to call:");
+    for (k = 0; k <= LOOK; k++)
+        print_count(kind_name[k], reached.carried[k]);
+    print_count("refused", reached.carried_refused);
+    printf("\n ");
+    print_count("rose", reached.rose);
+    printf(" fell by");
+    for (k = 0; k < 5; k++)
+        print_count(kind_name[falls[k]], reached.fell[falls[k]]);
+    print_count("by several", reached.fell_more);
+    print_count("by disabling", reached.fell_disabled);
+    print_count("to none", reached.fell_to_none);
+    printf("\n ");
+    print_count("kept as a word is aborted", reached.kept_abort);
+    print_count("as a filler begins", reached.kept_filler);
+    print_count("as it ends", reached.kept_filler_end);
+    print_count("the highest", reached.highest);
+    printf("\nother totals:");
+    print_count("right", reached.total_right);
+    print_count("wrong", reached.total_wrong);
+    print_count("with bits above", reached.total_high);
+    print_count("refused", reached.total_refused);
+    print_count("stopped at 0", reached.at_none);
+    print_count("at 65,535", reached.at_most);
+}
+
 static void print_reached(void)
 {
     int i;
@@ -1317,6 +1457,7 @@ static void print_reached(void)
     print_traces();
     print_saves();
     print_boards();
+    print_totals();
     printf("\n%-40s %9s %9s %9s %9s\n", "words finished, by CKE and CKP:",
            "0 0", "0 1", "1 0", "1 1");
     for (i = 0; i < 4 * ROLES; i++)
@@ -1334,8 +1475,27 @@ static struct sides now;
 static struct call sequence[LONGEST]; /* since power-up of all modules */
 static int length;
 static uint64_t noise;
-static int boarding;       /* most calls of this sequence are made on boards, */
-static uint32_t right = 30; /* and one in so many names wrong modules */
+
+/* Most calls of this sequence are made on boards; or it has a board of its own,
+ * `own_count` modules from `own_first` on. One in so many names wrong
+ * modules. */
+static enum { NO_BOARDS, ANY_BOARDS, OWN_BOARD } boarding;
+static int own_first, own_count;
+static uint32_t right = 30;
+
+static int is_own(int module)
+{
+    return boarding == OWN_BOARD && module >= own_first &&
+           module < own_first + own_count;
+}
+
+/* Puts a call on the board of this sequence, with the total that it has. */
+static void choose_own_board(struct call *c)
+{
+    put_on_board(c, own_first, (size_t)own_count);
+    c->carried = 1;
+    spoil_numbers(c, right);
+}
 
 /* Puts a call on a board, most often one that has its modules. */
 static void choose_board(struct call *c)
@@ -1362,6 +1522,34 @@ static void choose_board(struct call *c)
     }
     put_on_board(c, first, (size_t)count);
     spoil_numbers(c, right);
+    c->owed = one_in(2) ? some_total()
+                        : walk_owed(&now.model[first], (size_t)count);
+}
+
+/* Puts a call on a board if it is to be made on one; or may it not be made? On
+ * the modules of the sequence's own board all calls go through it, but for
+ * those that a list of the wrong length refuses. */
+static int choose_call(struct call *c)
+{
+    int own = is_own(c->module);
+
+    if (c->kind == SAVE)
+        return 1;
+    if (c->kind == LINKED && own != is_own(c->other))
+        return 0;
+    if (own && !on_boards(c->kind))
+        return 0;
+    if (own && one_in(right)) {
+        int count = one_in(2) ? 0 : 5 + (int)below(2);
+
+        put_on_board(c, 0, (size_t)count);
+        c->owed = some_total();
+    } else if (own) {
+        choose_own_board(c);
+    } else if (boarding != NO_BOARDS && on_boards(c->kind) && !one_in(10)) {
+        choose_board(c);
+    }
+    return 1;
 }
 
 /* Makes a call on both sides and holds them to each other. Once the sequence is
@@ -1381,8 +1569,8 @@ static void make(enum kind kind, int module, int other, uint32_t x, uint32_t y,
     c.x = x;
     c.y = y;
     c.z = z;
-    if (boarding && on_boards(kind) && !one_in(10))
-        choose_board(&c);
+    if (!choose_call(&c))
+        return;
     sequence[length++] = c;
     made++;
     before[0] = now.model[module];
@@ -1847,7 +2035,9 @@ static void run_sequence(void)
     int i;
 
     length = 0;
-    boarding = one_in(2);
+    boarding = one_in(3) ? NO_BOARDS : one_in(2) ? ANY_BOARDS : OWN_BOARD;
+    own_count = 1 + (int)below(4);
+    own_first = (int)below((uint32_t)(MODULES - own_count + 1));
     noise = ((uint64_t)any_number() << 32 | any_number()) | 1;
     power_up_all(&now, noise);
     for (i = 0; i < MODULES; i++)

@@ -32,8 +32,14 @@
  *   else as the table says of the modules that it names. These show afterwards
  *   what they show where the third copy has the call made on the module alone,
  *   and all others hold the same memory as before. Modules that lie beside the
- *   list are guards. A list of more than four is not touched at all, and nothing
- *   but a clock report that is not refused writes one.
+ *   list are guards. A list of more than four is not touched at all, and
+ *   nothing but a clock report that is not refused writes one;
+ * - the total of words owed after such a call is the low 16 bits of the one
+ *   before, moved by as much as on a board of the named modules alone with a
+ *   total that has room both ways, but not below 0 and not above 65,535. A
+ *   refused call, a look and a read do not move it, a BUF write that is done
+ *   moves it up by one, an edge by none or down by one, a linked run, disabling
+ *   and power-up never up. The question answers it, or 21.
  * Exit 0: all held. Exit 1: something did not, or a refusal was not reached.
  * Exit 2: bad usage. */
 #define _DEFAULT_SOURCE
@@ -877,6 +883,13 @@ static uint32_t list_seen[LIST][VIEWS];
 static unsigned long board_done[LOOK + 1], board_refused[2][LOOK + 1];
 static unsigned long list_lengths[LIST + 1];
 
+/* The total before a call. And how often a total was moved up and down, was not
+ * moved by a call that has an effect, was stopped at 0 and at the most, and had
+ * bits above the 16. */
+static uint32_t total;
+static unsigned long total_up, total_down, total_kept, total_none, total_most;
+static unsigned long total_high;
+
 static void see_list(uint32_t shown[LIST][VIEWS])
 {
     size_t i;
@@ -914,6 +927,69 @@ static void hold_list(const thurafeqa *before, int spared)
     memcpy(list_seen, after, sizeof after);
 }
 
+/* How a call that is not refused as one of no board moves a total that has room
+ * both ways; `before` are the modules of the list. */
+static long moved_alone(const thurafeqa *before)
+{
+    thurafeqa few[2];
+    struct call c = now;
+    struct outcome o;
+
+    few[0] = before[now.n];
+    c.n = 0;
+    c.count = 1;
+    if (now.kind == LINKED) {
+        few[1] = before[now.n_other];
+        c.n_other = 1;
+        c.count = 2;
+    }
+    ask_board(few, 30000, &c, &o);
+    hold(o.owed <= 0xFFFF, "a total of more than 16 bits");
+    return (long)o.owed - 30000;
+}
+
+/* What a call may move the total by, as far as that is told by its kind. */
+static void hold_move(const struct outcome *o, const uint32_t *shown, long move)
+{
+    int refused_or_looks = thurafeqa_refusal(o->answer) != 0 ||
+                           now.kind == READ || now.kind == CLEAR ||
+                           now.kind == CLOCK || now.kind == LOOK;
+
+    if (refused_or_looks)
+        hold(move == 0, "a call moved the total, and should not have");
+    else if (now.kind == WRITE && now.x == THURAFEQA_BUF)
+        hold(move == 1, "an accepted word did not move the total by one");
+    else if (now.kind == TICK || now.kind == PINS)
+        hold(move == 0 || move == -1, "an edge moved the total by more");
+    else if (now.kind == LINKED || now.kind == POWER_UP)
+        hold(move <= 0, "the total rose without an accepted word");
+    else if (now.x == THURAFEQA_STAT && enabled(shown))
+        hold(move <= 0, "a STAT write made the total rise");
+}
+
+static void hold_total(const struct outcome *o, const uint32_t *shown,
+                       const thurafeqa *before, int spared)
+{
+    uint32_t refusal = board_refusal(&now);
+    long move = refusal == 0 ? moved_alone(before) : 0;
+    long want = (long)(total & 0xFFFFu) + move;
+
+    if (refusal == 0)
+        hold_move(o, shown, move);
+    total_none += want < 0;
+    total_most += want > 0xFFFF;
+    total_up += move > 0;
+    total_down += move < 0;
+    total_kept += move == 0 && !spared;
+    total_high += now.direct && total > 0xFFFF;
+    want = want < 0 ? 0 : want > 0xFFFF ? 0xFFFF : want;
+    hold((long)o->owed == want, "the total is not moved as the call moves it");
+    hold(o->owes == (refusal == THURAFEQA_BAD_LIST
+                         ? THURAFEQA_BAD_LIST << 16
+                         : (uint32_t)want),
+         "the answer of what is owed");
+}
+
 /* Makes the call `now` on both copies, and on the modules alone if it has an
  * effect. */
 static void make_on_board(void)
@@ -931,7 +1007,7 @@ static void make_on_board(void)
     if (now.n_other < now.count)
         memcpy(shown[1], list_seen[now.n_other], sizeof shown[1]);
     for (i = 0; i < 2; i++)
-        ask_board(lists[i].m, &now, &o[i]);
+        ask_board(lists[i].m, total, &now, &o[i]);
     hold(same_answer(&now, &o[0], &o[1]), "two copies were answered otherwise");
     hold(memcmp(lists[0].m, lists[1].m, now.count * sizeof before[0]) == 0,
          "the same call left two copies different");
@@ -945,6 +1021,8 @@ static void make_on_board(void)
                     &now, &o[2]);
         hold(o[0].answer == o[2].answer, "the module alone answers otherwise");
     }
+    hold_total(&o[0], shown[0], before, spared);
+    total = o[0].owed;
     hold_list(before, spared);
     if (number == THURAFEQA_BAD_LIST || number == THURAFEQA_NO_MODULE)
         board_refused[number - THURAFEQA_BAD_LIST][now.kind]++;
@@ -991,8 +1069,12 @@ static void run_board(void)
         memcpy(lists[i].m, alone, count * sizeof alone[0]);
     see_list(list_seen);
     list_lengths[count]++;
+    total = some_total();
     while (n-- > 0 && made < wanted) {
         choose_on_board(clocking);
+        if (one_in(8))
+            total = some_total();
+        now.owed = total;
         make_on_board();
     }
 }
@@ -1014,9 +1096,12 @@ static void long_lists(void)
             now.kind = (enum kind)kind;
             now.other = 1;
             put_on_board(&now, 0, length[i]);
-            ask_board(list, &now, &o);
-            hold(o.answer == THURAFEQA_BAD_LIST << 16,
+            now.owed = some_total();
+            ask_board(list, now.owed, &now, &o);
+            hold(o.answer == THURAFEQA_BAD_LIST << 16 &&
+                     o.owes == THURAFEQA_BAD_LIST << 16,
                  "a list of the wrong length was not refused");
+            hold(o.owed == (now.owed & 0xFFFFu), "a refusal moved the total");
             hold(memcmp(&o.report, &no_report, sizeof no_report) == 0,
                  "a refused call wrote a clock report");
         }
@@ -1045,6 +1130,12 @@ static int print_boards(void)
         printf(" of %d: %lu", i, list_lengths[i]);
         missing += list_lengths[i] == 0;
     }
+    printf("\ntotals: up %lu, down %lu, kept %lu, stopped at 0 %lu, at 65,535 "
+           "%lu, with bits above %lu",
+           total_up, total_down, total_kept, total_none, total_most,
+           total_high);
+    missing += (total_up == 0) + (total_down == 0) + (total_kept == 0) +
+               (total_none == 0) + (total_most == 0) + (total_high == 0);
     return missing;
 }
 

@@ -18,6 +18,7 @@ HOLDS(offsetof(thurafeqa, memory) == 0);
 HOLDS(sizeof(thurafeqa[4]) == 4 * 192);
 HOLDS(sizeof *((thurafeqa_board *)0)->modules == 192);
 HOLDS(sizeof ((thurafeqa_board *)0)->count == sizeof(size_t));
+HOLDS(sizeof ((thurafeqa_board *)0)->owed == 2);
 
 HOLDS(sizeof(thurafeqa_clock_report) == 24);
 HOLDS(_Alignof(thurafeqa_clock_report) == 8);
@@ -25,7 +26,7 @@ HOLDS(offsetof(thurafeqa_clock_report, rate) == 0);
 HOLDS(offsetof(thurafeqa_clock_report, bittime) == 8);
 HOLDS(offsetof(thurafeqa_clock_report, below) == 16);
 
-HOLDS(THURAFEQA_VERSION == 0x040300);
+HOLDS(THURAFEQA_VERSION == 0x050000);
 HOLDS(THURAFEQA_FORMAT == 3);
 
 HOLDS(THURAFEQA_STAT == 0);

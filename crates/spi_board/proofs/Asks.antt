@@ -64,7 +64,7 @@ unfolding boardNumber answerAlone afterAlone floatsAfter seenOf levelsNumber
 looked e = record { number = e; holds = refl; report = refl; untouched = λ _. refl }
 
 -- The board's test.
-pub bad : ℕ → Bool
+unfoldable pub bad : ℕ → Bool
 bad count = ltb count 1 || ltb 4 count
 
 pub few : {count : ℕ} → count < 1 → bad count ≡ true

@@ -30,7 +30,7 @@ use Rattle.spi_board.specs.declared.Cells.{Cells}
 use Rattle.spi_board.specs.Boards.{modulesIn, recordAt, numbersAt, withNumbers, boardNumber, pairNumber, floatsAfter, keepsAll, pairKeepsAll, Refuses, RefusesPair, MakeTells, BoardTells, PairTells}
 
 -- Records and modules.
-as-many : (cs : List Cells) → length (modulesIn cs) ≡ length cs
+pub as-many : (cs : List Cells) → length (modulesIn cs) ≡ length cs
 as-many [] = refl
 as-many (c ∷ cs) = ap suc (as-many cs)
 
@@ -39,7 +39,7 @@ holds-set [] n ws = refl
 holds-set (c ∷ cs) zero ws = refl
 holds-set (c ∷ cs) (suc n) ws = ap (λ (ms : List Module). moduleIn (c .numbers) ∷ ms) (holds-set cs n ws)
 
-holds-at : (cs : List Cells) (n : ℕ) → n < length cs → moduleAt (modulesIn cs) n ≡ moduleIn (numbersAt cs n)
+pub holds-at : (cs : List Cells) (n : ℕ) → n < length cs → moduleAt (modulesIn cs) n ≡ moduleIn (numbersAt cs n)
 unfolding moduleAt
 holds-at [] n h = absurd (omega (arith, h))
 holds-at (c ∷ cs) zero h = refl
@@ -55,10 +55,10 @@ stays-at cs n k ws h = getD-set-other cs n k _ _ (λ e. h (sym e))
 
 -- A call that is refused, and one that is not.
 module _ {r : ℕ} {number : ℕ} (e : r ≡ number * 65536) where
-  some : T (ltb 0 r) → 1 ≤ number
+  pub some : T (ltb 0 r) → 1 ≤ number
   some h = omega (arith, e, ltb→lt 0 r h)
 
-  none : T (not (ltb 0 r)) → number ≡ 0
+  pub none : T (not (ltb 0 r)) → number ≡ 0
   none h = omega (arith, e, nltb→le 0 r h)
 
 fault-told : (x : BoardAnswer) → 1 ≤ faultIn x → faultIn x * 65536 ≡ boardNumber x
@@ -84,19 +84,16 @@ pair-fault-told (pair.Ran a) h = absurd (omega (arith, h))
 
 -- A call of one module.
 module _ (n : ℕ) (cs : List Cells) (why : ℕ) (tested : Refuses (length cs) n why) where
-  ms : List Module
+  abbrev pub ms : List Module
   ms = modulesIn cs
 
-  row-is : why ≡ firstNumber (boardRows ms n) * 65536
-  unfolding ms
+  pub row-is : why ≡ firstNumber (boardRows ms n) * 65536
   row-is = tested .number (modulesIn cs) (as-many cs)
 
   pub inside : T (not (ltb 0 why)) → n < length cs
-  unfolding ms
   inside h = omega (arith, named-below (modulesIn cs) n (none row-is h), as-many cs)
 
   pub tells-refused : (c : BoardCall) (floats : List Float) → T (ltb 0 why) → BoardTells n c why floats floats cs cs
-  unfolding ms
   tells-refused c floats h =
       let exact = call-refused-exactly ms n c in
       let is : 1 ≤ faultIn (boardOf ms n c .answer) = omega (arith, exact, some row-is h) in
@@ -110,7 +107,6 @@ module _ (n : ℕ) (cs : List Cells) (why : ℕ) (tested : Refuses (length cs) n
 
   pub tells-made : (c : BoardCall) (r : ℕ) (floats floatsAt : List Float) (ws : List ℕ) → T (not (ltb 0 why)) →
       MakeTells c r floats floatsAt (numbersAt cs n) ws → BoardTells n c r floats floatsAt cs (withNumbers cs n ws)
-  unfolding ms
   tells-made c r floats floatsAt ws h m =
       let is = call-is ms n c (none row-is h) in
       let here = holds-at cs n (inside h) in
@@ -128,7 +124,7 @@ module _ (n : ℕ) (cs : List Cells) (why : ℕ) (tested : Refuses (length cs) n
 
 -- A linked run of two.
 module _ (a b limit : ℕ) (cs : List Cells) (why : ℕ) (tested : RefusesPair (length cs) a b why) where
-  pair-row-is : why ≡ firstNumber (pairRows (modulesIn cs) a b) * 65536
+  pub pair-row-is : why ≡ firstNumber (pairRows (modulesIn cs) a b) * 65536
   pair-row-is = tested .number (modulesIn cs) (as-many cs)
 
   pub insides : T (not (ltb 0 why)) → (a < length cs) × ((b < length cs) × (a ≡ b → ⊥))

@@ -2,3 +2,4 @@
 pub mod Asks
 pub mod Boarding
 pub mod Lent
+pub mod Owing

@@ -1,2 +1,3 @@
 -- What a caller is told of the board.
 pub mod Boards
+pub mod Owing

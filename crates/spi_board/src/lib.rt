@@ -1,6 +1,13 @@
 // The board in memory: a lent list of module records. What stands here is over one record's numbers, and over numbers alone; the
 // exported calls of crate thurafeqa lend a record of the list to it.
+use spi_rules::Settings;
+use spi_rules::Shift;
+ghost use Prim.Native.Nat.{_+_, _-_, _≤_};
+ghost use mathlib.Core.Path.{_≡_};
+ghost use Rattle.spi_board_rules.specs.Owed.{inShift, countOf, atMost65535};
+ghost use Rattle.spi_memory.specs.Memory.{moduleIn};
 ghost use Rattle.spi_board.specs.Boards.{askedOf, Refuses, RefusesPair, MakeTells};
+ghost use Rattle.spi_board.specs.Owing.{bothIn, Asks, RefusesOwed, RefusesOwedPair, MakesOwed, LinksOwed};
 
 // A module's memory as a record of the board.
 #[repr(C)]
@@ -70,4 +77,123 @@ pub fn make(w: &mut [u16; 96], kind: u32, x: u32, y: u32, z: u32, report: &mut [
         return 0;
     }
     spi_numbers::levels(w)
+}
+
+// The word in the shift register, if it is an accepted one that has left the transmit buffer.
+fn in_shift(s: Settings, sh: Shift) -> u32
+    ensures { λ r. ⌜ (r ≡ inShift s sh) × (r ≤ 1) ⌝ }
+{
+    match sh {
+        Shift::Free => 0,
+        Shift::Loaded(_) => 1,
+        Shift::Begun(p) => {
+            if p.filler {
+                return 0;
+            }
+            if s.con1.msten {
+                return 1;
+            }
+            if spi_settings::ssen_client(s) {
+                return 0;
+            }
+            1
+        }
+    }
+}
+
+// The accepted words of a module that are not finished.
+pub fn count(w: &[u16; 96]) -> u32
+    ensures { λ r. ⌜ (r ≡ countOf (moduleIn (now (w .entry)))) × (r ≤ 256) ⌝ }
+{
+    let s = spi_memory::settings_in(w);
+    let t = spi_memory::transmit_in(w);
+    let sh = spi_memory::shift_in(w);
+    t.count as u32 + in_shift(s, sh)
+}
+
+// A total, where a count has become another: not below 0, and not above 65,535.
+fn moved(total: u32, was: u32, is: u32) -> u32
+    requires { ⌜ (total ≤ 65535) × (is ≤ 256) ⌝ }
+    ensures { λ r. ⌜ (r ≡ atMost65535 (total + is - was)) × (r ≤ 65535) ⌝ }
+{
+    let sum = total + is;
+    if sum <= was {
+        return 0;
+    }
+    let left = sum - was;
+    if left <= 65535 {
+        return left;
+    }
+    65535
+}
+
+// A total and an answer as one number.
+fn both(total: u32, answer: u32) -> u64
+    ensures { λ r. ⌜ r ≡ bothIn total answer ⌝ }
+{
+    total as u64 * 4294967296 + answer as u64
+}
+
+// A call of one module, with the board's total moved by it.
+pub fn make_counted(
+    w: &mut [u16; 96],
+    owed: u32,
+    kind: u32,
+    x: u32,
+    y: u32,
+    z: u32,
+    report: &mut [f64; 3],
+) -> u64
+    ensures { λ r. ⌜ MakesOwed owed (askedOf kind x y z) r (now (report .entry)) (now (report .exit)) (now (w .entry)) (now (w .exit)) ⌝ }
+{
+    let was = count(w);
+    let answer = make(w, kind, x, y, z, report);
+    let is = count(w);
+    both(moved(owed % 65536, was, is), answer)
+}
+
+// A linked run, with the board's total moved by both ends.
+pub fn join_counted(host: &mut [u16; 96], client: &mut [u16; 96], owed: u32, limit: u32) -> u64
+    ensures { λ r. ⌜ LinksOwed owed limit r (now (host .entry)) (now (host .exit)) (now (client .entry)) (now (client .exit)) ⌝ }
+{
+    let host_was = count(host);
+    let client_was = count(client);
+    let answer = spi_numbers::linked(host, client, limit);
+    let first = moved(owed % 65536, host_was, count(host));
+    both(moved(first, client_was, count(client)), answer)
+}
+
+// Why a call of module `n` is refused, as the whole number that it returns: 0 if it is not.
+pub fn refused(count: usize, owed: u32, n: u32) -> u64
+    ensures { λ r. ⌜ RefusesOwed count owed n r ⌝ }
+{
+    let why = refusal(count, n);
+    if why == 0 {
+        return 0;
+    }
+    both(owed % 65536, why)
+}
+
+// The same of a linked run of modules `a` and `b`.
+pub fn refused_two(count: usize, owed: u32, a: u32, b: u32) -> u64
+    ensures { λ r. ⌜ RefusesOwedPair count owed a b r ⌝ }
+{
+    let why = refusal_of_two(count, a, b);
+    if why == 0 {
+        return 0;
+    }
+    both(owed % 65536, why)
+}
+
+// The question: the words that a board of `count` modules owes, as a number.
+pub fn owes(count: usize, owed: u32) -> u32
+    ensures { λ r. ⌜ Asks count owed r ⌝ }
+{
+    if count < 1 {
+        return BAD_LIST;
+    }
+    if count > 4 {
+        return BAD_LIST;
+    }
+    owed % 65536
 }

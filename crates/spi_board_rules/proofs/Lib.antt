@@ -3,3 +3,7 @@ pub mod BoardExamplesHold
 pub mod BoardCalls
 pub mod BoardLives
 pub mod BoardDemandsHold
+pub mod OwedExamplesHold
+pub mod OwedCounts
+pub mod OwedDemandsHold
+pub mod OwedMoves

@@ -2,3 +2,6 @@
 pub mod Board
 pub mod BoardExamples
 pub mod BoardDemands
+pub mod Owed
+pub mod OwedExamples
+pub mod OwedDemands

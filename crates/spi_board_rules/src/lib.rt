@@ -43,3 +43,9 @@ pub enum PairAnswer {
     Refused(BoardFault),
     Ran(LinkAnswer),
 }
+
+// What the question answers, how many words the board still owes: why the board refuses it, or the total.
+pub enum OwedAnswer {
+    Refused(BoardFault),
+    Owes(u16),
+}

@@ -9,6 +9,7 @@ use Rattle.spi_script_rules.proofs.ScriptDemandsHold.{scripts-hold}
 use Rattle.spi_trace_rules.proofs.TraceDemandsHold.{traces-hold}
 use Rattle.spi_save_rules.proofs.SaveDemandsHold.{saves-hold}
 use Rattle.spi_board_rules.proofs.BoardDemandsHold.{boards-hold}
+use Rattle.spi_board_rules.proofs.OwedDemandsHold.{totals-hold}
 
 pub demands-hold : Demands
 demands-hold =
@@ -20,4 +21,5 @@ demands-hold =
       traces = traces-hold;
       saves = saves-hold;
       boards = boards-hold;
+      totals = totals-hold;
     }

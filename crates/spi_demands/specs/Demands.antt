@@ -1,5 +1,6 @@
 -- What the buyer signs for, all of it: the demands on one module, on two modules on one wire, on the clock report, on the
--- script program, on trace files, on saved sessions and on the board. Each page says its part in the crate of its rules.
+-- script program, on trace files, on saved sessions, on the board and on its total of words owed. Each page says its part in the
+-- crate of its rules.
 use Rattle.spi_rules.specs.Demands.{OneModule}
 use Rattle.spi_link_rules.specs.LinkDemands.{LinkedRuns}
 use Rattle.spi_clock_rules.specs.ClockDemands.{ClockReports}
@@ -7,6 +8,7 @@ use Rattle.spi_script_rules.specs.ScriptDemands.{Scripts}
 use Rattle.spi_trace_rules.specs.TraceDemands.{Traces}
 use Rattle.spi_save_rules.specs.SaveDemands.{Saves}
 use Rattle.spi_board_rules.specs.BoardDemands.{Boards}
+use Rattle.spi_board_rules.specs.OwedDemands.{Totals}
 
 pub record Demands : Type 0 where
   pub oneModule : OneModule
@@ -16,3 +18,4 @@ pub record Demands : Type 0 where
   pub traces : Traces
   pub saves : Saves
   pub boards : Boards
+  pub totals : Totals

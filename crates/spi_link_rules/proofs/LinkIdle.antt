@@ -42,14 +42,14 @@ use Rattle.spi_rules.proofs.OwedCalls.{calls-pay, calls-leave, none-owed-idle, 
 use Rattle.spi_link_rules.proofs.LinkRuns.{Allowed, link-when, link-is, run-host, run-counts, turn-within}
 
 -- At most one word has left the transmit buffer and is not finished.
-one-unfinished : (s : Settings) (sh : Shift) → length (unfinished s sh) ≤ 1
+pub one-unfinished : (s : Settings) (sh : Shift) → length (unfinished s sh) ≤ 1
 one-unfinished s Free = omega arith
 one-unfinished s (Loaded word) = omega arith
 one-unfinished s (Begun p) =
     if-keeps (λ (l : List ℕ). length l ≤ 1) (p .filler || ssenClient s) [] (p .word ∷ []) (λ e. omega arith) (λ e. omega arith)
 
 -- A buffer holds no more than in enhanced operation.
-depth-within : (s : Settings) → depthOf s ≤ enhancedDepth
+pub depth-within : (s : Settings) → depthOf s ≤ enhancedDepth
 unfolding depthOf
 depth-within s =
     if-keeps (λ (d : ℕ). d ≤ enhancedDepth) (s .con2 .spiben) enhancedDepth 1 (λ e. omega arith) (λ e. omega arith)

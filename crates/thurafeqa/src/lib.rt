@@ -9,7 +9,8 @@ ghost use Rattle.spi_rules.specs.Calls.{poweredUp, readOf, writeOf, tickOf, pin
 ghost use Rattle.spi_link_rules.specs.Link.{linkedOf};
 ghost use Rattle.spi_clock_rules.specs.Clock.{reportOf, saidClock};
 ghost use Rattle.spi_memory.specs.Memory.{moduleIn};
-ghost use Rattle.spi_board.specs.Boards.{askedOf, BoardTells, PairTells};
+ghost use Rattle.spi_board.specs.Boards.{askedOf};
+ghost use Rattle.spi_board.specs.Owing.{Asks, OwedTells, OwedPairTells};
 ghost use Rattle.spi_numbers.specs.Told.{Tells, levelIn, levelsNumber, ClockTells, LinkTells};
 ghost use Rattle.thurafeqa.specs.Numbers.{playNumber, PlayTells, saveNumber, SaveTells, versionNumber, formatNumber};
 
@@ -88,44 +89,55 @@ pub extern "C" fn thurafeqa_clock(w: &[u16; 96], rate: u32, report: &mut [f64; 3
 
 // A call of module `n` of a board, by its kind: 0 power-up, 1 a read of register `x`, 2 a write of `y` to register `x`, 3 a tick with
 // the levels SDI `x` and SS `y`, 4 a pin call with SCK `x`, SDI `y` and SS `z`, 5 the clear call, 6 the clock report for the rate
-// `x`, any other a look at its levels.
+// `x`, any other a look at its levels. The low 16 bits of `owed` are the board's total; the total after the call comes back above
+// the answer.
 #[no_mangle]
 pub extern "C" fn thurafeqa_board_call(
     board: &mut [Cells],
+    owed: u32,
     n: u32,
     kind: u32,
     x: u32,
     y: u32,
     z: u32,
     report: &mut [f64; 3],
-) -> u32
-    ensures { λ r. ⌜ BoardTells n (askedOf kind x y z) r (now (report .entry)) (now (report .exit)) (now (board .entry)) (now (board .exit)) ⌝ }
+) -> u64
+    ensures { λ r. ⌜ OwedTells owed n (askedOf kind x y z) r (now (report .entry)) (now (report .exit)) (now (board .entry)) (now (board .exit)) ⌝ }
 {
-    let why = spi_board::refusal(board.len(), n);
+    let why = spi_board::refused(board.len(), owed, n);
     if why > 0 {
         return why;
     }
-    spi_board::make(&mut board[n as usize].numbers, kind, x, y, z, report)
+    spi_board::make_counted(&mut board[n as usize].numbers, owed, kind, x, y, z, report)
 }
 
-// Two modules of a board on one wire, for at most `limit` edges.
+// Two modules of a board on one wire, for at most `limit` edges. The total goes in and comes back as in a call.
 #[no_mangle]
 pub extern "C" fn thurafeqa_board_linked(
     board: &mut [Cells],
+    owed: u32,
     host: u32,
     client: u32,
     limit: u32,
-) -> u32
-    ensures { λ r. ⌜ PairTells host client limit r (now (board .entry)) (now (board .exit)) ⌝ }
+) -> u64
+    ensures { λ r. ⌜ OwedPairTells owed host client limit r (now (board .entry)) (now (board .exit)) ⌝ }
 {
-    let why = spi_board::refusal_of_two(board.len(), host, client);
+    let why = spi_board::refused_two(board.len(), owed, host, client);
     if why > 0 {
         return why;
     }
     let mut wired = board[client as usize].numbers;
-    let told = spi_numbers::linked(&mut board[host as usize].numbers, &mut wired, limit);
+    let told = spi_board::join_counted(&mut board[host as usize].numbers, &mut wired, owed, limit);
     board[client as usize].numbers = wired;
     told
+}
+
+// The question: the words that the board still owes. No module is looked at.
+#[no_mangle]
+pub extern "C" fn thurafeqa_board_owed(count: usize, owed: u32) -> u32
+    ensures { λ r. ⌜ Asks count owed r ⌝ }
+{
+    spi_board::owes(count, owed)
 }
 
 // What playing a trace file answers as a number.
@@ -171,7 +183,7 @@ pub extern "C" fn thurafeqa_save(script: &[u8], file: &mut [u8]) -> u32
 pub extern "C" fn thurafeqa_version() -> u32
     ensures { λ r. ⌜ r ≡ versionNumber ⌝ }
 {
-    262912
+    327680
 }
 
 // The number of the memory's format: it rises wherever the meaning of the 96 numbers changes.

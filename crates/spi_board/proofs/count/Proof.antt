@@ -1,0 +1,28 @@
+-- The words waiting, and the one in the shift register.
+use borrow.Author.Needs.{needs}
+use mathlib.Core.Path.{ap, _∙_}
+use native.Mathlib.Omega.{arith}
+use Rattle.spi_rules.specs.declared.Settings.{Settings}
+use Rattle.spi_rules.specs.declared.Shift.{Shift}
+use Rattle.spi_rules.specs.declared.Transmit.{Transmit}
+use Rattle.spi_board_rules.specs.Owed.{inShift, countOf}
+use Rattle.spi_board.proofs.count.Statement.{statement}
+use Rattle.spi_board.proofs.count.Tie as tie
+
+returns : tie.Need-returns
+unfolding countOf
+returns c =
+    let shift = (c .in-shift .ensures .0) ∙ ap (λ (s : Settings). inShift s (c .before .before .shift-in .result)) (c .before .before .before .before .settings-in .ensures) ∙ ap (inShift _) (c .before .before .shift-in .ensures) in
+    (omega (arith, shift, ap (λ (t : Transmit). t .count) (c .before .before .before .transmit-in .ensures)), omega (arith, (c .in-shift .ensures .1)))
+
+pub count-spec : {M : Type 1} → statement M
+count-spec =
+    tie.close
+    (tie.spec
+    (λ c κs. search needs)
+    (λ c κs. search needs)
+    (λ c κs. search needs)
+    (λ c. search needs)
+    (λ c κs. search needs)
+    (λ c. search needs)
+    returns)

@@ -1,0 +1,82 @@
+-- Document 02, Eight: boards with the words that they owe. proofs/OwedExamplesHold.antt runs the definitions on them.
+use Prim.Native.Nat.{ℕ}
+use mathlib.Core.Bool.{Bool, true, false, _&&_}
+use mathlib.Core.List.{List, [], _∷_, _++_}
+use lib.Dec.{eqb}
+use lib.ListN.{replicate}
+use Rattle.spi_rules.specs.declared.Call.the-variants.{Read, Write, Tick, Pin}
+use Rattle.spi_rules.specs.Calls.{poweredUp}
+use Rattle.spi_board_rules.specs.declared.BoardCall.{BoardCall}
+use Rattle.spi_board_rules.specs.declared.BoardCall.the-variants.{PowerUp, Make}
+use Rattle.spi_board_rules.specs.declared.OwedAnswer.{OwedAnswer}
+use Rattle.spi_board_rules.specs.declared.OwedAnswer.the-variants.{Refused, Owes}
+use Rattle.spi_board_rules.specs.Board.{boardNumberOf, Step, one, two}
+use Rattle.spi_board_rules.specs.BoardExamples.{fresh, write, every}
+use Rattle.spi_board_rules.specs.Owed.{Board, owesOf, owedAfter}
+
+-- What the question answers: the words owed, or a refusal.
+abbrev pub tells : OwedAnswer → ℕ → ℕ → Bool
+tells (Refused w) number words = eqb (boardNumberOf w) number && eqb words 0
+tells (Owes n) number words = eqb number 0 && eqb n words
+
+-- So many modules owe so many words after some steps from power-up.
+abbrev pub owes : ℕ → List Step → ℕ → Bool
+owes size steps words = tells (owesOf (owedAfter (record { modules = fresh size; owed = 0 }) steps)) 0 words
+
+abbrev pub refused : ℕ → Bool
+refused size = tells (owesOf (record { modules = fresh size; owed = 0 })) 21 0
+
+-- Some calls of one module.
+abbrev pub calls : ℕ → List BoardCall → List Step
+calls n [] = []
+calls n (c ∷ cs) = one n c ∷ calls n cs
+
+abbrev pub tick : BoardCall
+tick = Make (Tick false false)
+
+abbrev pub pins : Bool → Bool → BoardCall
+pins sck ss = Make (Pin sck false ss)
+
+-- A host in enhanced operation at 1 with three words.
+abbrev pub host : List Step
+host = calls 1 (write 1 0x0020 ∷ write 2 0x0001 ∷ write 0 0x8000 ∷ write 3 0x00A5 ∷ write 3 0x003C ∷ write 3 0x0081 ∷ [])
+
+-- An SSEN client at 0 with one word, selected and at its first edge; and one with none, which begins a filler.
+abbrev pub client : List Step
+client = calls 0 (write 1 0x0080 ∷ write 0 0x8000 ∷ write 3 0x0055 ∷ pins false false ∷ pins true false ∷ [])
+
+abbrev pub filler : List Step
+filler = calls 0 (write 1 0x0080 ∷ write 0 0x8000 ∷ pins false false ∷ pins true false ∷ [])
+
+abbrev pub owedExamples : Bool
+owedExamples =
+    every (
+    refused 0
+    ∷ refused 5
+    ∷ owes 1 [] 0
+    ∷ owes 4 [] 0
+    -- three words accepted: one in the shift register, two waiting
+    ∷ owes 4 host 3
+    -- at its last edge a word is finished, and not before
+    ∷ owes 4 (host ++ calls 1 (replicate 15 tick)) 3
+    ∷ owes 4 (host ++ calls 1 (replicate 16 tick)) 2
+    ∷ owes 4 (host ++ calls 1 (replicate 48 tick)) 0
+    ∷ owes 4 (host ++ calls 1 (replicate 49 tick)) 0
+    -- a begun word of an SSEN client counts once, an abort leaves it, a filler never counts
+    ∷ owes 4 client 1
+    ∷ owes 4 (client ++ calls 0 (pins true true ∷ [])) 1
+    ∷ owes 4 filler 0
+    ∷ owes 4 (calls 0 (write 0 0x8000 ∷ pins true true ∷ [])) 0
+    ∷ owes 4 (client ++ host) 4
+    -- a refused write counts nothing: disabled, and full
+    ∷ owes 4 (calls 2 (write 3 0x0001 ∷ [])) 0
+    ∷ owes 4 (calls 2 (write 1 0x0020 ∷ write 0 0x8000 ∷ write 3 0x0001 ∷ write 3 0x0002 ∷ write 3 0x0003 ∷ [])) 2
+    -- disabling empties, and so does power-up of one module
+    ∷ owes 4 (client ++ (host ++ calls 1 (write 0 0x0000 ∷ []))) 1
+    ∷ owes 4 (client ++ (host ++ calls 1 (PowerUp ∷ []))) 1
+    ∷ owes 4 (client ++ (host ++ calls 7 (PowerUp ∷ []))) 4
+    -- a linked run finishes words at both ends
+    ∷ owes 4 (calls 1 (write 1 0x0020 ∷ write 0 0x8000 ∷ write 3 0x00A5 ∷ []) ++ (calls 3 (write 0 0x8000 ∷ write 3 0x003C ∷ []) ++ (two 1 3 15 ∷ []))) 2
+    ∷ owes 4 (calls 1 (write 1 0x0020 ∷ write 0 0x8000 ∷ write 3 0x00A5 ∷ []) ++ (calls 3 (write 0 0x8000 ∷ write 3 0x003C ∷ []) ++ (two 1 3 16 ∷ []))) 0
+    ∷ []
+    )
