@@ -83,12 +83,16 @@ module _ (input : List ℕ) where
 
   -- The buffer.
   module _ (buffer : List ℕ) where
-    refused-unchanged : savedNumberOf (savedOf input (length buffer)) ≡ 20 → bufferAfter input buffer ≡ buffer
-    unfolding bufferAfter savedNumberOf
+    refused-unchanged : savedNumberOf (savedOf input (length buffer)) ≡ 20 →
+        (bufferAfter input buffer ≡ buffer) × (savedLengthOf (savedOf input (length buffer)) ≡ 0)
+    unfolding bufferAfter savedOf savedNumberOf savedLengthOf
     refused-unchanged e =
         by-test (fits (savedFile input) (length buffer))
         (λ on. absurd (omega (arith, e, ap savedNumberOf (written (length buffer) on))))
-        (λ off. if-false (fits (savedFile input) (length buffer)) _ _ off)
+        (λ off. (
+          if-false (fits (savedFile input) (length buffer)) _ _ off,
+          ap savedLengthOf (if-false (fits (savedFile input) (length buffer)) _ _ off),
+        ))
 
     kept : savedNumberOf (savedOf input (length buffer)) ≡ 0 →
         Kept input (savedLengthOf (savedOf input (length buffer))) buffer (bufferAfter input buffer)
@@ -116,7 +120,7 @@ unfolding savedNumberOf
 buffer-length input buffer =
     by-test (fits (savedFile input) (length buffer))
     (λ on. kept input buffer (ap savedNumberOf (written input (length buffer) on)) .whole)
-    (λ off. ap length (refused-unchanged input buffer (no-room input (length buffer) off)))
+    (λ off. ap length (refused-unchanged input buffer (no-room input (length buffer) off) .0))
 
 pub saves-hold : Saves
 saves-hold =

@@ -49,12 +49,13 @@ pub record Kept (input : List ℕ) (n : ℕ) (before after : List ℕ) : Type 0 
   pub whole : length after ≡ length before
 
 -- A save is refused exactly if the file would have more than 65,535 bytes or more than the buffer, and then leaves the buffer as it
--- was. Any other is kept.
+-- was and tells no length. Any other is kept.
 pub record Saves : Type 0 where
   pub paperExamples : saveExamples ≡ true
   pub refusedExactly : (input : List ℕ) (room : ℕ) →
       savedNumberOf (savedOf input room) ≡ firstNumber (row 20 (ltb 65535 (fileSize input) || ltb room (fileSize input)) ∷ [])
-  pub refusedUnchanged : (input buffer : List ℕ) → savedNumberOf (savedOf input (length buffer)) ≡ 20 → bufferAfter input buffer ≡ buffer
+  pub refusedUnchanged : (input buffer : List ℕ) → savedNumberOf (savedOf input (length buffer)) ≡ 20 →
+      (bufferAfter input buffer ≡ buffer) × (savedLengthOf (savedOf input (length buffer)) ≡ 0)
   pub kept : (input buffer : List ℕ) → savedNumberOf (savedOf input (length buffer)) ≡ 0 →
       Kept input (savedLengthOf (savedOf input (length buffer))) buffer (bufferAfter input buffer)
   pub sameLines : (m : Module) (line : Line) → leftOut m line ≡ leftOut poweredUp line
