@@ -10,7 +10,7 @@ use Rattle.spi_board_rules.specs.declared.BoardCall.{BoardCall}
 use Rattle.spi_board_rules.specs.declared.BoardCall.the-variants.{PowerUp, Make}
 use Rattle.spi_board_rules.specs.declared.OwedAnswer.{OwedAnswer}
 use Rattle.spi_board_rules.specs.declared.OwedAnswer.the-variants.{Refused, Owes}
-use Rattle.spi_board_rules.specs.Board.{boardNumberOf, Step, one, two}
+use Rattle.spi_board_rules.specs.Board.{boardNumberOf, Step, one, two, boardAfter}
 use Rattle.spi_board_rules.specs.BoardExamples.{fresh, write, every}
 use Rattle.spi_board_rules.specs.Owed.{Board, owesOf, owedAfter}
 
@@ -22,6 +22,11 @@ tells (Owes n) number words = eqb number 0 && eqb n words
 -- So many modules owe so many words after some steps from power-up.
 abbrev pub owes : ℕ → List Step → ℕ → Bool
 owes size steps words = tells (owesOf (owedAfter (record { modules = fresh size; owed = 0 }) steps)) 0 words
+
+-- The same from a total that is not the list's own.
+abbrev pub owesFrom : ℕ → List Step → List Step → ℕ → Bool
+owesFrom total before steps words =
+    tells (owesOf (owedAfter (record { modules = boardAfter (fresh 4) before; owed = total }) steps)) 0 words
 
 abbrev pub refused : ℕ → Bool
 refused size = tells (owesOf (record { modules = fresh size; owed = 0 })) 21 0
@@ -78,5 +83,9 @@ owedExamples =
     -- a linked run finishes words at both ends
     ∷ owes 4 (calls 1 (write 1 0x0020 ∷ write 0 0x8000 ∷ write 3 0x00A5 ∷ []) ++ (calls 3 (write 0 0x8000 ∷ write 3 0x003C ∷ []) ++ (two 1 3 15 ∷ []))) 2
     ∷ owes 4 (calls 1 (write 1 0x0020 ∷ write 0 0x8000 ∷ write 3 0x00A5 ∷ []) ++ (calls 3 (write 0 0x8000 ∷ write 3 0x003C ∷ []) ++ (two 1 3 16 ∷ []))) 0
+    -- a total that is not the list's own stops at either end
+    ∷ owesFrom 65535 [] host 65535
+    ∷ owesFrom 65532 [] host 65535
+    ∷ owesFrom 0 host (calls 1 (replicate 16 tick)) 0
     ∷ []
     )
