@@ -5,37 +5,33 @@
 --     owed-inside, owed-refused, owed-made     a call of one module of the list
 --     owed-insides, owed-pair-refused, owed-pair-made     a linked run of two
 -- Assumes nothing.
-use Prim.Native.Nat.{ℕ, _+_, _-_, _*_, _%_, _<_, _≤_}
+use Prim.Native.Nat.{ℕ, _+_, _-_, _%_, _<_}
 use mathlib.Core.Bool.{Bool, true, false, not, _||_}
 use mathlib.Core.List.{List, []}
-use mathlib.Core.Path.{_≡_, refl, sym, ap, ap₂, _∙_}
+use mathlib.Core.Path.{_≡_, sym, ap, ap₂, _∙_}
 use native.Mathlib.Omega.{arith}
 use borrow.Author.Tests.{eqb-true, eqb-false, ltb-true, ltb-false}
 use lib.Dec.{T, eqb, ltb, lt→ltb, ltb→lt, nltb→le}
 use lib.Ieee.{Float}
-use lib.ListN.{length, getD, length-set}
+use lib.ListN.{length, length-set}
 use lib.Seq.{getD-set-same, getD-set-other}
 use Rattle.spi_rules.specs.declared.Settings.{Settings}
 use Rattle.spi_rules.specs.declared.Module.{Module}
 use Rattle.spi_rules.specs.Settings.{ssenClient}
 use Rattle.spi_rules.specs.Choice.{if_then_else_}
-use Rattle.spi_rules.specs.RefusalTable.{firstNumber}
 use Rattle.spi_rules.proofs.Keeps.{if-true, if-false, by-test}
 use Rattle.spi_link_rules.specs.Link.{linkedOf}
 use Rattle.spi_board_rules.specs.declared.BoardCall.{BoardCall}
-use Rattle.spi_board_rules.specs.declared.BoardFault.the-variants.{BadList}
-use Rattle.spi_board_rules.specs.declared.OwedAnswer.the-variants.{Refused, Owes}
 use Rattle.spi_board_rules.specs.Board.{boardNumberOf, badList, moduleAt, boardOf, pairOf}
-use Rattle.spi_board_rules.specs.BoardDemands.{boardRows, pairRows}
-use Rattle.spi_board_rules.specs.Owed.{countOf, atMost65535, totalMoved, owedCall, owedRun, owesOf}
+use Rattle.spi_board_rules.specs.Owed.{countOf, atMost65535, totalMoved, owesOf}
 use Rattle.spi_board_rules.proofs.OwedMoves.{call-total-stays, call-total-moves, run-total-stays, run-total-moves}
 use Rattle.spi_memory.specs.Memory.{moduleIn}
 use Rattle.spi_numbers.specs.Told.{LinkTells}
 use Rattle.spi_board.specs.declared.Cells.{Cells}
-use Rattle.spi_board.specs.Boards.{modulesIn, numbersAt, withNumbers, Refuses, RefusesPair, MakeTells, BoardTells, PairTells}
+use Rattle.spi_board.specs.Boards.{modulesIn, numbersAt, withNumbers, MakeTells}
 use Rattle.spi_board.specs.Owing.{boardIn, bothIn, owedNumber, Asks, RefusesOwed, RefusesOwedPair, MakesOwed, LinksOwed, OwedTells, OwedPairTells}
 use Rattle.spi_board.proofs.Asks.{bad}
-use Rattle.spi_board.proofs.Boarding.{as-many, holds-at, some, none, row-is, inside, tells-refused, tells-made, pair-row-is, insides, tells-pair-refused, tells-pair-made}
+use Rattle.spi_board.proofs.Boarding.{holds-at, some, none, row-is, inside, tells-refused, tells-made, pair-row-is, insides, tells-pair-refused, tells-pair-made}
 
 -- A begun word, by the tests one after the other.
 pub filler-counts-none : (a b : Bool) → a ≡ true → (a || b) ≡ true
