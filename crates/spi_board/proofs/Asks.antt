@@ -14,8 +14,6 @@ use native.Mathlib.Omega.{arith}
 use borrow.Author.Tests.{lt-ltb, le-ltb, le-leb, lt-leb, eq-eqb, ne-eqb}
 use lib.Dec.{ltb, leb}
 use lib.Ieee.{Float}
-use lib.ListN.{length}
-use Rattle.spi_rules.specs.declared.Module.{Module}
 use Rattle.spi_rules.specs.declared.Call.{Call}
 use Rattle.spi_rules.specs.Choice.{if_then_else_}
 use Rattle.spi_rules.specs.RefusalTable.{row, firstNumber}
@@ -28,7 +26,7 @@ use Rattle.spi_board_rules.specs.Board.{answerAlone, afterAlone, seenOf}
 use Rattle.spi_board_rules.specs.BoardDemands.{boardRows}
 use Rattle.spi_memory.specs.Memory.{moduleIn}
 use Rattle.spi_numbers.specs.Told.{Tells, levelsNumber, ClockTells}
-use Rattle.spi_board.specs.Boards.{askedOf, boardNumber, floatsAfter, Refuses, RefusesPair, MakeTells}
+use Rattle.spi_board.specs.Boards.{askedOf, boardNumber, floatsAfter, callFault, pairFault, MakeTells}
 
 module _ {r : ℕ} {floats floatsAt : List Float} {before after : List ℕ} where
   pub asked-as : (k x y z : ℕ) {kind : ℕ} → kind ≡ k → MakeTells (askedOf k x y z) r floats floatsAt before after →
@@ -79,22 +77,18 @@ pub right : {count : ℕ} → 1 ≤ count → count ≤ 4 → bad count ≡ fals
 unfolding bad
 right {count} h k = rw (le-ltb count 1 h, le-ltb 4 count k) refl
 
-module _ {count n : ℕ} where
-  pub refuses-list : bad count ≡ true → Refuses count n (21 * 65536)
-  unfolding bad
-  refuses-list b = record { number = λ ms e. ap (λ (x : ℕ). x * 65536) (so _ _ _ (ap bad e ∙ b) refl) }
+module _ (count n : ℕ) where
+  pub refuses-list : bad count ≡ true → 21 * 65536 ≡ callFault count n
+  unfolding bad callFault
+  refuses-list b = ap (λ (x : ℕ). x * 65536) (so _ _ _ b refl)
 
-  pub refuses-module : bad count ≡ false → count ≤ n → Refuses count n (22 * 65536)
-  unfolding bad
-  refuses-module b h = record {
-    number = λ ms e. ap (λ (x : ℕ). x * 65536) (not-so _ _ _ (ap bad e ∙ b) (so _ _ _ (ap (λ (k : ℕ). leb k n) e ∙ le-leb count n h) refl));
-  }
+  pub refuses-module : bad count ≡ false → count ≤ n → 22 * 65536 ≡ callFault count n
+  unfolding bad callFault
+  refuses-module b h = ap (λ (x : ℕ). x * 65536) (not-so _ _ _ b (so _ _ _ (le-leb count n h) refl))
 
-  pub refuses-not : bad count ≡ false → n < count → Refuses count n 0
-  unfolding bad
-  refuses-not b h = record {
-    number = λ ms e. ap (λ (x : ℕ). x * 65536) (not-so _ _ _ (ap bad e ∙ b) (not-so _ _ _ (ap (λ (k : ℕ). leb k n) e ∙ lt-leb count n h) refl));
-  }
+  pub refuses-not : bad count ≡ false → n < count → 0 ≡ callFault count n
+  unfolding bad callFault
+  refuses-not b h = ap (λ (x : ℕ). x * 65536) (not-so _ _ _ b (not-so _ _ _ (lt-leb count n h) refl))
 
 -- The first row that applies, if a further test stands in the second row: a row that applies without it stays, and if none does the
 -- further test decides.
@@ -124,28 +118,28 @@ or-false : (b : Bool) → b ≡ (b || false)
 or-false true = refl
 or-false false = refl
 
-none-first : {count a r : ℕ} → Refuses count a r → r ≡ 0 → (ms : List Module) → length ms ≡ count → firstNumber (boardRows ms a) ≡ 0
-none-first h none ms e = omega (arith, h .number ms e, none)
+none-first : (count a : ℕ) {r : ℕ} → r ≡ callFault count a → r ≡ 0 → firstNumber (boardRows count a) ≡ 0
+unfolding callFault
+none-first count a h none = omega (arith, h, none)
 
-module _ {count a b : ℕ} where
-  pub pair-first : {r : ℕ} → Refuses count a r → (r ≡ 0 → ⊥) → RefusesPair count a b r
-  pair-first h some = record {
-    number = λ ms e. h .number ms e ∙ ap (λ (x : ℕ). x * 65536) (stays (ltb (length ms) 1 || ltb 4 (length ms)) (leb (length ms) a) _ (λ none. some (h .number ms e ∙ ap (λ (x : ℕ). x * 65536) none)));
-  }
+module _ (count a b : ℕ) where
+  pub pair-first : {r : ℕ} → r ≡ callFault count a → (r ≡ 0 → ⊥) → r ≡ pairFault count a b
+  unfolding callFault pairFault
+  pair-first h some =
+      h ∙ ap (λ (x : ℕ). x * 65536) (stays (ltb count 1 || ltb 4 count) (leb count a) _ (λ none. some (h ∙ ap (λ (x : ℕ). x * 65536) none)))
 
-  pub pair-twice : {r : ℕ} → Refuses count a r → r ≡ 0 → a ≡ b → RefusesPair count a b (22 * 65536)
-  pair-twice h none same = record {
-    number = λ ms e.
-        ap (λ (x : ℕ). x * 65536) (twice (ltb (length ms) 1 || ltb 4 (length ms)) (leb (length ms) a) (leb (length ms) b) (none-first h none ms e)
-        ∙ ap (λ (t : Bool). firstNumber (row 21 (ltb (length ms) 1 || ltb 4 (length ms)) ∷ row 22 (leb (length ms) a || (leb (length ms) b || t)) ∷ [])) (sym (eq-eqb a b same)));
-  }
+  pub pair-twice : {r : ℕ} → r ≡ callFault count a → r ≡ 0 → a ≡ b → 22 * 65536 ≡ pairFault count a b
+  unfolding callFault pairFault
+  pair-twice h none same =
+      ap (λ (x : ℕ). x * 65536)
+      (twice (ltb count 1 || ltb 4 count) (leb count a) (leb count b) (none-first count a h none)
+      ∙ ap (λ (t : Bool). firstNumber (row 21 (ltb count 1 || ltb 4 count) ∷ row 22 (leb count a || (leb count b || t)) ∷ [])) (sym (eq-eqb a b same)))
 
-  pub pair-second : {first r : ℕ} → Refuses count a first → first ≡ 0 → (a ≡ b → ⊥) → Refuses count b r → RefusesPair count a b r
-  pair-second h none other k = record {
-    number = λ ms e.
-        k .number ms e
-        ∙ ap (λ (x : ℕ). x * 65536)
-        (ap (λ (t : Bool). firstNumber (row 21 (ltb (length ms) 1 || ltb 4 (length ms)) ∷ row 22 t ∷ []))
-        (or-false (leb (length ms) b) ∙ ap (λ (t : Bool). leb (length ms) b || t) (sym (ne-eqb a b other)))
-        ∙ sym (decides (ltb (length ms) 1 || ltb 4 (length ms)) (leb (length ms) a) _ (none-first h none ms e)));
-  }
+  pub pair-second : {first r : ℕ} → first ≡ callFault count a → first ≡ 0 → (a ≡ b → ⊥) → r ≡ callFault count b → r ≡ pairFault count a b
+  unfolding callFault pairFault
+  pair-second h none other k =
+      k
+      ∙ ap (λ (x : ℕ). x * 65536)
+      (ap (λ (t : Bool). firstNumber (row 21 (ltb count 1 || ltb 4 count) ∷ row 22 t ∷ []))
+      (or-false (leb count b) ∙ ap (λ (t : Bool). leb count b || t) (sym (ne-eqb a b other)))
+      ∙ sym (decides (ltb count 1 || ltb 4 count) (leb count a) _ (none-first count a h none)))

@@ -1,7 +1,7 @@
 -- What is told of a call that the board refuses, and of one that a record's numbers answer.
 --     inside, insides                          the records that a call and a linked run name are in the list, if they are not refused
---     tells-refused, tells-made                a call of one module
---     tells-pair-refused, tells-pair-made      a linked run of two
+--     refused-number, refused-leaves, made-answer, made-leaves      a call of one module
+--     pair-refused-number, pair-refused-leaves, pair-made-answer, pair-made-leaves      a linked run of two
 -- Assumes nothing.
 use Prim.Native.Nat.{ℕ, zero, suc, _<_, _≤_, _*_}
 use mathlib.Core.Bool.{not}
@@ -27,7 +27,7 @@ use Rattle.spi_board_rules.proofs.BoardCalls.{call-refused-exactly, call-refuse
 use Rattle.spi_memory.specs.Memory.{moduleIn}
 use Rattle.spi_numbers.specs.Told.{LinkTells}
 use Rattle.spi_board.specs.declared.Cells.{Cells}
-use Rattle.spi_board.specs.Boards.{modulesIn, recordAt, numbersAt, withNumbers, boardNumber, pairNumber, floatsAfter, keepsAll, pairKeepsAll, Refuses, RefusesPair, MakeTells, BoardTells, PairTells}
+use Rattle.spi_board.specs.Boards.{modulesIn, recordAt, numbersAt, withNumbers, boardNumber, pairNumber, floatsAfter, keepsAll, pairKeepsAll, callFault, pairFault, MakeTells, BoardLeaves, PairLeaves}
 
 -- Records and modules.
 pub as-many : (cs : List Cells) → length (modulesIn cs) ≡ length cs
@@ -83,36 +83,45 @@ pair-fault-told (pair.Refused w) h = refl
 pair-fault-told (pair.Ran a) h = absurd (omega (arith, h))
 
 -- A call of one module.
-module _ (n : ℕ) (cs : List Cells) (why : ℕ) (tested : Refuses (length cs) n why) where
+module _ (n : ℕ) (cs : List Cells) (why : ℕ) (tested : why ≡ callFault (length cs) n) where
   abbrev pub ms : List Module
   ms = modulesIn cs
 
-  pub row-is : why ≡ firstNumber (boardRows ms n) * 65536
-  row-is = tested .number (modulesIn cs) (as-many cs)
+  pub row-is : why ≡ firstNumber (boardRows (length ms) n) * 65536
+  unfolding callFault
+  row-is = tested ∙ ap (λ (count : ℕ). callFault count n) (sym (as-many cs))
 
   pub inside : T (not (ltb 0 why)) → n < length cs
   inside h = omega (arith, named-below (modulesIn cs) n (none row-is h), as-many cs)
 
-  pub tells-refused : (c : BoardCall) (floats : List Float) → T (ltb 0 why) → BoardTells n c why floats floats cs cs
-  tells-refused c floats h =
-      let exact = call-refused-exactly ms n c in
-      let is : 1 ≤ faultIn (boardOf ms n c .answer) = omega (arith, exact, some row-is h) in
+  refused-is : (c : BoardCall) → T (ltb 0 why) → 1 ≤ faultIn (boardOf ms n c .answer)
+  refused-is c h = omega (arith, call-refused-exactly ms n c, some row-is h)
+
+  pub refused-number : (c : BoardCall) → T (ltb 0 why) → why ≡ boardNumber (boardOf ms n c .answer)
+  refused-number c h =
+      row-is
+      ∙ ap (λ (x : ℕ). x * 65536) (sym (call-refused-exactly ms n c))
+      ∙ fault-told (boardOf ms n c .answer) (refused-is c h)
+
+  pub refused-leaves : (c : BoardCall) (floats : List Float) → T (ltb 0 why) → BoardLeaves n c floats floats cs cs
+  refused-leaves c floats h =
       record {
-        number = row-is ∙ ap (λ (x : ℕ). x * 65536) (sym exact) ∙ fault-told (boardOf ms n c .answer) is;
-        holds = sym (call-refused-unchanged ms n c is);
-        report = fault-floats (boardOf ms n c .answer) floats is;
+        holds = sym (call-refused-unchanged ms n c (refused-is c h));
+        report = fault-floats (boardOf ms n c .answer) floats (refused-is c h);
         untouched = λ _. refl;
         others = λ k _. refl;
       }
 
-  pub tells-made : (c : BoardCall) (r : ℕ) (floats floatsAt : List Float) (ws : List ℕ) → T (not (ltb 0 why)) →
-      MakeTells c r floats floatsAt (numbersAt cs n) ws → BoardTells n c r floats floatsAt cs (withNumbers cs n ws)
-  tells-made c r floats floatsAt ws h m =
+  pub made-answer : (c : BoardCall) → T (not (ltb 0 why)) → answerAlone (moduleIn (numbersAt cs n)) c ≡ boardOf ms n c .answer
+  made-answer c h = ap (λ (x : Module). answerAlone x c) (sym (holds-at cs n (inside h))) ∙ sym (call-is ms n c (none row-is h) .0)
+
+  pub made-leaves : (c : BoardCall) {r : ℕ} (floats floatsAt : List Float) (ws : List ℕ) → T (not (ltb 0 why)) →
+      MakeTells c r floats floatsAt (numbersAt cs n) ws → BoardLeaves n c floats floatsAt cs (withNumbers cs n ws)
+  made-leaves c floats floatsAt ws h m =
       let is = call-is ms n c (none row-is h) in
       let here = holds-at cs n (inside h) in
-      let answer : answerAlone (moduleIn (numbersAt cs n)) c ≡ boardOf ms n c .answer = ap (λ (x : Module). answerAlone x c) (sym here) ∙ sym (is .0) in
+      let answer = made-answer c h in
       record {
-        number = m .number ∙ ap boardNumber answer;
         holds =
             holds-set cs n ws
             ∙ ap (λ (x : Module). set ms n x) (m .holds ∙ ap (λ (x : Module). afterAlone x c) (sym here))
@@ -123,49 +132,60 @@ module _ (n : ℕ) (cs : List Cells) (why : ℕ) (tested : Refuses (length cs) n
       }
 
 -- A linked run of two.
-module _ (a b limit : ℕ) (cs : List Cells) (why : ℕ) (tested : RefusesPair (length cs) a b why) where
-  pub pair-row-is : why ≡ firstNumber (pairRows (modulesIn cs) a b) * 65536
-  pair-row-is = tested .number (modulesIn cs) (as-many cs)
+module _ (a b limit : ℕ) (cs : List Cells) (why : ℕ) (tested : why ≡ pairFault (length cs) a b) where
+  pub pair-row-is : why ≡ firstNumber (pairRows (length (modulesIn cs)) a b) * 65536
+  unfolding pairFault
+  pair-row-is = tested ∙ ap (λ (count : ℕ). pairFault count a b) (sym (as-many cs))
 
   pub insides : T (not (ltb 0 why)) → (a < length cs) × ((b < length cs) × (a ≡ b → ⊥))
   insides h =
       let p = places (modulesIn cs) a b (none pair-row-is h) in
       (omega (arith, p .first, as-many cs), (omega (arith, p .second, as-many cs), p .differ))
 
-  pub tells-pair-refused : T (ltb 0 why) → PairTells a b limit why cs cs
-  tells-pair-refused h =
-      let exact = pair-refused-exactly (modulesIn cs) a b limit in
-      let is : 1 ≤ pairFaultIn (pairOf (modulesIn cs) a b limit .answer) = omega (arith, exact, some pair-row-is h) in
+  pair-refused-is : T (ltb 0 why) → 1 ≤ pairFaultIn (pairOf (modulesIn cs) a b limit .answer)
+  pair-refused-is h = omega (arith, pair-refused-exactly (modulesIn cs) a b limit, some pair-row-is h)
+
+  pub pair-refused-number : T (ltb 0 why) → why ≡ pairNumber (pairOf (modulesIn cs) a b limit .answer)
+  pair-refused-number h =
+      pair-row-is
+      ∙ ap (λ (x : ℕ). x * 65536) (sym (pair-refused-exactly (modulesIn cs) a b limit))
+      ∙ pair-fault-told (pairOf (modulesIn cs) a b limit .answer) (pair-refused-is h)
+
+  pub pair-refused-leaves : T (ltb 0 why) → PairLeaves a b limit cs cs
+  pair-refused-leaves h =
       record {
-        number = pair-row-is ∙ ap (λ (x : ℕ). x * 65536) (sym exact) ∙ pair-fault-told (pairOf (modulesIn cs) a b limit .answer) is;
-        holds = sym (pair-refused-unchanged (modulesIn cs) a b limit is);
+        holds = sym (pair-refused-unchanged (modulesIn cs) a b limit (pair-refused-is h));
         untouched = λ _. refl;
         others = λ k _ _. refl;
       }
 
-  pub tells-pair-made : (r : ℕ) (host client : List ℕ) → T (not (ltb 0 why)) →
-      LinkTells (linkedOf (moduleIn (numbersAt cs a)) (moduleIn (numbersAt cs b)) limit) r (numbersAt cs a) host (numbersAt cs b) client →
-      PairTells a b limit r cs (withNumbers (withNumbers cs a host) b client)
-  unfolding ranOf pairNumber
-  tells-pair-made r host client h m =
-      let l : Linked = linkedOf (moduleIn (numbersAt cs a)) (moduleIn (numbersAt cs b)) limit in
+  abbrev l : Linked
+  l = linkedOf (moduleIn (numbersAt cs a)) (moduleIn (numbersAt cs b)) limit
+
+  pair-made-is : T (not (ltb 0 why)) → ranOf (modulesIn cs) a b l ≡ pairOf (modulesIn cs) a b limit
+  pair-made-is h =
       let in-list = insides h in
-      let is : ranOf (modulesIn cs) a b l ≡ pairOf (modulesIn cs) a b limit =
       ap (λ (x : Linked). ranOf (modulesIn cs) a b x)
       (sym (ap (λ (x : Module). linkedOf x (moduleAt (modulesIn cs) b) limit) (holds-at cs a (in-list .0)) ∙ ap (λ (x : Module). linkedOf (moduleIn (numbersAt cs a)) x limit) (holds-at cs b (in-list .1 .0))))
       ∙ sym (pair-is (modulesIn cs) a b limit (none pair-row-is h))
-      in
-      let answer : pair.Ran (l .answer) ≡ pairOf (modulesIn cs) a b limit .answer = ap (λ (o : Paired). o .answer) is in
+
+  pub pair-made-answer : T (not (ltb 0 why)) → pair.Ran (l .answer) ≡ pairOf (modulesIn cs) a b limit .answer
+  unfolding ranOf
+  pair-made-answer h = ap (λ (o : Paired). o .answer) (pair-made-is h)
+
+  pub pair-made-leaves : {r : ℕ} (host client : List ℕ) → T (not (ltb 0 why)) → LinkTells l r (numbersAt cs a) host (numbersAt cs b) client →
+      PairLeaves a b limit cs (withNumbers (withNumbers cs a host) b client)
+  unfolding ranOf
+  pair-made-leaves host client h m =
       record {
-        number = m .number ∙ ap pairNumber answer;
         holds =
             holds-set (withNumbers cs a host) b client
             ∙ ap (λ (x : List Module). set x b (moduleIn client)) (holds-set cs a host)
             ∙ ap (λ (x : Module). set (set (modulesIn cs) a x) b (moduleIn client)) (m .hostHolds)
             ∙ ap (λ (x : Module). set (set (modulesIn cs) a (l .host)) b x) (m .clientHolds)
-            ∙ ap (λ (o : Paired). o .after) is;
+            ∙ ap (λ (o : Paired). o .after) (pair-made-is h);
         untouched = λ t.
-            let kept = ap pairKeepsAll answer ∙ t in
+            let kept = ap pairKeepsAll (pair-made-answer h) ∙ t in
             ap (λ (x : List ℕ). withNumbers (withNumbers cs a x) b client) (m .hostUntouched kept)
             ∙ ap (λ (x : List Cells). withNumbers x b client) (same-put cs a)
             ∙ ap (withNumbers cs b) (m .clientUntouched kept)

@@ -1,5 +1,5 @@
 -- The total, beside what is told of the board's calls.
---     filler-counts-none, client-counts-none, host-counts, other-counts     a begun word, by the tests one after the other
+--     filler-counts-none, client-counts-none, host-counts     a begun word, by the tests one after the other
 --     asks-list, asks-total                    the question, by what it finds
 --     makes-owed, links-owed                   a call between two counts, and a linked run between two of each end
 --     owed-inside, owed-refused, owed-made     a call of one module of the list
@@ -8,7 +8,7 @@
 use Prim.Native.Nat.{ℕ, _+_, _-_, _%_, _<_}
 use mathlib.Core.Bool.{Bool, true, false, not, _||_}
 use mathlib.Core.List.{List, []}
-use mathlib.Core.Path.{_≡_, sym, ap, ap₂, _∙_}
+use mathlib.Core.Path.{_≡_, refl, sym, ap, ap₂, subst, _∙_}
 use native.Mathlib.Omega.{arith}
 use borrow.Author.Tests.{eqb-true, eqb-false, ltb-true, ltb-false}
 use lib.Dec.{T, eqb, ltb, lt→ltb, ltb→lt, nltb→le}
@@ -28,10 +28,10 @@ use Rattle.spi_board_rules.proofs.OwedMoves.{call-total-stays, call-total-moves
 use Rattle.spi_memory.specs.Memory.{moduleIn}
 use Rattle.spi_numbers.specs.Told.{LinkTells}
 use Rattle.spi_board.specs.declared.Cells.{Cells}
-use Rattle.spi_board.specs.Boards.{modulesIn, numbersAt, withNumbers, MakeTells}
-use Rattle.spi_board.specs.Owing.{boardIn, bothIn, owedNumber, Asks, RefusesOwed, RefusesOwedPair, MakesOwed, LinksOwed, OwedTells, OwedPairTells}
+use Rattle.spi_board.specs.Boards.{modulesIn, numbersAt, withNumbers, boardNumber, pairNumber, callFault, pairFault, MakeTells}
+use Rattle.spi_board.specs.Owing.{boardIn, bothIn, owedNumber, Asks, refusedNumber, refusedCall, refusedPair, MakesOwed, LinksOwed, OwedTells, OwedPairTells}
 use Rattle.spi_board.proofs.Asks.{bad}
-use Rattle.spi_board.proofs.Boarding.{holds-at, some, none, row-is, inside, tells-refused, tells-made, pair-row-is, insides, tells-pair-refused, tells-pair-made}
+use Rattle.spi_board.proofs.Boarding.{holds-at, some, none, row-is, inside, refused-number, refused-leaves, made-answer, made-leaves, pair-row-is, insides, pair-refused-number, pair-refused-leaves, pair-made-answer, pair-made-leaves}
 
 -- A begun word, by the tests one after the other.
 pub filler-counts-none : (a b : Bool) → a ≡ true → (a || b) ≡ true
@@ -39,9 +39,6 @@ filler-counts-none a b e = rw e
 
 pub client-counts-none : (a b : Bool) → a ≡ false → b ≡ true → (a || b) ≡ true
 client-counts-none a b e f = rw (e, f)
-
-pub other-counts : (a b : Bool) → a ≡ false → b ≡ false → (a || b) ≡ false
-other-counts a b e f = rw (e, f)
 
 pub host-counts : (s : Settings) (a : Bool) → a ≡ false → s .con1 .msten ≡ true → (a || ssenClient s) ≡ false
 host-counts s a e h = rw (e, h)
@@ -64,22 +61,25 @@ moves total m m' e f h = h ∙ ap₂ (λ (x y : ℕ). atMost65535 (total + x - y
 pub makes-owed : {owed : ℕ} {c : BoardCall} {answer was is total r : ℕ} {floats floatsAt : List Float} {before after : List ℕ} →
     MakeTells c answer floats floatsAt before after → was ≡ countOf (moduleIn before) → is ≡ countOf (moduleIn after) →
     total ≡ atMost65535 (owed % 65536 + is - was) → r ≡ bothIn total answer → MakesOwed owed c r floats floatsAt before after
-makes-owed {owed} {c} {answer} {before = before} {after = after} made e f t n =
-    record { answer = answer; made = made; number = n ∙ ap (λ (x : ℕ). bothIn x answer) (moves (owed % 65536) (moduleIn before) (moduleIn after) e f t) }
+makes-owed {owed} {c} {floats = floats} {floatsAt = floatsAt} {before = before} {after = after} made e f t n =
+    record {
+      number = n ∙ ap₂ bothIn (moves (owed % 65536) (moduleIn before) (moduleIn after) e f t) (made .number);
+      made = subst (λ (x : ℕ). MakeTells c x floats floatsAt before after) (made .number) made;
+    }
 
 pub links-owed : {owed limit answer was is client-was client-is first total r : ℕ} {host host' client client' : List ℕ} →
     LinkTells (linkedOf (moduleIn host) (moduleIn client) limit) answer host host' client client' →
     was ≡ countOf (moduleIn host) → client-was ≡ countOf (moduleIn client) → is ≡ countOf (moduleIn host') → client-is ≡ countOf (moduleIn client') →
     first ≡ atMost65535 (owed % 65536 + is - was) → total ≡ atMost65535 (first + client-is - client-was) → r ≡ bothIn total answer →
     LinksOwed owed limit r host host' client client'
-links-owed {owed} {limit} {answer} {first = first} {host = host} {host' = host'} {client = client} {client' = client'} linked e g f k t u n =
+links-owed {owed} {limit} {first = first} {host = host} {host' = host'} {client = client} {client' = client'} linked e g f k t u n =
     record {
-      answer = answer;
-      linked = linked;
       number =
           n
-          ∙ ap (λ (x : ℕ). bothIn x answer)
-          (moves first (moduleIn client) (moduleIn client') g k u ∙ ap (λ (x : ℕ). totalMoved x (moduleIn client) (moduleIn client')) (moves (owed % 65536) (moduleIn host) (moduleIn host') e f t));
+          ∙ ap₂ bothIn
+          (moves first (moduleIn client) (moduleIn client') g k u ∙ ap (λ (x : ℕ). totalMoved x (moduleIn client) (moduleIn client')) (moves (owed % 65536) (moduleIn host) (moduleIn host') e f t))
+          (linked .number);
+      linked = subst (λ (x : ℕ). LinkTells (linkedOf (moduleIn host) (moduleIn client) limit) x host host' client client') (linked .number) linked;
     }
 
 positive : (n : ℕ) → eqb n 0 ≡ false → 0 < n
@@ -89,88 +89,96 @@ nothing-refused : (n : ℕ) → n ≡ 0 → T (not (ltb 0 n))
 nothing-refused n e = rw e tt
 
 -- The number that the board's test gives: the total and the refusal, or 0.
-module _ (total why : ℕ) {r : ℕ} (e : r ≡ (if eqb why 0 then 0 else bothIn total why)) where
-  told-refused : T (ltb 0 r) → (T (ltb 0 why)) × (r ≡ bothIn total why)
+module _ (owed why : ℕ) {r : ℕ} (e : r ≡ refusedNumber owed why) where
+  told-refused : T (ltb 0 r) → (T (ltb 0 why)) × (r ≡ bothIn (owed % 65536) why)
+  unfolding refusedNumber
   told-refused h =
       by-test (eqb why 0)
       (λ on. absurd (omega (arith, ltb→lt 0 r h, e ∙ if-true (eqb why 0) _ _ on)))
       (λ off. (lt→ltb 0 why (positive why off), e ∙ if-false (eqb why 0) _ _ off))
 
   told-handed : T (not (ltb 0 r)) → T (not (ltb 0 why))
-  unfolding bothIn
+  unfolding refusedNumber bothIn
   told-handed h =
       by-test (eqb why 0)
       (λ on. nothing-refused why (eqb-true why 0 on))
       (λ off. absurd (omega (arith, nltb→le 0 r h, e ∙ if-false (eqb why 0) _ _ off, positive why off)))
 
 -- A call of one module of the list.
-module _ (owed n : ℕ) (cs : List Cells) {r : ℕ} (t : RefusesOwed (length cs) owed n r) where
+module _ (owed n : ℕ) (cs : List Cells) {r : ℕ} (t : r ≡ refusedCall (length cs) owed n) where
+  abbrev why : ℕ
+  why = callFault (length cs) n
+
   pub owed-inside : T (not (ltb 0 r)) → n < length cs
-  owed-inside h = inside n cs (t .why) (t .tested) (told-handed (owed % 65536) (t .why) (t .number) h)
+  owed-inside h = inside n cs why refl (told-handed owed why t h)
 
   pub owed-refused : (c : BoardCall) (floats : List Float) → T (ltb 0 r) → OwedTells owed n c r floats floats cs cs
   owed-refused c floats h =
-      let refused = told-refused (owed % 65536) (t .why) (t .number) h in
+      let refused = told-refused owed why t h in
       record {
-        answer = t .why;
-        told = tells-refused n cs (t .why) (t .tested) c floats (refused .0);
         number =
             refused .1
-            ∙ ap (λ (x : ℕ). bothIn x (t .why))
-            (sym (call-total-stays (boardIn owed cs) n c (some (row-is n cs (t .why) (t .tested)) (refused .0))));
+            ∙ ap₂ bothIn
+            (sym (call-total-stays (boardIn owed cs) n c (some (row-is n cs why refl) (refused .0))))
+            (refused-number n cs why refl c (refused .0));
+        leaves = refused-leaves n cs why refl c floats (refused .0);
       }
 
   pub owed-made : (c : BoardCall) (x : ℕ) (floats floatsAt : List Float) (ws : List ℕ) → T (not (ltb 0 r)) →
       MakesOwed owed c x floats floatsAt (numbersAt cs n) ws → OwedTells owed n c x floats floatsAt cs (withNumbers cs n ws)
   owed-made c x floats floatsAt ws h m =
-      let handed = told-handed (owed % 65536) (t .why) (t .number) h in
-      let told = tells-made n cs (t .why) (t .tested) c (m .answer) floats floatsAt ws handed (m .made) in
-      let in-list = inside n cs (t .why) (t .tested) handed in
+      let handed = told-handed owed why t h in
+      let leaves = made-leaves n cs why refl c floats floatsAt ws handed (m .made) in
+      let in-list = inside n cs why refl handed in
       let after : moduleAt (boardOf (modulesIn cs) n c .after) n ≡ moduleIn ws =
-      ap (λ (l : List Module). moduleAt l n) (sym (told .holds))
+      ap (λ (l : List Module). moduleAt l n) (sym (leaves .holds))
       ∙ holds-at (withNumbers cs n ws) n (omega (arith, in-list, length-set cs n (record { numbers = ws })))
       ∙ ap (λ (k : Cells). moduleIn (k .numbers)) (getD-set-same cs n (record { numbers = ws }) (record { numbers = [] }) in-list) in
       record {
-        answer = m .answer;
-        told = told;
         number =
             m .number
-            ∙ ap (λ (k : ℕ). bothIn k (m .answer))
+            ∙ ap₂ bothIn
             (sym
-            (call-total-moves (boardIn owed cs) n c (none (row-is n cs (t .why) (t .tested)) handed)
-            ∙ ap₂ (totalMoved (owed % 65536)) (holds-at cs n in-list) after));
+            (call-total-moves (boardIn owed cs) n c (none (row-is n cs why refl) handed)
+            ∙ ap₂ (totalMoved (owed % 65536)) (holds-at cs n in-list) after))
+            (ap boardNumber (made-answer n cs why refl c handed));
+        leaves = leaves;
       }
 
 -- A linked run of two.
-module _ (owed a b limit : ℕ) (cs : List Cells) {r : ℕ} (t : RefusesOwedPair (length cs) owed a b r) where
+module _ (owed a b limit : ℕ) (cs : List Cells) {r : ℕ} (t : r ≡ refusedPair (length cs) owed a b) where
+  abbrev why-pair : ℕ
+  why-pair = pairFault (length cs) a b
+
   pub owed-insides : T (not (ltb 0 r)) → (a < length cs) × ((b < length cs) × (a ≡ b → ⊥))
-  owed-insides h = insides a b limit cs (t .why) (t .tested) (told-handed (owed % 65536) (t .why) (t .number) h)
+  owed-insides h = insides a b limit cs why-pair refl (told-handed owed why-pair t h)
 
   pub owed-pair-refused : T (ltb 0 r) → OwedPairTells owed a b limit r cs cs
   owed-pair-refused h =
-      let refused = told-refused (owed % 65536) (t .why) (t .number) h in
+      let refused = told-refused owed why-pair t h in
       record {
-        answer = t .why;
-        told = tells-pair-refused a b limit cs (t .why) (t .tested) (refused .0);
         number =
             refused .1
-            ∙ ap (λ (x : ℕ). bothIn x (t .why))
-            (sym (run-total-stays (boardIn owed cs) a b limit (some (pair-row-is a b limit cs (t .why) (t .tested)) (refused .0))));
+            ∙ ap₂ bothIn
+            (sym (run-total-stays (boardIn owed cs) a b limit (some (pair-row-is a b limit cs why-pair refl) (refused .0))))
+            (pair-refused-number a b limit cs why-pair refl (refused .0));
+        leaves = pair-refused-leaves a b limit cs why-pair refl (refused .0);
       }
 
   pub owed-pair-made : (x : ℕ) (host client : List ℕ) → T (not (ltb 0 r)) →
       LinksOwed owed limit x (numbersAt cs a) host (numbersAt cs b) client →
       OwedPairTells owed a b limit x cs (withNumbers (withNumbers cs a host) b client)
+  unfolding pairNumber
   owed-pair-made x host client h m =
-      let handed = told-handed (owed % 65536) (t .why) (t .number) h in
-      let told = tells-pair-made a b limit cs (t .why) (t .tested) (m .answer) host client handed (m .linked) in
-      let in-list = insides a b limit cs (t .why) (t .tested) handed in
+      let handed = told-handed owed why-pair t h in
+      let leaves = pair-made-leaves a b limit cs why-pair refl host client handed (m .linked) in
+      let in-list = insides a b limit cs why-pair refl handed in
       let half : List Cells = withNumbers cs a host in
       let one : length half ≡ length cs = length-set cs a (record { numbers = host }) in
       let whole : List Cells = withNumbers half b client in
       let two : length whole ≡ length half = length-set half b (record { numbers = client }) in
       let find : (k : ℕ) → k < length cs → moduleAt (pairOf (modulesIn cs) a b limit .after) k ≡ moduleIn (numbersAt whole k) =
-      λ k l. ap (λ (y : List Module). moduleAt y k) (sym (told .holds)) ∙ holds-at whole k (omega (arith, l, one, two)) in
+      λ k l. ap (λ (y : List Module). moduleAt y k) (sym (leaves .holds)) ∙ holds-at whole k (omega (arith, l, one, two)) in
       let first : moduleAt (pairOf (modulesIn cs) a b limit .after) a ≡ moduleIn host =
       find a (in-list .0)
       ∙ ap (λ (k : Cells). moduleIn (k .numbers))
@@ -181,12 +189,12 @@ module _ (owed a b limit : ℕ) (cs : List Cells) {r : ℕ} (t : RefusesOwedPair
       ∙ ap (λ (k : Cells). moduleIn (k .numbers))
       (getD-set-same half b (record { numbers = client }) (record { numbers = [] }) (omega (arith, in-list .1 .0, one))) in
       record {
-        answer = m .answer;
-        told = told;
         number =
             m .number
-            ∙ ap (λ (k : ℕ). bothIn k (m .answer))
+            ∙ ap₂ bothIn
             (sym
-            (run-total-moves (boardIn owed cs) a b limit (none (pair-row-is a b limit cs (t .why) (t .tested)) handed)
-            ∙ cc (holds-at cs a (in-list .0), holds-at cs b (in-list .1 .0), first, second)));
+            (run-total-moves (boardIn owed cs) a b limit (none (pair-row-is a b limit cs why-pair refl) handed)
+            ∙ cc (holds-at cs a (in-list .0), holds-at cs b (in-list .1 .0), first, second)))
+            (ap pairNumber (pair-made-answer a b limit cs why-pair refl handed));
+        leaves = leaves;
       }

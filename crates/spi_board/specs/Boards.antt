@@ -5,7 +5,7 @@ use mathlib.Core.List.{List, [], _∷_}
 use mathlib.Core.Path.{_≡_}
 use lib.Dec.{eqb}
 use lib.Ieee.{Float}
-use lib.ListN.{length, getD, set}
+use lib.ListN.{getD, set}
 use Rattle.spi_rules.specs.declared.Module.{Module}
 use Rattle.spi_rules.specs.declared.Call.the-variants.{Read, Write, Tick, Pin, Clear}
 use Rattle.spi_rules.specs.Choice.{if_then_else_}
@@ -86,11 +86,11 @@ pairKeepsAll (pair.Refused w) = true
 pairKeepsAll (pair.Ran a) = isRefused a
 
 -- The board's test of a call, by the list's length: the number of the first row of the table that applies, as the answer has it.
-pub record Refuses (count n r : ℕ) : Type 0 where
-  pub number : (ms : List Module) → length ms ≡ count → r ≡ firstNumber (boardRows ms n) * 65536
+unfoldable pub callFault : ℕ → ℕ → ℕ
+callFault count n = firstNumber (boardRows count n) * 65536
 
-pub record RefusesPair (count a b r : ℕ) : Type 0 where
-  pub number : (ms : List Module) → length ms ≡ count → r ≡ firstNumber (pairRows ms a b) * 65536
+unfoldable pub pairFault : ℕ → ℕ → ℕ → ℕ
+pairFault count a b = firstNumber (pairRows count a b) * 65536
 
 -- A call of one record's numbers returns the number of what the module alone answers, and they then hold the module after it.
 pub record MakeTells (c : BoardCall) (r : ℕ) (floats floatsAt : List Float) (before after : List ℕ) : Type 0 where
@@ -99,11 +99,10 @@ pub record MakeTells (c : BoardCall) (r : ℕ) (floats floatsAt : List Float) (b
   pub report : floatsAt ≡ floatsAfter (answerAlone (moduleIn before) c) floats
   pub untouched : keepsAll (answerAlone (moduleIn before) c) ≡ true → after ≡ before
 
--- A call of module `n` returns the number of its definition's answer, and the list holds the definition's modules. The lent memory
--- holds the floats of a report. A call that is refused, a tick with no edge, a report and a look leave every number of the list as
--- it was; any other call leaves those of every other record.
-pub record BoardTells (n : ℕ) (c : BoardCall) (r : ℕ) (floats floatsAt : List Float) (before after : List Cells) : Type 0 where
-  pub number : r ≡ boardNumber (boardOf (modulesIn before) n c .answer)
+-- After a call of module `n` the list holds the definition's modules, and the lent memory the floats of a report. A call that is
+-- refused, a tick with no edge, a report and a look leave every number of the list as it was; any other call leaves those of every
+-- other record.
+pub record BoardLeaves (n : ℕ) (c : BoardCall) (floats floatsAt : List Float) (before after : List Cells) : Type 0 where
   pub holds : modulesIn after ≡ boardOf (modulesIn before) n c .after
   pub report : floatsAt ≡ floatsAfter (boardOf (modulesIn before) n c .answer) floats
   pub untouched : keepsAll (boardOf (modulesIn before) n c .answer) ≡ true → after ≡ before
@@ -111,8 +110,7 @@ pub record BoardTells (n : ℕ) (c : BoardCall) (r : ℕ) (floats floatsAt : Lis
 
 -- A linked run of host `a` and client `b` likewise. A refused one leaves every number of the list as it was, any other those of
 -- every other record.
-pub record PairTells (a b limit r : ℕ) (before after : List Cells) : Type 0 where
-  pub number : r ≡ pairNumber (pairOf (modulesIn before) a b limit .answer)
+pub record PairLeaves (a b limit : ℕ) (before after : List Cells) : Type 0 where
   pub holds : modulesIn after ≡ pairOf (modulesIn before) a b limit .after
   pub untouched : pairKeepsAll (pairOf (modulesIn before) a b limit .answer) ≡ true → after ≡ before
   pub others : (k : ℕ) → (a ≡ k → ⊥) → (b ≡ k → ⊥) → recordAt after k ≡ recordAt before k

@@ -11,12 +11,12 @@ use Rattle.spi_link_rules.specs.Link.{linkedOf}
 use Rattle.spi_board_rules.specs.declared.BoardCall.{BoardCall}
 use Rattle.spi_board_rules.specs.declared.OwedAnswer.{OwedAnswer}
 use Rattle.spi_board_rules.specs.declared.OwedAnswer.the-variants.{Refused, Owes}
-use Rattle.spi_board_rules.specs.Board.{boardNumberOf}
+use Rattle.spi_board_rules.specs.Board.{boardNumberOf, answerAlone, boardOf, pairOf}
 use Rattle.spi_board_rules.specs.Owed.{Board, totalMoved, owedCall, owedRun, owesOf}
 use Rattle.spi_memory.specs.Memory.{moduleIn}
-use Rattle.spi_numbers.specs.Told.{LinkTells}
+use Rattle.spi_numbers.specs.Told.{linkNumber, LinkTells}
 use Rattle.spi_board.specs.declared.Cells.{Cells}
-use Rattle.spi_board.specs.Boards.{modulesIn, Refuses, RefusesPair, MakeTells, BoardTells, PairTells}
+use Rattle.spi_board.specs.Boards.{modulesIn, boardNumber, pairNumber, callFault, pairFault, MakeTells, BoardLeaves, PairLeaves}
 
 -- The board that a list of records and a number beside it hold.
 abbrev pub boardIn : ℕ → List Cells → Board
@@ -35,38 +35,34 @@ pub record Asks (count owed r : ℕ) : Type 0 where
   pub number : (ms : List Module) → length ms ≡ count → r ≡ owedNumber (owesOf (record { modules = ms; owed = owed % 65536 }))
 
 -- The board's test of a call: 0, or the whole number that a refused call returns, with the total as it was.
-pub record RefusesOwed (count owed n r : ℕ) : Type 0 where
-  pub why : ℕ
-  pub tested : Refuses count n why
-  pub number : r ≡ (if eqb why 0 then 0 else bothIn (owed % 65536) why)
+unfoldable pub refusedNumber : ℕ → ℕ → ℕ
+refusedNumber owed fault = if eqb fault 0 then 0 else bothIn (owed % 65536) fault
 
-pub record RefusesOwedPair (count owed a b r : ℕ) : Type 0 where
-  pub why : ℕ
-  pub tested : RefusesPair count a b why
-  pub number : r ≡ (if eqb why 0 then 0 else bothIn (owed % 65536) why)
+abbrev pub refusedCall : ℕ → ℕ → ℕ → ℕ
+refusedCall count owed n = refusedNumber owed (callFault count n)
 
--- A call of one record's numbers, with the total moved by them.
+abbrev pub refusedPair : ℕ → ℕ → ℕ → ℕ → ℕ
+refusedPair count owed a b = refusedNumber owed (pairFault count a b)
+
+-- A call of one record's numbers, with the total moved by them above the answer.
 pub record MakesOwed (owed : ℕ) (c : BoardCall) (r : ℕ) (floats floatsAt : List Float) (before after : List ℕ) : Type 0 where
-  pub answer : ℕ
-  pub made : MakeTells c answer floats floatsAt before after
-  pub number : r ≡ bothIn (totalMoved (owed % 65536) (moduleIn before) (moduleIn after)) answer
+  pub number :
+      r ≡ bothIn (totalMoved (owed % 65536) (moduleIn before) (moduleIn after)) (boardNumber (answerAlone (moduleIn before) c))
+  pub made : MakeTells c (boardNumber (answerAlone (moduleIn before) c)) floats floatsAt before after
 
--- A linked run of two records' numbers, with the total moved by both.
+-- A linked run of two records' numbers, with the total moved by both above the answer.
 pub record LinksOwed (owed limit r : ℕ) (host hostAfter client clientAfter : List ℕ) : Type 0 where
-  pub answer : ℕ
-  pub linked : LinkTells (linkedOf (moduleIn host) (moduleIn client) limit) answer host hostAfter client clientAfter
   pub number :
       r
       ≡ bothIn (totalMoved (totalMoved (owed % 65536) (moduleIn host) (moduleIn hostAfter)) (moduleIn client) (moduleIn clientAfter))
-      answer
+      (linkNumber (linkedOf (moduleIn host) (moduleIn client) limit .answer))
+  pub linked : LinkTells (linkedOf (moduleIn host) (moduleIn client) limit) (linkNumber (linkedOf (moduleIn host) (moduleIn client) limit .answer)) host hostAfter client clientAfter
 
--- What the board's calls return: Seven's answer, and above it the definition's total.
+-- What the board's calls return: the number of Seven's answer, and above it the definition's total.
 pub record OwedTells (owed n : ℕ) (c : BoardCall) (r : ℕ) (floats floatsAt : List Float) (before after : List Cells) : Type 0 where
-  pub answer : ℕ
-  pub told : BoardTells n c answer floats floatsAt before after
-  pub number : r ≡ bothIn (owedCall (boardIn owed before) n c .after .owed) answer
+  pub number : r ≡ bothIn (owedCall (boardIn owed before) n c .after .owed) (boardNumber (boardOf (modulesIn before) n c .answer))
+  pub leaves : BoardLeaves n c floats floatsAt before after
 
 pub record OwedPairTells (owed a b limit r : ℕ) (before after : List Cells) : Type 0 where
-  pub answer : ℕ
-  pub told : PairTells a b limit answer before after
-  pub number : r ≡ bothIn (owedRun (boardIn owed before) a b limit .after .owed) answer
+  pub number : r ≡ bothIn (owedRun (boardIn owed before) a b limit .after .owed) (pairNumber (pairOf (modulesIn before) a b limit .answer))
+  pub leaves : PairLeaves a b limit before after

@@ -6,8 +6,8 @@ ghost use Prim.Native.Nat.{_+_, _-_, _≤_};
 ghost use mathlib.Core.Path.{_≡_};
 ghost use Rattle.spi_board_rules.specs.Owed.{inShift, countOf, atMost65535};
 ghost use Rattle.spi_memory.specs.Memory.{moduleIn};
-ghost use Rattle.spi_board.specs.Boards.{askedOf, Refuses, RefusesPair, MakeTells};
-ghost use Rattle.spi_board.specs.Owing.{bothIn, Asks, RefusesOwed, RefusesOwedPair, MakesOwed, LinksOwed};
+ghost use Rattle.spi_board.specs.Boards.{askedOf, callFault, pairFault, MakeTells};
+ghost use Rattle.spi_board.specs.Owing.{bothIn, Asks, refusedCall, refusedPair, MakesOwed, LinksOwed};
 
 // A module's memory as a record of the board.
 #[repr(C)]
@@ -22,7 +22,7 @@ const NO_MODULE: u32 = 22 * 65536;
 
 // Why a call of module `n` of a list of `count` is refused, as its answer's number: 0 if it is not.
 pub fn refusal(count: usize, n: u32) -> u32
-    ensures { λ r. ⌜ Refuses count n r ⌝ }
+    ensures { λ r. ⌜ r ≡ callFault count n ⌝ }
 {
     if count < 1 {
         return BAD_LIST;
@@ -38,7 +38,7 @@ pub fn refusal(count: usize, n: u32) -> u32
 
 // The same of a linked run of modules `a` and `b`.
 pub fn refusal_of_two(count: usize, a: u32, b: u32) -> u32
-    ensures { λ r. ⌜ RefusesPair count a b r ⌝ }
+    ensures { λ r. ⌜ r ≡ pairFault count a b ⌝ }
 {
     let first = refusal(count, a);
     if first != 0 {
@@ -165,7 +165,7 @@ pub fn join_counted(host: &mut [u16; 96], client: &mut [u16; 96], owed: u32, lim
 
 // Why a call of module `n` is refused, as the whole number that it returns: 0 if it is not.
 pub fn refused(count: usize, owed: u32, n: u32) -> u64
-    ensures { λ r. ⌜ RefusesOwed count owed n r ⌝ }
+    ensures { λ r. ⌜ r ≡ refusedCall count owed n ⌝ }
 {
     let why = refusal(count, n);
     if why == 0 {
@@ -176,7 +176,7 @@ pub fn refused(count: usize, owed: u32, n: u32) -> u64
 
 // The same of a linked run of modules `a` and `b`.
 pub fn refused_two(count: usize, owed: u32, a: u32, b: u32) -> u64
-    ensures { λ r. ⌜ RefusesOwedPair count owed a b r ⌝ }
+    ensures { λ r. ⌜ r ≡ refusedPair count owed a b ⌝ }
 {
     let why = refusal_of_two(count, a, b);
     if why == 0 {

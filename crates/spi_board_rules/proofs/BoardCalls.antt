@@ -1,4 +1,5 @@
 -- Calls of one module and linked runs of two, by the rows of the table.
+--     some, or-both                  a number that is not 0; neither of two tests is true
 --     two-rows                       neither of two rows applies
 --     call-refused-exactly, call-refused-unchanged, call-is      a call, refused or handed on
 --     pair-refused-exactly, pair-refused-unchanged, pair-is      a linked run, refused or handed on
@@ -6,19 +7,19 @@
 --     alone, joined                  what a call and a run do to the modules that they name, and to the others
 -- Assumes nothing.
 use Prim.Native.Nat.{ℕ, _<_, _≤_}
-use mathlib.Core.Bool.{Bool, true, false}
+use mathlib.Core.Bool.{Bool, true, false, _||_}
 use mathlib.Core.List.{List, [], _∷_}
 use mathlib.Core.Path.{_≡_, refl, sym, ap, _∙_}
 use native.Mathlib.Omega.{arith}
-use borrow.Author.Tests.{leb-false, eqb-false}
-use lib.Dec.{eqb}
+use borrow.Author.Tests.{leb-true, leb-false, eqb-false}
+use lib.Dec.{eqb, leb}
 use lib.ListN.{length, set, length-set}
 use lib.Seq.{getD-set-same, getD-set-other}
 use Rattle.spi_rules.specs.declared.Module.{Module}
 use Rattle.spi_rules.specs.Choice.{if_then_else_}
 use Rattle.spi_rules.specs.RefusalTable.{row, firstNumber}
 use Rattle.spi_rules.specs.Calls.{poweredUp}
-use Rattle.spi_rules.proofs.Keeps.{if-false, or-left, or-right}
+use Rattle.spi_rules.proofs.Keeps.{if-false, by-test, or-left, or-right}
 use Rattle.spi_link_rules.specs.declared.Linked.{Linked}
 use Rattle.spi_link_rules.specs.Link.{linkedOf}
 use Rattle.spi_board_rules.specs.declared.BoardCall.{BoardCall}
@@ -26,6 +27,14 @@ use Rattle.spi_board_rules.specs.declared.BoardCall.the-variants.{PowerU
 use Rattle.spi_board_rules.specs.declared.BoardFault.the-variants.{BadList, NoModule}
 use Rattle.spi_board_rules.specs.Board.{Boarded, Paired, boardNumberOf, badList, noModule, noPair, moduleAt, seenOf, answerAlone, afterAlone, refuseCall, refusePair, boardOf, ranOf, pairOf}
 use Rattle.spi_board_rules.specs.BoardDemands.{faultIn, pairFaultIn, boardRows, pairRows, at, Alone, Joined}
+
+-- A number that is told and is not 0.
+pub some : (n : ℕ) {m : ℕ} → m ≡ n → eqb n 0 ≡ false → 1 ≤ m
+some n e off = by-test (leb 1 n) (λ h. omega (arith, e, leb-true 1 n h)) (λ h. absurd (eqb-false n 0 off (omega (arith, leb-false 1 n h))))
+
+-- Neither of two tests is true.
+pub or-both : (a b : Bool) → a ≡ false → b ≡ false → (a || b) ≡ false
+or-both a b e f = rw (e, f)
 
 -- Rows.
 pub two-rows : (x y : ℕ) (a b : Bool) → 1 ≤ x → 1 ≤ y → firstNumber (row x a ∷ row y b ∷ []) ≡ 0 → (a ≡ false) × (b ≡ false)
@@ -59,7 +68,7 @@ no-fault m (Report f) = refl
 no-fault m Look = refl
 
 module _ (ms : List Module) (n : ℕ) (c : BoardCall) where
-  pub call-refused-exactly : faultIn (boardOf ms n c .answer) ≡ firstNumber (boardRows ms n)
+  pub call-refused-exactly : faultIn (boardOf ms n c .answer) ≡ firstNumber (boardRows (length ms) n)
   unfolding boardOf badList noModule refuseCall boardNumberOf
   call-refused-exactly =
       by-rows (λ (o : Boarded). faultIn (o .answer)) (λ (o : Boarded). o .after) ms 21 22 (refuseCall ms BadList) (refuseCall ms NoModule) _
@@ -73,7 +82,7 @@ module _ (ms : List Module) (n : ℕ) (c : BoardCall) where
       refl refl (no-fault _ c) refl refl
       (badList ms) (noModule ms n)
 
-  pub call-is : firstNumber (boardRows ms n) ≡ 0 →
+  pub call-is : firstNumber (boardRows (length ms) n) ≡ 0 →
       (boardOf ms n c .answer ≡ answerAlone (moduleAt ms n) c) × (boardOf ms n c .after ≡ set ms n (afterAlone (moduleAt ms n) c))
   unfolding boardOf badList noModule
   call-is e =
@@ -86,7 +95,7 @@ module _ (ms : List Module) (a b limit : ℕ) where
   ran : Paired
   ran = ranOf ms a b (linkedOf (moduleAt ms a) (moduleAt ms b) limit)
 
-  pub pair-refused-exactly : pairFaultIn (pairOf ms a b limit .answer) ≡ firstNumber (pairRows ms a b)
+  pub pair-refused-exactly : pairFaultIn (pairOf ms a b limit .answer) ≡ firstNumber (pairRows (length ms) a b)
   unfolding pairOf badList noPair noModule refusePair boardNumberOf ran ranOf
   pair-refused-exactly =
       by-rows (λ (o : Paired). pairFaultIn (o .answer)) (λ (o : Paired). o .after) ms 21 22 (refusePair ms BadList) (refusePair ms NoModule) ran
@@ -100,7 +109,7 @@ module _ (ms : List Module) (a b limit : ℕ) where
       refl refl refl refl refl
       (badList ms) (noPair ms a b)
 
-  pub pair-is : firstNumber (pairRows ms a b) ≡ 0 → pairOf ms a b limit ≡ ranOf ms a b (linkedOf (moduleAt ms a) (moduleAt ms b) limit)
+  pub pair-is : firstNumber (pairRows (length ms) a b) ≡ 0 → pairOf ms a b limit ≡ ranOf ms a b (linkedOf (moduleAt ms a) (moduleAt ms b) limit)
   unfolding pairOf badList noPair noModule
   pair-is e =
       let rows = two-rows 21 22 (badList ms) (noPair ms a b) (omega arith) (omega arith) e in
@@ -111,7 +120,7 @@ below : (ms : List Module) (n : ℕ) → noModule ms n ≡ false → n < length 
 unfolding noModule
 below ms n e = leb-false (length ms) n e
 
-pub named-below : (ms : List Module) (n : ℕ) → firstNumber (boardRows ms n) ≡ 0 → n < length ms
+pub named-below : (ms : List Module) (n : ℕ) → firstNumber (boardRows (length ms) n) ≡ 0 → n < length ms
 unfolding badList noModule
 named-below ms n e = below ms n (two-rows 21 22 (badList ms) (noModule ms n) (omega arith) (omega arith) e .1)
 
@@ -120,7 +129,7 @@ pub record TwoPlaces (ms : List Module) (a b : ℕ) : Type 0 where
   pub second : b < length ms
   pub differ : a ≡ b → ⊥
 
-pub places : (ms : List Module) (a b : ℕ) → firstNumber (pairRows ms a b) ≡ 0 → TwoPlaces ms a b
+pub places : (ms : List Module) (a b : ℕ) → firstNumber (pairRows (length ms) a b) ≡ 0 → TwoPlaces ms a b
 unfolding badList noPair noModule
 places ms a b e =
     let wrong = two-rows 21 22 (badList ms) (noPair ms a b) (omega arith) (omega arith) e .1 in
@@ -139,7 +148,7 @@ module _ (ms : List Module) (n : ℕ) (m : Module) where
   pub stays-at : (k : ℕ) → (n ≡ k → ⊥) → at (set ms n m) k ≡ at ms k
   stays-at k h = getD-set-other ms n k m poweredUp (λ e. h (sym e))
 
-pub alone : (ms : List Module) (n : ℕ) → firstNumber (boardRows ms n) ≡ 0 → Alone ms n
+pub alone : (ms : List Module) (n : ℕ) → firstNumber (boardRows (length ms) n) ≡ 0 → Alone ms n
 unfolding answerAlone afterAlone moduleAt seenOf
 alone ms n e =
     let here = named-below ms n e in
@@ -156,7 +165,7 @@ alone ms n e =
       };
     }
 
-pub joined : (ms : List Module) (a b limit : ℕ) → firstNumber (pairRows ms a b) ≡ 0 → Joined ms a b limit
+pub joined : (ms : List Module) (a b limit : ℕ) → firstNumber (pairRows (length ms) a b) ≡ 0 → Joined ms a b limit
 unfolding ranOf moduleAt
 joined ms a b limit e =
     let p = places ms a b e in

@@ -1,6 +1,7 @@
 -- The demands on the board of specs/BoardDemands.antt, all of them.
 --     boards-hold   what the buyer signs for, of the board
 -- Assumes nothing.
+use mathlib.Core.Path.{sym, _∙_}
 use Rattle.spi_board_rules.specs.BoardDemands.{Boards}
 use Rattle.spi_board_rules.proofs.BoardExamplesHold.{board-examples-hold}
 use Rattle.spi_board_rules.proofs.BoardCalls.{call-refused-exactly, call-refused-unchanged, pair-refused-exactly, pair-refused-unchanged, alone, joined}
@@ -17,4 +18,6 @@ boards-hold =
       pairRefusedUnchanged = pair-refused-unchanged;
       joined = joined;
       each = each-lives;
+      oneCall = λ ms n c x y e f. e ∙ sym f;
+      onePair = λ ms a b limit x y e f. e ∙ sym f;
     }

@@ -2,22 +2,20 @@
 --     each-lives   after any steps from power-up of all modules
 -- Assumes nothing.
 use Prim.Native.Nat.{ℕ, _<_, _≤_}
-use mathlib.Core.Bool.{Bool, true, false, _&&_, _||_}
+use mathlib.Core.Bool.{false, _&&_}
 use mathlib.Core.List.{List, [], _∷_, _++_}
 use mathlib.Core.Path.{_≡_, refl, sym, ap, _∙_}
-use native.Mathlib.Omega.{arith}
-use borrow.Author.Tests.{eqb-true, eqb-false, leb-true, leb-false}
-use lib.Dec.{eqb, leb}
-use lib.ListN.{replicate, getD-replicate}
+use borrow.Author.Tests.{eqb-true}
+use lib.Dec.{eqb}
+use lib.ListN.{length, replicate, getD-replicate}
 use Rattle.spi_rules.specs.declared.Module.{Module}
 use Rattle.spi_rules.specs.declared.Call.{Call}
-use Rattle.spi_rules.specs.Choice.{if_then_else_}
 use Rattle.spi_rules.specs.RefusalTable.{firstNumber}
 use Rattle.spi_rules.specs.Calls.{poweredUp, performOf, afterCalls}
 use Rattle.spi_rules.specs.Demands.{powerUp, begins, life}
 use Rattle.spi_rules.proofs.LivesReach.{watched-reaches, reaches-append}
-use Rattle.spi_rules.proofs.Keeps.{if-keeps, if-true, if-false, by-test, and-left, and-right, and-rest}
-use Rattle.spi_link_rules.specs.Link.{linkedOf, runHostCalls, runClientCalls}
+use Rattle.spi_rules.proofs.Keeps.{if-keeps, by-test, and-left, and-right, and-rest}
+use Rattle.spi_link_rules.specs.LinkDemands.{runHostCalls, runClientCalls}
 use Rattle.spi_link_rules.specs.LinkDemands.{refusalOf}
 use Rattle.spi_link_rules.proofs.LinkRuns.{link-calls}
 use Rattle.spi_link_rules.proofs.LinkDemandsHold.{linked-runs, made}
@@ -25,20 +23,12 @@ use Rattle.spi_board_rules.specs.declared.BoardCall.{BoardCall}
 use Rattle.spi_board_rules.specs.declared.BoardCall.the-variants.{PowerUp, Make, Report, Look}
 use Rattle.spi_board_rules.specs.Board.{boardOf, pairOf, Step, one, two, boardStepped, boardAfter}
 use Rattle.spi_board_rules.specs.BoardDemands.{boardRows, pairRows, at, ownAfterCall, ownAfterRun, ownAfter, ownCalls}
-use Rattle.spi_board_rules.proofs.BoardCalls.{call-refused-exactly, call-refused-unchanged, pair-refused-exactly, pair-refused-unchanged, alone, joined}
-
--- A number that is told and is not 0.
-some : (n : ℕ) {m : ℕ} → m ≡ n → eqb n 0 ≡ false → 1 ≤ m
-some n e off = by-test (leb 1 n) (λ h. omega (arith, e, leb-true 1 n h)) (λ h. absurd (eqb-false n 0 off (omega (arith, leb-false 1 n h))))
-
--- Neither of two tests is true.
-or-both : (a b : Bool) → a ≡ false → b ≡ false → (a || b) ≡ false
-or-both a b e f = rw (e, f)
+use Rattle.spi_board_rules.proofs.BoardCalls.{some, or-both, call-refused-exactly, call-refused-unchanged, pair-refused-exactly, pair-refused-unchanged, alone, joined}
 
 -- A call of one module, for the module that stands at `k`.
 module _ (ms : List Module) (k : ℕ) (own : List Call) (here : at ms k ≡ afterCalls poweredUp own) where
   -- It is named, and the call is handed on.
-  named : (c : BoardCall) → firstNumber (boardRows ms k) ≡ 0 → at (boardOf ms k c .after) k ≡ afterCalls poweredUp (ownAfterCall own c)
+  named : (c : BoardCall) → firstNumber (boardRows (length ms) k) ≡ 0 → at (boardOf ms k c .after) k ≡ afterCalls poweredUp (ownAfterCall own c)
   named PowerUp e = alone ms k e .powered .1
   named (Make c) e =
       alone ms k e .made c .1 ∙ ap (λ (m : Module). performOf m c .after) here ∙ sym (reaches-append own (c ∷ []) poweredUp)
@@ -46,19 +36,19 @@ module _ (ms : List Module) (k : ℕ) (own : List Call) (here : at ms k ≡ afte
   named Look e = alone ms k e .shown .1 ∙ here
 
   -- It is not named, or the call is refused.
-  not-named : (n : ℕ) (c : BoardCall) → (eqb (firstNumber (boardRows ms n)) 0 && eqb n k) ≡ false → at (boardOf ms n c .after) k ≡ at ms k
+  not-named : (n : ℕ) (c : BoardCall) → (eqb (firstNumber (boardRows (length ms) n)) 0 && eqb n k) ≡ false → at (boardOf ms n c .after) k ≡ at ms k
   not-named n c e =
-      by-test (eqb (firstNumber (boardRows ms n)) 0)
+      by-test (eqb (firstNumber (boardRows (length ms) n)) 0)
       (λ on. alone ms n (eqb-true _ 0 on) .others c .stay k (and-rest _ _ e on))
       (λ off. ap (λ (l : List Module). at l k) (call-refused-unchanged ms n c (some _ (call-refused-exactly ms n c) off)))
 
   call-lives : (n : ℕ) (c : BoardCall) → at (boardOf ms n c .after) k ≡ afterCalls poweredUp (ownAfter k ms own (one n c))
   call-lives n c =
-      if-keeps (λ (cs : List Call). at (boardOf ms n c .after) k ≡ afterCalls poweredUp cs) (eqb (firstNumber (boardRows ms n)) 0 && eqb n k) _ _
+      if-keeps (λ (cs : List Call). at (boardOf ms n c .after) k ≡ afterCalls poweredUp cs) (eqb (firstNumber (boardRows (length ms) n)) 0 && eqb n k) _ _
       (λ on.
-      let same = eqb-true n k (and-right (eqb (firstNumber (boardRows ms n)) 0) _ on) in
-      let right = eqb-true _ 0 (and-left (eqb (firstNumber (boardRows ms n)) 0) _ on) in
-      ap (λ (j : ℕ). at (boardOf ms j c .after) k) same ∙ named c (ap (λ (j : ℕ). firstNumber (boardRows ms j)) (sym same) ∙ right))
+      let same = eqb-true n k (and-right (eqb (firstNumber (boardRows (length ms) n)) 0) _ on) in
+      let right = eqb-true _ 0 (and-left (eqb (firstNumber (boardRows (length ms) n)) 0) _ on) in
+      ap (λ (j : ℕ). at (boardOf ms j c .after) k) same ∙ named c (ap (λ (j : ℕ). firstNumber (boardRows (length ms) j)) (sym same) ∙ right))
       (λ off. not-named n c off ∙ here)
 
 -- A linked run, for the module that stands at `k`.
@@ -67,7 +57,7 @@ module _ (ms : List Module) (k : ℕ) (own : List Call) (here : at ms k ≡ afte
   ran-here : (list : List Call) (m : Module) → m ≡ at ms k → {n : Module} → n ≡ afterCalls m list → n ≡ afterCalls poweredUp (own ++ list)
   ran-here list m e does = does ∙ ap (λ (x : Module). afterCalls x list) (e ∙ here) ∙ sym (reaches-append own list poweredUp)
 
-  run-made : firstNumber (pairRows ms a b) ≡ 0 → refusalOf (at ms a) (at ms b) limit ≡ 0 →
+  run-made : firstNumber (pairRows (length ms) a b) ≡ 0 → refusalOf (at ms a) (at ms b) limit ≡ 0 →
       at (pairOf ms a b limit .after) k ≡ afterCalls poweredUp (ownAfterRun k ms own a b limit)
   run-made e ran =
       let ends = link-calls (at ms a) (at ms b) limit _ (made (at ms a) (at ms b) limit ran) in
@@ -86,7 +76,7 @@ module _ (ms : List Module) (k : ℕ) (own : List Call) (here : at ms k ≡ afte
       (λ not-client. joined ms a b limit e .others .stay k (or-both (eqb a k) (eqb b k) not-host not-client) ∙ here))
 
   -- A refused one leaves both ends as they were.
-  run-refused : firstNumber (pairRows ms a b) ≡ 0 → 1 ≤ refusalOf (at ms a) (at ms b) limit → at (pairOf ms a b limit .after) k ≡ at ms k
+  run-refused : firstNumber (pairRows (length ms) a b) ≡ 0 → 1 ≤ refusalOf (at ms a) (at ms b) limit → at (pairOf ms a b limit .after) k ≡ at ms k
   run-refused e some =
       let ends = linked-runs .refusedUnchanged (at ms a) (at ms b) limit some in
       by-test (eqb a k)
@@ -100,18 +90,18 @@ module _ (ms : List Module) (k : ℕ) (own : List Call) (here : at ms k ≡ afte
       ap (at (pairOf ms a b limit .after)) (sym same) ∙ joined ms a b limit e .client ∙ ends .1 ∙ ap (at ms) same)
       (λ not-client. joined ms a b limit e .others .stay k (or-both (eqb a k) (eqb b k) not-host not-client)))
 
-  not-run : (eqb (firstNumber (pairRows ms a b)) 0 && eqb (refusalOf (at ms a) (at ms b) limit) 0) ≡ false →
+  not-run : (eqb (firstNumber (pairRows (length ms) a b)) 0 && eqb (refusalOf (at ms a) (at ms b) limit) 0) ≡ false →
       at (pairOf ms a b limit .after) k ≡ at ms k
   not-run e =
-      by-test (eqb (firstNumber (pairRows ms a b)) 0)
+      by-test (eqb (firstNumber (pairRows (length ms) a b)) 0)
       (λ on. run-refused (eqb-true _ 0 on) (some _ refl (and-rest _ _ e on)))
       (λ off. ap (λ (l : List Module). at l k) (pair-refused-unchanged ms a b limit (some _ (pair-refused-exactly ms a b limit) off)))
 
   run-lives : at (pairOf ms a b limit .after) k ≡ afterCalls poweredUp (ownAfter k ms own (two a b limit))
   run-lives =
       if-keeps (λ (cs : List Call). at (pairOf ms a b limit .after) k ≡ afterCalls poweredUp cs)
-      (eqb (firstNumber (pairRows ms a b)) 0 && eqb (refusalOf (at ms a) (at ms b) limit) 0) _ _
-      (λ on. run-made (eqb-true _ 0 (and-left (eqb (firstNumber (pairRows ms a b)) 0) _ on)) (eqb-true _ 0 (and-right (eqb (firstNumber (pairRows ms a b)) 0) _ on)))
+      (eqb (firstNumber (pairRows (length ms) a b)) 0 && eqb (refusalOf (at ms a) (at ms b) limit) 0) _ _
+      (λ on. run-made (eqb-true _ 0 (and-left (eqb (firstNumber (pairRows (length ms) a b)) 0) _ on)) (eqb-true _ 0 (and-right (eqb (firstNumber (pairRows (length ms) a b)) 0) _ on)))
       (λ off. not-run off ∙ here)
 
 -- Any steps.

@@ -5,5 +5,5 @@ pub mod BoardLives
 pub mod BoardDemandsHold
 pub mod OwedExamplesHold
 pub mod OwedCounts
-pub mod OwedDemandsHold
 pub mod OwedMoves
+pub mod OwedDemandsHold

@@ -7,7 +7,7 @@ use mathlib.Core.List.{List, [], _∷_}
 use mathlib.Core.Path.{_≡_, refl, sym, ap, subst, _∙_}
 use native.Mathlib.Omega.{arith}
 use borrow.Author.Tests.{ltb-false, leb-false}
-use lib.Dec.{eqb, leb, ltb}
+use lib.Dec.{ltb}
 use lib.ListN.{length, set, replicate, length-set}
 use Rattle.spi_rules.specs.declared.Module.{Module}
 use Rattle.spi_rules.specs.Choice.{if_then_else_}
@@ -24,11 +24,12 @@ use Rattle.spi_board_rules.specs.declared.BoardCall.the-variants.{PowerU
 use Rattle.spi_board_rules.specs.declared.BoardFault.the-variants.{BadList}
 use Rattle.spi_board_rules.specs.declared.OwedAnswer.the-variants.{Refused, Owes}
 use Rattle.spi_board_rules.specs.Board.{boardNumberOf, badList, noModule, noPair, moduleAt, afterAlone, ranOf, boardOf, pairOf, Paired, Step, one, two, boardStepped, boardAfter}
-use Rattle.spi_board_rules.specs.BoardDemands.{boardRows, pairRows, at}
-use Rattle.spi_board_rules.specs.Owed.{Board, countOf, totalMoved, totalAfterCall, owedCall, totalAfterRun, owedRun, owesOf, owedStep, owedAfter}
+use Rattle.spi_board_rules.specs.BoardDemands.{at}
+use Rattle.spi_board_rules.specs.Owed.{Board, totalMoved, totalAfterCall, owedCall, totalAfterRun, owedRun, owesOf, owedStep, owedAfter}
 use Rattle.spi_board_rules.specs.OwedDemands.{owedFaultIn, wordsIn, fullCount, freshBoard, Totals}
-use Rattle.spi_board_rules.proofs.BoardCalls.{call-is, call-refused-unchanged, call-refused-exactly, pair-is, pair-refused-unchanged, pair-refused-exactly, TwoPlaces, places, replaced, stays-at}
+use Rattle.spi_board_rules.proofs.BoardCalls.{call-is, call-refused-unchanged, call-refused-exactly, pair-is, pair-refused-unchanged, pair-refused-exactly, places, replaced, stays-at}
 use Rattle.spi_board_rules.proofs.OwedExamplesHold.{owed-examples-hold}
+use Rattle.spi_board_rules.proofs.OwedMoves.{call-moves, run-moves}
 use Rattle.spi_board_rules.proofs.OwedCounts.{AllHold, holds-at, hold-set, one-moved, counts-unsent, counts-none}
 
 -- The question.
@@ -180,10 +181,15 @@ totals-hold =
       countsNone = counts-none;
       sameCall = λ b n c. (refl, refl);
       sameRun = λ b host client limit. (refl, refl);
+      callMoves = call-moves;
+      runMoves = run-moves;
       refusedExactly = λ b. rows-law (badList (b .modules)) (b .owed);
       answersTotal = λ b e. tells-law (badList (b .modules)) (b .owed) e;
       fullAlways = λ size steps.
           steps-counted steps (freshBoard size) (record { all = fresh-hold size; full = sym (fresh-count size) }) .full
           ∙ ap fullCount (steps-modules steps (freshBoard size));
       modulesAlways = λ size steps. steps-modules steps (freshBoard size);
+      oneCall = λ b n c x y e f. e ∙ sym f;
+      oneRun = λ b host client limit x y e f. e ∙ sym f;
+      oneAnswer = λ b x y e f. e ∙ sym f;
     }

@@ -11,7 +11,8 @@ use Rattle.spi_rules.specs.Choice.{if_then_else_}
 use Rattle.spi_rules.specs.RefusalTable.{Row, row, firstNumber}
 use Rattle.spi_rules.specs.Calls.{poweredUp, performOf, interruptOf, sckOf, sdoOf, ssOf}
 use Rattle.spi_rules.specs.Demands.{powerUp, life}
-use Rattle.spi_link_rules.specs.Link.{linkedOf, runHostCalls, runClientCalls}
+use Rattle.spi_link_rules.specs.Link.{linkedOf}
+use Rattle.spi_link_rules.specs.LinkDemands.{runHostCalls, runClientCalls}
 use Rattle.spi_link_rules.specs.LinkDemands.{refusalOf}
 use Rattle.spi_clock_rules.specs.Clock.{reportOf}
 use Rattle.spi_board_rules.specs.declared.BoardCall.{BoardCall}
@@ -20,7 +21,7 @@ use Rattle.spi_board_rules.specs.declared.BoardAnswer.{BoardAnswer}
 use Rattle.spi_board_rules.specs.declared.BoardAnswer.the-variants.{Refused, Powered, Made, Told, Shown}
 use Rattle.spi_board_rules.specs.declared.PairAnswer.{PairAnswer}
 use Rattle.spi_board_rules.specs.declared.PairAnswer.the-variants as pair
-use Rattle.spi_board_rules.specs.Board.{boardNumberOf, boardOf, pairOf, Step, one, two, boardStepped, boardAfter}
+use Rattle.spi_board_rules.specs.Board.{Boarded, Paired, boardNumberOf, boardOf, pairOf, Step, one, two, boardStepped, boardAfter}
 use Rattle.spi_board_rules.specs.BoardExamples.{boardExamples}
 
 -- The number with which the board refuses, 0 if it hands the call on.
@@ -35,20 +36,21 @@ abbrev pub pairFaultIn : PairAnswer → ℕ
 pairFaultIn (pair.Refused w) = boardNumberOf w
 pairFaultIn (pair.Ran a) = 0
 
--- The rows of the table, in the order of the tests. Both stand before every row of one module and of a linked run.
-abbrev pub boardRows : List Module → ℕ → List Row
-boardRows ms n =
+-- The rows of the table for a list of so many modules, in the order of the tests. Both stand before every row of one module and of a
+-- linked run.
+abbrev pub boardRows : ℕ → ℕ → List Row
+boardRows size n =
     -- the list's length is outside 1 to 4
-    row 21 (ltb (length ms) 1 || ltb 4 (length ms))
+    row 21 (ltb size 1 || ltb 4 size)
     -- no such module
-    ∷ row 22 (leb (length ms) n)
+    ∷ row 22 (leb size n)
     ∷ []
 
-abbrev pub pairRows : List Module → ℕ → ℕ → List Row
-pairRows ms a b =
-    row 21 (ltb (length ms) 1 || ltb 4 (length ms))
+abbrev pub pairRows : ℕ → ℕ → ℕ → List Row
+pairRows size a b =
+    row 21 (ltb size 1 || ltb 4 size)
     -- no such module, or the same one twice
-    ∷ row 22 (leb (length ms) a || (leb (length ms) b || eqb a b))
+    ∷ row 22 (leb size a || (leb size b || eqb a b))
     ∷ []
 
 -- The module at a place of the list.
@@ -96,9 +98,9 @@ ownAfterRun k ms own a b limit =
     else own
 
 abbrev pub ownAfter : ℕ → List Module → List Call → Step → List Call
-ownAfter k ms own (one n c) = if eqb (firstNumber (boardRows ms n)) 0 && eqb n k then ownAfterCall own c else own
+ownAfter k ms own (one n c) = if eqb (firstNumber (boardRows (length ms) n)) 0 && eqb n k then ownAfterCall own c else own
 ownAfter k ms own (two a b limit) =
-    if eqb (firstNumber (pairRows ms a b)) 0 && eqb (refusalOf (at ms a) (at ms b) limit) 0 then ownAfterRun k ms own a b limit else own
+    if eqb (firstNumber (pairRows (length ms) a b)) 0 && eqb (refusalOf (at ms a) (at ms b) limit) 0 then ownAfterRun k ms own a b limit else own
 
 abbrev pub ownCalls : ℕ → List Module → List Call → List Step → List Call
 ownCalls k ms own [] = own
@@ -107,17 +109,19 @@ ownCalls k ms own (s ∷ ss) = ownCalls k (boardStepped ms s) (ownAfter k ms own
 -- A call is refused with 21 or 22 exactly as the table says, before anything else, and then leaves the list as it was. Any other
 -- answers and does what the named modules alone would, and the other records stay. So after any steps from power-up of all
 -- modules, each is the one that its own calls reach from power-up: all that is said of one module (registers, flags, pins, word
--- order, edges owed) is said of it.
+-- order, edges owed) is said of it. There are no two outcomes.
 pub record Boards : Type 0 where
   pub paperExamples : boardExamples ≡ true
-  pub refusedExactly : (ms : List Module) (n : ℕ) (c : BoardCall) → faultIn (boardOf ms n c .answer) ≡ firstNumber (boardRows ms n)
+  pub refusedExactly : (ms : List Module) (n : ℕ) (c : BoardCall) → faultIn (boardOf ms n c .answer) ≡ firstNumber (boardRows (length ms) n)
   pub refusedUnchanged : (ms : List Module) (n : ℕ) (c : BoardCall) → 1 ≤ faultIn (boardOf ms n c .answer) → boardOf ms n c .after ≡ ms
-  pub alone : (ms : List Module) (n : ℕ) → firstNumber (boardRows ms n) ≡ 0 → Alone ms n
+  pub alone : (ms : List Module) (n : ℕ) → firstNumber (boardRows (length ms) n) ≡ 0 → Alone ms n
   pub pairRefusedExactly : (ms : List Module) (a b limit : ℕ) →
-      pairFaultIn (pairOf ms a b limit .answer) ≡ firstNumber (pairRows ms a b)
+      pairFaultIn (pairOf ms a b limit .answer) ≡ firstNumber (pairRows (length ms) a b)
   pub pairRefusedUnchanged : (ms : List Module) (a b limit : ℕ) → 1 ≤ pairFaultIn (pairOf ms a b limit .answer) →
       pairOf ms a b limit .after ≡ ms
-  pub joined : (ms : List Module) (a b limit : ℕ) → firstNumber (pairRows ms a b) ≡ 0 → Joined ms a b limit
+  pub joined : (ms : List Module) (a b limit : ℕ) → firstNumber (pairRows (length ms) a b) ≡ 0 → Joined ms a b limit
   pub each : (size : ℕ) (steps : List Step) (k : ℕ) → k < size →
       at (boardAfter (replicate size poweredUp) steps) k
       ≡ life powerUp (ownCalls k (replicate size poweredUp) [] steps) .now
+  pub oneCall : (ms : List Module) (n : ℕ) (c : BoardCall) (x y : Boarded) → x ≡ boardOf ms n c → y ≡ boardOf ms n c → x ≡ y
+  pub onePair : (ms : List Module) (a b limit : ℕ) (x y : Paired) → x ≡ pairOf ms a b limit → y ≡ pairOf ms a b limit → x ≡ y

@@ -11,7 +11,7 @@ use Rattle.spi_board_rules.specs.declared.BoardCall.the-variants.{PowerU
 use Rattle.spi_board_rules.specs.declared.OwedAnswer.{OwedAnswer}
 use Rattle.spi_board_rules.specs.declared.OwedAnswer.the-variants.{Refused, Owes}
 use Rattle.spi_board_rules.specs.Board.{boardNumberOf, Step, one, two, boardAfter}
-use Rattle.spi_board_rules.specs.BoardExamples.{fresh, write, every}
+use Rattle.spi_board_rules.specs.BoardExamples.{fresh, write, every, ready}
 use Rattle.spi_board_rules.specs.Owed.{Board, owesOf, owedAfter}
 
 -- What the question answers: the words owed, or a refusal.
@@ -27,6 +27,10 @@ owes size steps words = tells (owesOf (owedAfter (record { modules = fresh size;
 abbrev pub owesFrom : ℕ → List Step → List Step → ℕ → Bool
 owesFrom total before steps words =
     tells (owesOf (owedAfter (record { modules = boardAfter (fresh 4) before; owed = total }) steps)) 0 words
+
+-- So many modules at power-up have a total of 7, which is not theirs, and leave it.
+abbrev pub leaves7 : ℕ → List Step → Bool
+leaves7 size steps = eqb (owedAfter (record { modules = fresh size; owed = 7 }) steps .owed) 7
 
 abbrev pub refused : ℕ → Bool
 refused size = tells (owesOf (record { modules = fresh size; owed = 0 })) 21 0
@@ -81,8 +85,16 @@ owedExamples =
     ∷ owes 4 (client ++ (host ++ calls 1 (PowerUp ∷ []))) 1
     ∷ owes 4 (client ++ (host ++ calls 7 (PowerUp ∷ []))) 4
     -- a linked run finishes words at both ends
-    ∷ owes 4 (calls 1 (write 1 0x0020 ∷ write 0 0x8000 ∷ write 3 0x00A5 ∷ []) ++ (calls 3 (write 0 0x8000 ∷ write 3 0x003C ∷ []) ++ (two 1 3 15 ∷ []))) 2
-    ∷ owes 4 (calls 1 (write 1 0x0020 ∷ write 0 0x8000 ∷ write 3 0x00A5 ∷ []) ++ (calls 3 (write 0 0x8000 ∷ write 3 0x003C ∷ []) ++ (two 1 3 16 ∷ []))) 0
+    ∷ owes 4 (ready ++ (two 1 3 15 ∷ [])) 2
+    ∷ owes 4 (ready ++ (two 1 3 16 ∷ [])) 0
+    -- a total that is not the list's own moves by the modules that are named alone
+    ∷ owesFrom 9 host (calls 2 (PowerUp ∷ [])) 9
+    ∷ owesFrom 9 host (calls 1 (replicate 16 tick)) 8
+    ∷ owesFrom 9 ready (two 1 3 16 ∷ []) 7
+    -- calls and linked runs that the board refuses, and runs that the two modules refuse, leave it
+    ∷ leaves7 5 (one 0 PowerUp ∷ two 0 1 16 ∷ [])
+    ∷ leaves7 4 (one 4 PowerUp ∷ two 4 0 16 ∷ two 0 4 16 ∷ two 2 2 16 ∷ [])
+    ∷ leaves7 4 (two 0 1 16 ∷ two 0 1 289 ∷ [])
     -- a total that is not the list's own stops at either end
     ∷ owesFrom 65535 [] host 65535
     ∷ owesFrom 65532 [] host 65535

@@ -8,7 +8,7 @@ use lib.ListN.{getD}
 use lib.Ieee.{binary64, round}
 use Rattle.spi_rules.specs.declared.Settings.{Settings}
 use Rattle.spi_rules.specs.declared.Module.{Module}
-use Rattle.spi_rules.specs.Settings.{ownClock}
+use Rattle.spi_rules.specs.InBits.{clocksItself}
 use Rattle.spi_clock_rules.specs.declared.Reported.{Reported}
 use Rattle.spi_clock_rules.specs.Clock.{dividerOf, floatOf, nought, reportOf, saidRefused, saidInternal, saidExternal, saidNone, saidClock}
 
@@ -24,12 +24,12 @@ tabled s = getD (64 ∷ 16 ∷ 4 ∷ 1 ∷ []) (s .con1 .ppre % 4) 0 * (8 - s .c
 pub record ClockReports : Type 0 where
   pub refused : (m : Module) → saidClock (reportOf m 0) ≡ saidRefused 8
   pub none : (m : Module) (f : ℕ) → 0 < f → m .settings .spien ≡ false → saidClock (reportOf m f) ≡ saidNone
-  pub internal : (m : Module) (f : ℕ) → 0 < f → f < 2 ^ 32 → m .settings .spien ≡ true → ownClock (m .settings) ≡ true →
+  pub internal : (m : Module) (f : ℕ) → 0 < f → f < 2 ^ 32 → m .settings .spien ≡ true → clocksItself (m .settings .con1) ≡ true →
       saidClock (reportOf m f)
       ≡ saidInternal (round binary64 false f (dividerOf (m .settings))) (round binary64 false (dividerOf (m .settings)) f)
   pub exact : (m : Module) (f q : ℕ) → f < 2 ^ 32 → f ≡ q * dividerOf (m .settings) →
       round binary64 false f (dividerOf (m .settings)) ≡ floatOf q
-  pub external : (m : Module) (f : ℕ) → 0 < f → m .settings .spien ≡ true → ownClock (m .settings) ≡ false →
+  pub external : (m : Module) (f : ℕ) → 0 < f → m .settings .spien ≡ true → clocksItself (m .settings .con1) ≡ false →
       saidClock (reportOf m f) ≡ saidExternal (floatOf f)
   pub asTabled : (s : Settings) → dividerOf s ≡ tabled s
   pub toldAs0 : nought ≡ floatOf 0

@@ -9,3 +9,5 @@ pub mod LinkRefusals
 pub mod LinkExamplesHold
 -- The demands, all of them:
 pub mod LinkDemandsHold
+-- The page, run:
+pub mod LinkPageHolds

@@ -2,9 +2,8 @@
 --     linked-runs   what the buyer signs for, of two modules on one wire
 -- Assumes nothing.
 use Prim.Native.Nat.{ℕ, _≤_, zero-le}
-use mathlib.Core.Bool.{true}
 use mathlib.Core.List.{List, [], _∷_, _++_}
-use mathlib.Core.Path.{_≡_, refl, sym, ap, subst, _∙_}
+use mathlib.Core.Path.{_≡_, refl, sym, subst, _∙_}
 use native.Mathlib.Omega.{arith}
 use lib.Dec.{lit≤}
 use Rattle.spi_rules.specs.declared.Module.{Module}
@@ -14,14 +13,14 @@ use Rattle.spi_rules.specs.declared.Refusal.the-variants.{NoSuchRegister, Disab
 use Rattle.spi_link_rules.specs.declared.LinkAnswer.{LinkAnswer}
 use Rattle.spi_link_rules.specs.declared.LinkAnswer.the-variants as linked
 use Rattle.spi_rules.specs.Refusals.{numberOf}
-use Rattle.spi_rules.specs.Calls.{performOf, afterCalls}
+use Rattle.spi_rules.specs.Calls.{afterCalls}
 use Rattle.spi_rules.specs.Watch.{Watched, watchedCall, watchedCalls}
-use Rattle.spi_rules.specs.Demands.{Beginning, begins, life, owed}
-use Rattle.spi_link_rules.specs.Link.{linkedOf, linkSaidOf, runHostCalls, runClientCalls}
+use Rattle.spi_rules.specs.Demands.{begins, life, owed}
+use Rattle.spi_link_rules.specs.Link.{linkedOf, linkSaidOf}
 use Rattle.spi_link_rules.specs.LinkDemands.{refusalOf, edgesUsed, LinkedRuns}
 use Rattle.spi_rules.proofs.LivesHold.{life-holds}
 use Rattle.spi_rules.proofs.OwedHold.{owed-is-held}
-use Rattle.spi_link_rules.proofs.LinkRuns.{Allowed, link-when, link-refused-unchanged, link-calls, link-counts, link-within-limit}
+use Rattle.spi_link_rules.proofs.LinkRuns.{link-when, link-refused-unchanged, link-calls, link-counts, link-within-limit}
 use Rattle.spi_link_rules.proofs.LinkIdle.{owed-most, host-on, link-uses-owed}
 use Rattle.spi_link_rules.proofs.LinkSelect.{link-selected}
 use Rattle.spi_link_rules.proofs.LinkRefusals.{link-refused-exactly}
@@ -63,7 +62,7 @@ within (linked.Refused r) limit h = zero-le
 within (linked.Used n) limit h = h n refl
 
 -- Calls behind calls.
-life-goes-on : (x : Watched) (cs ds : List Call) → afterCalls (watchedCalls x cs .now) ds ≡ watchedCalls x (cs ++ ds) .now
+pub life-goes-on : (x : Watched) (cs ds : List Call) → afterCalls (watchedCalls x cs .now) ds ≡ watchedCalls x (cs ++ ds) .now
 life-goes-on x [] [] = refl
 life-goes-on x [] (d ∷ ds) = life-goes-on (watchedCall x d) [] ds
 life-goes-on x (c ∷ cs) ds = life-goes-on (watchedCall x c) cs ds

@@ -25,10 +25,11 @@ use Rattle.spi_link_rules.specs.declared.Run.{Run}
 use Rattle.spi_link_rules.specs.declared.LinkAnswer.the-variants as linked
 use Rattle.spi_link_rules.specs.declared.Linked.{Linked}
 use Rattle.spi_rules.specs.Settings.{widthOf, depthOf, enhancedDepth, framed, clockStops, ssenClient, ownClock, unframedHost}
-use Rattle.spi_rules.specs.Refusals.{isDone}
+use Rattle.spi_rules.specs.Refusals.{isDone, isEdge}
 use Rattle.spi_rules.specs.Registers.{isFree}
 use Rattle.spi_rules.specs.Calls.{afterCalls, refuse, answering, tickOf, sdoOf, performOf}
-use Rattle.spi_link_rules.specs.Link.{mostEdges, levelRead, madeEdge, hostTicked, clientSees, runStops, oneMore, clientTurn, handedOver, hostTurn, runOf, toldOf, linkedOf, hostCalls, runHostCalls}
+use Rattle.spi_link_rules.specs.Link.{mostEdges, levelRead, madeEdge, hostTicked, clientSees, runStops, oneMore, clientTurn, handedOver, hostTurn, runOf, toldOf, linkedOf}
+use Rattle.spi_link_rules.specs.LinkDemands.{hostCalls, runHostCalls}
 use Rattle.spi_rules.specs.Invariant.{ModuleHolds}
 use Rattle.spi_rules.specs.Words.{unfinished, leftBuffer, waitingIn}
 use Rattle.spi_rules.specs.Demands.{edgesMade, IsIdle}
@@ -50,7 +51,6 @@ one-unfinished s (Begun p) =
 
 -- A buffer holds no more than in enhanced operation.
 pub depth-within : (s : Settings) → depthOf s ≤ enhancedDepth
-unfolding depthOf
 depth-within s =
     if-keeps (λ (d : ℕ). d ≤ enhancedDepth) (s .con2 .spiben) enhancedDepth 1 (λ e. omega arith) (λ e. omega arith)
 
@@ -87,14 +87,14 @@ tick-none m sdi ss on own =
 -- The host's calls leave it undisturbed: they are ticks.
 turn-undisturbed : (left : ℕ) (host client : Module) → host .settings .spien ≡ true →
     AllUndisturbing host (hostCalls left host client)
-unfolding hostCalls hostTicked performOf
+unfolding hostCalls hostTicked clientSees levelRead performOf
 turn-undisturbed zero host client on = tt
 turn-undisturbed (suc left) host client on =
     let sdi : Bool = levelRead (sdoOf client) in
     let ticked : Outcome = tickOf host sdi false in
     let still : ticked .after .settings .spien ≡ true = ap (λ (s : Settings). s .spien) (tick-settings host sdi false) ∙ on in (
       record { enabled = still; noWord = and-false (isDone (ticked .answer)) false refl },
-      if-keeps (λ (cs : List Call). AllUndisturbing (ticked .after) cs) (madeEdge (ticked .answer)) _ _
+      if-keeps (λ (cs : List Call). AllUndisturbing (ticked .after) cs) (isEdge (ticked .answer)) _ _
           (λ e. turn-undisturbed left (ticked .after) (clientSees (ticked .after) client) still)
           (λ e. tt),
     )
@@ -166,7 +166,7 @@ module _ (host client : Module) (limit n : ℕ) (h : ModuleHolds host) (e : link
 
   -- The host's calls leave it undisturbed.
   undisturbed : AllUndisturbing host (runHostCalls host client limit)
-  unfolding runHostCalls
+  unfolding runHostCalls clientSees levelRead performOf
   undisturbed = turn-undisturbed limit host (clientSees host client) (host-on host client limit allowed)
 
   -- The edges used are what the host's debt fell by.

@@ -25,9 +25,10 @@ use Rattle.spi_link_rules.specs.declared.LinkAnswer.the-variants as link
 use Rattle.spi_link_rules.specs.declared.Linked.{Linked}
 use Rattle.spi_rules.specs.Choice.{if_then_else_}
 use Rattle.spi_rules.specs.Calls.{afterCalls, performOf}
-use Rattle.spi_link_rules.specs.Link.{mostEdges, madeEdge, hostTicked, clientSees, runStops, oneMore, clientTurn, handedOver, hostTurn, runOf, eitherDisabled, wrongRoles, differentModes, refuseLink, toldOf, linkedOf, shownLevels, hostCalls, clientCalls, runHostCalls, runClientCalls}
+use Rattle.spi_link_rules.specs.Link.{mostEdges, levelRead, madeEdge, hostTicked, clientSees, runStops, oneMore, clientTurn, handedOver, hostTurn, runOf, eitherDisabled, wrongRoles, differentModes, refuseLink, toldOf, linkedOf}
+use Rattle.spi_link_rules.specs.LinkDemands.{hostCalls, clientCalls, runHostCalls, runClientCalls}
 use Rattle.spi_rules.specs.Invariant.{ModuleHolds}
-use Rattle.spi_rules.specs.Refusals.{saidOf}
+use Rattle.spi_rules.specs.Refusals.{saidOf, isEdge}
 use Rattle.spi_rules.specs.Demands.{edgesMade}
 use Rattle.spi_rules.proofs.Keeps.{if-keeps, if-false, clash}
 use Rattle.spi_rules.proofs.InvariantHolds.{calls-keep}
@@ -97,32 +98,43 @@ link-refused-unchanged host client limit r =
     (λ s e. (refl, refl))
     (λ e. clash true refl (ap tellsEdges e))
 
+-- The answer that makes an edge.
+edge-is : (a : Answer) → madeEdge a ≡ isEdge a
+unfolding madeEdge
+edge-is (Refused r) = refl
+edge-is Done = refl
+edge-is (Value v) = refl
+edge-is NoEdge = refl
+edge-is Edge = refl
+
 -- A turn and the calls that it makes at one end go the same way.
-goes-on : (end : Run → Module) (m : Module) (b : Bool) (x y : Run) (cs : List Call) → end x ≡ afterCalls m cs → end y ≡ m →
-    end (if b then x else y) ≡ afterCalls m (if b then cs else [])
+goes-on : (end : Run → Module) (m : Module) (b c : Bool) (x y : Run) (cs : List Call) → b ≡ c → end x ≡ afterCalls m cs → end y ≡ m →
+    end (if b then x else y) ≡ afterCalls m (if c then cs else [])
 unfolding if_then_else_
-goes-on end m true x y cs h k = h
-goes-on end m false x y cs h k = k
+goes-on end m true true x y cs e h k = h
+goes-on end m true false x y cs e h k = clash true refl e
+goes-on end m false true x y cs e h k = clash true refl (sym e)
+goes-on end m false false x y cs e h k = k
 
 -- From the host's turn on, the run does to the host what its calls there do.
 turn-host : (left : ℕ) (host client : Module) →
     hostTurn left host client .host ≡ afterCalls host (hostCalls left host client)
-unfolding hostTurn handedOver clientTurn oneMore runStops hostCalls hostTicked performOf
+unfolding hostTurn handedOver clientTurn oneMore runStops hostCalls hostTicked clientSees levelRead performOf
 turn-host zero host client = refl
 turn-host (suc left) host client =
     let ticked : Outcome = hostTicked host client in
-    goes-on (λ (r : Run). r .host) (ticked .after) (madeEdge (ticked .answer)) _ _ _
+    goes-on (λ (r : Run). r .host) (ticked .after) (madeEdge (ticked .answer)) (isEdge (ticked .answer)) _ _ _ (edge-is (ticked .answer))
     (turn-host left (ticked .after) (clientSees (ticked .after) client))
     refl
 
 -- From the host's turn on, the run does to the client what its calls there do.
 turn-client : (left : ℕ) (host client : Module) →
     hostTurn left host client .client ≡ afterCalls client (clientCalls left host client)
-unfolding hostTurn handedOver clientTurn oneMore runStops clientCalls clientSees shownLevels performOf
+unfolding hostTurn handedOver clientTurn oneMore runStops clientCalls hostTicked clientSees levelRead performOf
 turn-client zero host client = refl
 turn-client (suc left) host client =
     let ticked : Outcome = hostTicked host client in
-    goes-on (λ (r : Run). r .client) client (madeEdge (ticked .answer)) _ _ _
+    goes-on (λ (r : Run). r .client) client (madeEdge (ticked .answer)) (isEdge (ticked .answer)) _ _ _ (edge-is (ticked .answer))
     (turn-client left (ticked .after) (clientSees (ticked .after) client))
     refl
 
@@ -136,39 +148,41 @@ edge-counts NoEdge = refl
 edge-counts Edge = refl
 
 -- A turn counts one edge if the tick made one.
-counts-on : (m : Module) (b : Bool) (k : ℕ) (x y : Run) (cs : List Call) → k ≡ (if b then 1 else 0) →
-    x .used ≡ edgesMade m cs + 1 → y .used ≡ 0 → (if b then x else y) .used ≡ k + edgesMade m (if b then cs else [])
+counts-on : (m : Module) (b c : Bool) (k : ℕ) (x y : Run) (cs : List Call) → b ≡ c → k ≡ (if b then 1 else 0) →
+    x .used ≡ edgesMade m cs + 1 → y .used ≡ 0 → (if b then x else y) .used ≡ k + edgesMade m (if c then cs else [])
 unfolding if_then_else_
-counts-on m true k x y cs e h l = omega arith
-counts-on m false k x y cs e h l = omega arith
+counts-on m true true k x y cs f e h l = omega arith
+counts-on m true false k x y cs f e h l = clash true refl f
+counts-on m false true k x y cs f e h l = clash true refl (sym f)
+counts-on m false false k x y cs f e h l = omega arith
 
 -- From the host's turn on, the edges used are those that the host's calls make.
 turn-counts : (left : ℕ) (host client : Module) →
     hostTurn left host client .used ≡ edgesMade host (hostCalls left host client)
-unfolding hostTurn handedOver clientTurn oneMore runStops hostCalls hostTicked performOf
+unfolding hostTurn handedOver clientTurn oneMore runStops hostCalls hostTicked clientSees levelRead performOf
 turn-counts zero host client = refl
 turn-counts (suc left) host client =
     let ticked : Outcome = hostTicked host client in
-    counts-on (ticked .after) (madeEdge (ticked .answer)) (saidOf (ticked .answer) .edges) _ _ _ (edge-counts (ticked .answer))
+    counts-on (ticked .after) (madeEdge (ticked .answer)) (isEdge (ticked .answer)) (saidOf (ticked .answer) .edges) _ _ _ (edge-is (ticked .answer)) (edge-counts (ticked .answer))
     (ap (λ (k : ℕ). k + 1) (turn-counts left (ticked .after) (clientSees (ticked .after) client)))
     refl
 
 -- The run does to the host what its calls there do.
 pub run-host : (host client : Module) (limit : ℕ) →
     runOf host client limit .host ≡ afterCalls host (runHostCalls host client limit)
-unfolding runOf runHostCalls
+unfolding runOf runHostCalls clientSees levelRead performOf
 run-host host client limit = turn-host limit host (clientSees host client)
 
 -- The run does to the client what its calls there do.
 pub run-client : (host client : Module) (limit : ℕ) →
     runOf host client limit .client ≡ afterCalls client (runClientCalls host client limit)
-unfolding runOf runClientCalls shownLevels clientSees performOf
+unfolding runOf runClientCalls clientSees levelRead performOf
 run-client host client limit = turn-client limit host (clientSees host client)
 
 -- The edges used are those that the host's calls make.
 pub run-counts : (host client : Module) (limit : ℕ) →
     runOf host client limit .used ≡ edgesMade host (runHostCalls host client limit)
-unfolding runOf runHostCalls
+unfolding runOf runHostCalls clientSees levelRead performOf
 run-counts host client limit = turn-counts limit host (clientSees host client)
 
 -- A linked run that is not refused does to each end what the calls that it makes there do.

@@ -1,7 +1,6 @@
 -- Document 01, "Two modules on one wire": a linked run of a host with its own clock and a client, both unframed.
 use Prim.Native.Nat.{ℕ, zero, suc, _+_, _*_}
 use mathlib.Core.Bool.{Bool, true, false, not, _||_, Bool·beq}
-use mathlib.Core.List.{List, [], _∷_}
 use lib.Dec.{eqb, ltb}
 use Rattle.spi_rules.specs.declared.Settings.{Settings}
 use Rattle.spi_rules.specs.declared.Module.{Module}
@@ -10,8 +9,6 @@ use Rattle.spi_rules.specs.declared.Refusal.{Refusal}
 use Rattle.spi_rules.specs.declared.Refusal.the-variants.{Disabled, WrongClock, DifferentModes, TooManyEdges}
 use Rattle.spi_rules.specs.declared.Answer.{Answer}
 use Rattle.spi_rules.specs.declared.Answer.the-variants.{Refused, Done, Value, NoEdge, Edge}
-use Rattle.spi_rules.specs.declared.Call.{Call}
-use Rattle.spi_rules.specs.declared.Call.the-variants.{Tick, Pin}
 use Rattle.spi_rules.specs.declared.Output.{Output}
 use Rattle.spi_rules.specs.declared.Output.the-variants.{Low, High, Undriven}
 use Rattle.spi_link_rules.specs.declared.Run.{Run}
@@ -114,34 +111,3 @@ linkedOf host client limit =
 unfoldable pub linkSaidOf : LinkAnswer → LinkSaid
 linkSaidOf (linked.Refused r) = record { number = numberOf r; edges = 0 }
 linkSaidOf (linked.Used n) = record { number = 0; edges = n }
-
--- The calls that a run makes at each end, in their order. Each tick carries the client's SDO at that moment, and each pin
--- call the host's levels at that moment with SS low. A tick that makes no edge is the last call.
-
--- The pin call that shows a client the host's present levels.
-unfoldable pub shownLevels : Module → Call
-shownLevels host = Pin (sckOf host) (levelRead (sdoOf host)) false
-
--- The host's calls from its turn on.
-unfoldable pub hostCalls : ℕ → Module → Module → List Call
-hostCalls zero host client = []
-hostCalls (suc left) host client =
-    let ticked : Outcome = hostTicked host client in
-    Tick (levelRead (sdoOf client)) false
-    ∷ (if madeEdge (ticked .answer) then hostCalls left (ticked .after) (clientSees (ticked .after) client) else [])
-
--- The client's calls from the host's turn on.
-unfoldable pub clientCalls : ℕ → Module → Module → List Call
-clientCalls zero host client = []
-clientCalls (suc left) host client =
-    let ticked : Outcome = hostTicked host client in
-    if madeEdge (ticked .answer)
-    then shownLevels (ticked .after) ∷ clientCalls left (ticked .after) (clientSees (ticked .after) client)
-    else []
-
--- The host's calls in a whole run, and the client's.
-unfoldable pub runHostCalls : Module → Module → ℕ → List Call
-runHostCalls host client limit = hostCalls limit host (clientSees host client)
-
-unfoldable pub runClientCalls : Module → Module → ℕ → List Call
-runClientCalls host client limit = shownLevels host ∷ clientCalls limit host (clientSees host client)

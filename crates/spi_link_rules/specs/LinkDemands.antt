@@ -1,17 +1,24 @@
 -- The customer's demands on two modules on one wire. The record LinkedRuns holds every statement, and
 -- proofs/LinkDemandsHold.antt proves it. A run is said to be made if its refusal number is 0.
-use Prim.Native.Nat.{ℕ, _≤_}
+use Prim.Native.Nat.{ℕ, zero, suc, _≤_}
 use mathlib.Core.Bool.{Bool, true, false, not, _||_, Bool·beq}
 use mathlib.Core.List.{List, [], _∷_, _++_}
 use mathlib.Core.Path.{_≡_}
-use lib.Dec.{eqb, ltb}
+use lib.Dec.{ltb}
 use Rattle.spi_rules.specs.declared.Module.{Module}
+use Rattle.spi_rules.specs.declared.Outcome.{Outcome}
+use Rattle.spi_rules.specs.declared.Output.{Output}
+use Rattle.spi_rules.specs.declared.Output.the-variants.{Low, High, Undriven}
 use Rattle.spi_rules.specs.declared.Call.{Call}
-use Rattle.spi_rules.specs.Settings.{widthOf}
-use Rattle.spi_rules.specs.RefusalTable.{Row, row, firstNumber, clocksItself}
+use Rattle.spi_rules.specs.declared.Call.the-variants.{Tick, Pin}
+use Rattle.spi_rules.specs.Choice.{if_then_else_}
+use Rattle.spi_rules.specs.InBits.{clocksItself}
+use Rattle.spi_rules.specs.Refusals.{isEdge}
+use Rattle.spi_rules.specs.RefusalTable.{Row, row, firstNumber}
+use Rattle.spi_rules.specs.Calls.{performOf, sckOf, sdoOf}
 use Rattle.spi_rules.specs.Demands.{Beginning, life, owed, edgesMade, IsIdle}
 use Rattle.spi_link_rules.specs.declared.Linked.{Linked}
-use Rattle.spi_link_rules.specs.Link.{linkedOf, linkSaidOf, runHostCalls, runClientCalls}
+use Rattle.spi_link_rules.specs.Link.{linkedOf, linkSaidOf}
 use Rattle.spi_link_rules.specs.LinkExamples.{exampleL, linkExamples}
 
 -- The refusal table's rows for a linked run, in the order of the tests: 11, then 2 for the host and the client, 7, 10.
@@ -29,8 +36,46 @@ linkRows host client limit =
     ∷ row 10
     (not (Bool·beq (host .settings .con1 .ckp) (client .settings .con1 .ckp))
     || (not (Bool·beq (host .settings .con1 .cke) (client .settings .con1 .cke))
-    || not (eqb (widthOf (host .settings)) (widthOf (client .settings)))))
+    || not (Bool·beq (host .settings .con1 .mode16) (client .settings .con1 .mode16))))
     ∷ []
+
+-- What is read of an SDO pin at the other end of its wire: undriven reads 0.
+abbrev pub readAs : Output → Bool
+readAs Low = false
+readAs High = true
+readAs Undriven = false
+
+-- What each end is shown of the other's pins: a tick of the host carries the client's SDO, and a pin call of the client the host's SCK
+-- and SDO with SS low.
+abbrev pub tickBeside : Module → Call
+tickBeside client = Tick (readAs (sdoOf client)) false
+
+abbrev pub pinsBeside : Module → Call
+pinsBeside host = Pin (sckOf host) (readAs (sdoOf host)) false
+
+-- The calls at either end with so many edges left, in their order: the host ticks, and after an edge the client is shown the new levels.
+-- A tick that makes no edge is the last call.
+unfoldable pub hostCalls : ℕ → Module → Module → List Call
+hostCalls zero host client = []
+hostCalls (suc left) host client =
+    let ticked : Outcome = performOf host (tickBeside client) in
+    tickBeside client
+    ∷ (if isEdge (ticked .answer) then hostCalls left (ticked .after) (performOf client (pinsBeside (ticked .after)) .after) else [])
+
+unfoldable pub clientCalls : ℕ → Module → Module → List Call
+clientCalls zero host client = []
+clientCalls (suc left) host client =
+    let ticked : Outcome = performOf host (tickBeside client) in
+    if isEdge (ticked .answer)
+    then pinsBeside (ticked .after) ∷ clientCalls left (ticked .after) (performOf client (pinsBeside (ticked .after)) .after)
+    else []
+
+-- Those of a whole run: the client is first shown the host's present levels, whatever the limit.
+unfoldable pub runHostCalls : Module → Module → ℕ → List Call
+runHostCalls host client limit = hostCalls limit host (performOf client (pinsBeside host) .after)
+
+unfoldable pub runClientCalls : Module → Module → ℕ → List Call
+runClientCalls host client limit = pinsBeside host ∷ clientCalls limit host (performOf client (pinsBeside host) .after)
 
 -- What a run says in the paper's numbers.
 abbrev pub refusalOf : Module → Module → ℕ → ℕ

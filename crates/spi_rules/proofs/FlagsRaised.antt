@@ -4,9 +4,8 @@
 --     finish-raises     a finish: an append or none, a leaving or none, and the finish itself
 --     write-raises      a BUF write: a leaving or none, and the write itself
 -- Assumes nothing.
-use Prim.Native.Nat.{ℕ, zero, suc, _+_, _<_, _≤_}
-use mathlib.Core.Bool.{Bool, true, false, not, _&&_, _||_, or-false, and-true}
-use mathlib.Core.List.{List, [], _∷_}
+use Prim.Native.Nat.{ℕ, zero, suc, _+_, _<_}
+use mathlib.Core.Bool.{Bool, true, false, _&&_, _||_, or-false, and-true}
 use mathlib.Core.Path.{_≡_, refl, sym, ap, ap₂, _∙_}
 use native.Mathlib.Omega.{arith}
 use borrow.Author.Tests.{ne-eqb, eqb-true, eqb-false, eq-eqb}
@@ -15,7 +14,6 @@ use lib.ListN.{getD}
 use Rattle.spi_rules.specs.declared.Settings.{Settings}
 use Rattle.spi_rules.specs.declared.Event.{Event}
 use Rattle.spi_rules.specs.declared.Event.the-variants.{Taken, Appended, Left, Finished, Written}
-use Rattle.spi_rules.specs.Choice.{if_then_else_}
 use Rattle.spi_rules.specs.Settings.{depthOf, enhancedDepth}
 use Rattle.spi_rules.specs.Interrupts.{enhancedRaises, standardRaises, raises}
 use Rattle.spi_rules.specs.Flags.{conditions, raisedWhen}
@@ -95,7 +93,6 @@ raised-none enhanced k r a l f c u w none er ea el ef ec =
 module _ (s : Settings) where
   -- In enhanced operation the depth is 8.
   depth-is : s .con2 .spiben ≡ true → depthOf s ≡ 8
-  unfolding depthOf
   depth-is e = if-true (s .con2 .spiben) enhancedDepth 1 e
 
   -- What an event raises in enhanced operation, and in standard operation.

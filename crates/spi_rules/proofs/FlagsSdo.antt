@@ -196,18 +196,18 @@ module _ (s : Settings) (cke : ckeOf s ≡ false) where
       (ap (λ (b : Bool). b && not (isBegun (loaded s q .shift))) cke)
       ∙ if-keeps (λ (x : Engine). x .pins .sdo ≡ n .pins .sdo) (canLoad s q) _ _ (λ e. refl) (λ e. refl)
 
--- An outcome that leaves SDO as it was between words with CKE 0, 0 at enabling, and as it was while disabled.
+-- An outcome that leaves SDO as it was between words with CKE 0, 0 at enabling, and all levels as they were while disabled.
 record Leaves (m : Module) (o : Outcome) : Type 0 where
   on : o .after .settings .spien ≡ true → ckeOf (o .after .settings) ≡ false → isBegun (o .after .engine .shift) ≡ false →
       o .after .engine .pins .sdo ≡ (m .settings .spien && m .engine .pins .sdo)
-  off : o .after .settings .spien ≡ false → o .after .engine .pins .sdo ≡ m .engine .pins .sdo
+  off : o .after .settings .spien ≡ false → o .after .engine .pins ≡ m .engine .pins
 
 module _ (m : Module) where
-  -- An outcome with the same SDO level and the same SPIEN.
+  -- An outcome with the same levels and the same SPIEN.
   same-leaves : (o : Outcome) → o .after .settings .spien ≡ m .settings .spien →
       (m .settings .spien ≡ true → ckeOf (o .after .settings) ≡ false → isBegun (o .after .engine .shift) ≡ false →
       o .after .engine .pins .sdo ≡ m .engine .pins .sdo) →
-      (m .settings .spien ≡ false → o .after .engine .pins .sdo ≡ m .engine .pins .sdo) → Leaves m o
+      (m .settings .spien ≡ false → o .after .engine .pins ≡ m .engine .pins) → Leaves m o
   same-leaves o spien on off =
       record {
         on = λ e cke unbegun.
@@ -219,8 +219,8 @@ module _ (m : Module) where
   -- An outcome that leaves the module.
   stays-leaves : (o : Outcome) → o .after ≡ m → Leaves m o
   stays-leaves o e =
-      let sdo : o .after .engine .pins .sdo ≡ m .engine .pins .sdo = ap (λ (x : Module). x .engine .pins .sdo) e in
-      same-leaves o (ap (λ (x : Module). x .settings .spien) e) (λ a b d. sdo) (λ a. sdo)
+      same-leaves o (ap (λ (x : Module). x .settings .spien) e) (λ a b d. ap (λ (x : Module). x .engine .pins .sdo) e)
+      (λ a. ap (λ (x : Module). x .engine .pins) e)
 
   read-leaves : (register : ℕ) → Leaves m (readOf m register)
   unfolding readOf readBuf answering wordTaken noted refuse
@@ -321,6 +321,11 @@ module _ (m : Module) where
   call-leaves (Pin sck sdi ss) = pins-leave sck sdi ss
   call-leaves Clear = same-leaves _ refl (λ a b d. refl) (λ a. refl)
 
+-- A module that is disabled after a call has the levels of before.
+pub levels-stay : (m : Module) (c : Call) → performOf m c .after .settings .spien ≡ false →
+    performOf m c .after .engine .pins ≡ m .engine .pins
+levels-stay m c = call-leaves m c .off
+
 -- SDO after a call.
 pub sdo-shown : (x : Watched) (c : Call) → ModuleHolds (watchedCall x c .now) →
     (watchedCall x c .now .settings .spien ≡ true →
@@ -348,7 +353,7 @@ sdo-shown x c h was =
     ∙ quiet-level s n (y .ledger) t b (n .shift) unbegun before)
     ∙ ap (λ (w : Wire). levelShown s (y .ledger) w before) (sym (t .carries))
     ∙ sym (if-true (s .spien) _ _ on))
-    (λ off. left .off off ∙ sym (if-false (s .spien) _ _ off))
+    (λ off. ap (λ (p : Pins). p .sdo) (left .off off) ∙ sym (if-false (s .spien) _ _ off))
 
 -- The pins as others see them.
 pub pins-show : (x : Watched) → (x .now .settings .spien ≡ true → TiedNow (x .now .settings) (x .now .engine) (x .ledger)) →

@@ -28,7 +28,7 @@ use Rattle.spi_rules.specs.Buffers.{empty}
 use Rattle.spi_rules.specs.Interrupts.{noted}
 use Rattle.spi_rules.specs.Loading.{isBegun, rested, sdoAt}
 use Rattle.spi_rules.specs.Select.{selectRemembered, deselected, selectSeen}
-use Rattle.spi_rules.specs.Edge.{wordEdges, advancedIfBegun, underWay, pulseDue, active, pulseAfter, pulsed, clocked, edged, levels, stepped}
+use Rattle.spi_rules.specs.Edge.{advancedIfBegun, underWay, pulseDue, active, pulseAfter, pulsed, clocked, edged, levels, stepped}
 use Rattle.spi_rules.specs.Calls.{refuse, answering, wordTaken, readBuf, readOf, turnsOn, turnsOff, statWritten, writeStat, configured, wordWritten, writeBuf, writeOf, toldSelect, tickOf, pinsOf, clearOf, performOf, sckOf}
 use Rattle.spi_rules.specs.Invariant.{ShiftHolds}
 use Rattle.spi_rules.specs.Ledger.{Wire, Ledger, onWire, selectNoted, edgeNoted, acceptedNoted, readNoted}
@@ -154,7 +154,6 @@ module _ (m : Module) (on : m .settings .spien ≡ true) where
 
 -- The word on the wire is short of its last edge.
 short-of : (s : Settings) (n : Engine) (sh : Shift) → ShiftHolds s n sh → edgesGiven (wireOf s sh) < 2 * widthOf s
-unfolding wordEdges
 short-of s n Free h = omega (arith, width-eight s)
 short-of s n (Loaded word) h = omega (arith, width-eight s)
 short-of s n (Begun p) h = h .short

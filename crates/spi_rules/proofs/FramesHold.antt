@@ -26,7 +26,7 @@ use Rattle.spi_rules.specs.Settings.{widthOf, framed, frameHost, frameCl
 use Rattle.spi_rules.specs.Refusals.{badSettings}
 use Rattle.spi_rules.specs.Registers.{bitOf, isFree, statSettings, enabledEngine}
 use Rattle.spi_rules.specs.Buffers.{empty}
-use Rattle.spi_rules.specs.Edge.{wordEdges, pulseDue}
+use Rattle.spi_rules.specs.Edge.{pulseDue}
 use Rattle.spi_rules.specs.Calls.{refuse, answering, readBuf, readOf, turnsOn, turnsOff, statWritten, writeStat, withCon1, withCon2, configured, writeBuf, writeOf, tickOf, pinsOf, clearOf, performOf, sckOf}
 use Rattle.spi_rules.specs.Words.{unfinished}
 use Rattle.spi_rules.specs.Invariant.{ShiftHolds, PulseFits}
@@ -132,7 +132,6 @@ module _ (s : Settings) (n : Engine) where
     -- A frame host's pulse within a word, with FRMDLY 0: after edge 2w-1.
     within : s .con2 .frmdly ≡ false → (sh : Shift) → PulseFits s n sh → isQuiet (wireOf s sh) ≡ false →
         edgesGiven (wireOf s sh) + 1 ≡ 2 * widthOf s
-    unfolding wordEdges
     within early Free h b = clash true refl b
     within early (Loaded word) h b = clash true refl b
     within early (Begun p) h b = h .2 early .0
@@ -180,7 +179,7 @@ module _ (s : Settings) (n : Engine) (l : Ledger) (t : TiedNow s n l) (host : fr
       pulseDue s (n .transmit .count) sh
       ≡ (if s .con2 .frmdly then eqb (edgesGiven (wireOf s sh)) 1
       else (isQuiet (wireOf s sh) && leb 1 (unsent l)) || (eqb (edgesGiven (wireOf s sh) + 1) (2 * widthOf s) && leb 2 (unsent l)))
-  unfolding pulseDue wordEdges
+  unfolding pulseDue
   due-expected Free e h =
       let out : ssenClient s ≡ false =
       by-test (ssenClient s) (λ c. framed-not-client s (and-left (framed s) _ host) c) (λ c. c) in
@@ -702,7 +701,6 @@ delay-same : (s r : Settings) (b : Bool) → Same s r → s .con2 .frmdly ≡ b 
 delay-same s r b k d = ap (λ (q : Con2). q .frmdly) (k .con2) ∙ d
 
 width-same : (s r : Settings) → Same s r → widthOf r ≡ widthOf s
-unfolding widthOf
 width-same s r k = ap (λ (q : Con1). if q .mode16 then 16 else 8) (k .con1)
 
 idle-same : (s r : Settings) → Same s r → r .con1 .ckp ≡ s .con1 .ckp

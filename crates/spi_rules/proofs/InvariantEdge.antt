@@ -108,7 +108,6 @@ module _ (s : Settings) (sdi : Bool) (p : Progress) (n : Engine) (h : EdgeHolds 
 
   -- The edge that is not short of 2w is edge 2w.
   pub last-edge : ltb (p .edges + 1) (wordEdges s) ≡ false → p .edges + 1 ≡ 2 * widthOf s
-  unfolding wordEdges
   last-edge e = omega (arith, h .short, ltb-false (p .edges + 1) (2 * widthOf s) e)
 
   -- At edge 2w the clock is idle.
@@ -168,7 +167,7 @@ module _ (s : Settings) (sck : Bool) (n : Engine) where
   pub fresh-edge : {filler : Bool} {word : ℕ} → Bool·beq sck (s .con1 .ckp) ≡ false →
       (ckeOf s ≡ true → n .pins .sdo ≡ bitOf word (widthOf s - 1)) → WordHolds s n filler word →
       EdgeHolds s (clocked sck n) (fresh filler word)
-  unfolding clocked wordEdges samples
+  unfolding clocked
   fresh-edge {word = word} away top h =
       record {
         short = omega (arith, width-least s);

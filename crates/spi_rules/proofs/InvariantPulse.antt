@@ -188,7 +188,7 @@ module _ (s : Settings) (sck sdi : Bool) (n : Engine) (edge : sck ≡ not (n .pi
   with-fits : (p : Progress) → ShiftHolds s n (Begun p) → PulseFits s n (Begun p) → Bool·beq sck (s .con1 .ckp) ≡ true →
       s .con2 .frmdly ≡ true →
       PulseFits s (advanced s sdi p (clocked sck n)) (advanced s sdi p (clocked sck n) .shift)
-  unfolding advanced shifted progressed wordEdges
+  unfolding advanced shifted progressed
   with-fits p k h idle dly =
       let low : n .pins .sck ≡ not (s .con1 .ckp) = turned-back (n .pins .sck) (s .con1 .ckp) (sym edge ∙ like sck (s .con1 .ckp) idle) in
       let odd : eqb (p .edges % 2) 0 ≡ false = odd-edge (s .con1 .ckp) (eqb (p .edges % 2) 0) (sym (k .clock) ∙ low) in
@@ -361,7 +361,7 @@ off-fits o off unmarked =
 -- STAT's bits do not count for the pulse.
 stat-same : (s : Settings) (v : ℕ) (n x : Engine) (sh : Shift) → PulseFits s n sh → n .transmit .count ≡ x .transmit .count →
     PulseFits (statSettings v s) x sh
-unfolding statSettings wordEdges widthOf
+unfolding statSettings
 stat-same s v n x Free h same = h
 stat-same s v n x (Loaded word) h same = h
 stat-same s v n x (Begun p) h same = (h .0, h .1, λ early. (h .2 early .0, omega (arith, h .2 early .1, same)))
@@ -402,7 +402,7 @@ module _ (m : Module) (k : ModuleHolds m) (h : PulseHolds m) (g : MarkFits (m .s
       unmarked))))))))
 
   stat-fits : (v : ℕ) → FitsAfter (writeStat m v)
-  unfolding writeStat statWritten statSettings turnsOn turnsOff enabledEngine disabledEngine statEngine emptyReceive depthOf
+  unfolding writeStat statWritten statSettings turnsOn turnsOff enabledEngine disabledEngine statEngine emptyReceive
   stat-fits v =
       let s : Settings = m .settings in
       let n : Engine = m .engine in

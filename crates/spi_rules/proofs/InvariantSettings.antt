@@ -14,7 +14,7 @@ use Rattle.spi_rules.specs.declared.Module.{Module}
 use Rattle.spi_rules.specs.declared.Shift.{Shift}
 use Rattle.spi_rules.specs.declared.Shift.the-variants.{Free, Loaded, Begun}
 use Rattle.spi_rules.specs.declared.Refusal.the-variants.{Enabled}
-use Rattle.spi_rules.specs.Settings.{widthOf, depthOf, ssenClient}
+use Rattle.spi_rules.specs.Settings.{ssenClient}
 use Rattle.spi_rules.specs.Refusals.{causes, badSettings, firstGiven}
 use Rattle.spi_rules.specs.Registers.{bitOf, statSettings, statEngine, enabledEngine, disabledEngine}
 use Rattle.spi_rules.specs.Buffers.{emptyTransmit}
@@ -33,7 +33,7 @@ next-top-none s t e = rw (eq-eqb (t .count) 0 e, and-false (ssenClient s))
 
 -- The next word is told by CON1 and CON2 among the settings.
 next-top-stat : (v : ℕ) (s : Settings) (t : Transmit) (sh : Shift) → nextTop s t sh ≡ nextTop (statSettings v s) t sh
-unfolding nextTop statSettings widthOf
+unfolding nextTop statSettings
 next-top-stat v s t Free = refl
 next-top-stat v s t (Loaded word) = refl
 next-top-stat v s t (Begun p) = refl
@@ -48,7 +48,7 @@ module _ (s : Settings) (n : Engine) (v : ℕ) (h : ModuleHolds (record { settin
   -- The module that a STAT write enables.
   turned-on : turnsOn s v ≡ true → badSettings s ≡ false →
       ModuleHolds (record { settings = statSettings v s; engine = enabledEngine v (s .con1) n })
-  unfolding turnsOn statSettings enabledEngine widthOf depthOf emptyTransmit
+  unfolding turnsOn statSettings enabledEngine emptyTransmit
   turned-on up good =
       let b : BuffersHold s n = engine-of _ h .buffers in
       let off : s .spien ≡ false = not-true (s .spien) (and-left (not (s .spien)) (bitOf v 15) up) in
@@ -73,7 +73,7 @@ module _ (s : Settings) (n : Engine) (v : ℕ) (h : ModuleHolds (record { settin
   -- The module that a STAT write leaves enabled, or disabled.
   turned-neither : turnsOn s v ≡ false → turnsOff s v ≡ false →
       ModuleHolds (record { settings = statSettings v s; engine = statEngine v n })
-  unfolding turnsOn turnsOff statSettings statEngine widthOf depthOf
+  unfolding turnsOn turnsOff statSettings statEngine
   turned-neither not-up not-down =
       let b : BuffersHold s n = engine-of _ h .buffers in
       let was-on : bitOf v 15 ≡ true → s .spien ≡ true =

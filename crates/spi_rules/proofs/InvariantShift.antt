@@ -12,9 +12,7 @@ use Rattle.spi_rules.specs.declared.Receive.{Receive}
 use Rattle.spi_rules.specs.declared.Progress.{Progress}
 use Rattle.spi_rules.specs.declared.Shift.{Shift}
 use Rattle.spi_rules.specs.declared.Shift.the-variants.{Free, Loaded, Begun}
-use Rattle.spi_rules.specs.Settings.{widthOf}
 use Rattle.spi_rules.specs.Loading.{isBegun}
-use Rattle.spi_rules.specs.Edge.{wordEdges}
 use Rattle.spi_rules.specs.Invariant.{ProgressHolds, ShiftHolds}
 use Rattle.spi_rules.proofs.Parts.{restat, elsewhere}
 
@@ -27,7 +25,6 @@ module _ (s : Settings) (n : Engine) (spien spisidl : Bool) (sisel : ℕ) (recei
   -- A begun word, under changes of what it does not look at.
   pub progress-same : (p : Progress) → sdo ≡ n .pins .sdo → ProgressHolds s n p →
       ProgressHolds (restat s spien spisidl sisel) (elsewhere n receive shift sdo pulse spirov interrupt) p
-  unfolding wordEdges widthOf
   progress-same p stands h =
       record {
         started = h .started;
@@ -46,7 +43,6 @@ module _ (s : Settings) (n : Engine) (spien spisidl : Bool) (sisel : ℕ) (recei
   pub shift-same : (spien ≡ true → s .spien ≡ true) → (sh : Shift) → (isBegun sh ≡ true → sdo ≡ n .pins .sdo) →
       ShiftHolds s n sh →
       ShiftHolds (restat s spien spisidl sisel) (elsewhere n receive shift sdo pulse spirov interrupt) sh
-  unfolding widthOf
   shift-same on Free stands h = (h .0, λ e. h .1 (on e))
   shift-same on (Loaded word) stands h = h
   shift-same on (Begun p) stands h = progress-same p (stands refl) h

@@ -7,7 +7,7 @@
 --     free        no-edge-nothing-waits, no-edge-clock-idle
 --     loaded      loaded-not-ssen-client, loaded-word-fits, tick-begins-loaded-word
 --     begun       begun-edges-left, finishes-at-last-edge, goes-on-before-last-edge, begun-word-fits,
---                 received-word-fits, odd-edge-active, even-edge-idle, filler-shows-zeros, host-sends-no-filler,
+--                 received-word-fits, odd-edge-active, even-edge-idle, filler-shows-zeros, silent-sends-no-filler,
 --                 begun-is-shown, begun-shows-bit, begun-word-waits, abort-frees, abort-keeps-word-first
 --     emptied     disabled-nothing-waits, disabled-nothing-unread, disabled-nothing-loaded
 --     rest        sdo-shows-next-word
@@ -195,7 +195,7 @@ module _ (m : Module) (h : ModuleHolds m) where
     -- A tick of an unframed host after a word has loaded begins it.
     pub tick-begins-loaded-word : (sdi ss : Bool) → m .settings .spien ≡ true → unframedHost (m .settings) ≡ true →
         performOf m (Tick sdi ss) .after .engine .shift ≡ Begun (progressed (m .settings) sdi (fresh false word))
-    unfolding answering advancedIfBegun underWay begun advanced shifted wordEdges pulsed
+    unfolding answering advancedIfBegun underWay begun advanced shifted pulsed
     tick-begins-loaded-word sdi ss on host =
         let s : Settings = m .settings in
         let n : Engine = m .engine in
@@ -247,7 +247,6 @@ module _ (m : Module) (h : ModuleHolds m) where
     -- The word received at the last edge fits the width.
     pub received-word-fits : (sdi : Bool) → p .edges + 1 ≡ wordEdges (m .settings) →
         receivedAfter (m .settings) (p .edges + 1) sdi (p .received) < 2 ^ widthOf (m .settings)
-    unfolding wordEdges
     received-word-fits sdi last =
         rw (sampled-all (ckeOf (m .settings)) (p .edges + 1) (widthOf (m .settings)) last)
         at (received-fits (m .settings) (p .edges) sdi (p .received) (progress .received))
@@ -271,9 +270,9 @@ module _ (m : Module) (h : ModuleHolds m) where
     unfolding shownBit bitOf
     filler-shows-zeros edge f = rw (progress .zeros f, zero-div (2 ^ (widthOf (m .settings) - 1 - edge / 2)))
 
-    -- A silent module sends no filler.
-    pub host-sends-no-filler : silent (m .settings) ≡ true → p .filler ≡ false
-    host-sends-no-filler host = progress .host host
+    -- A silent module, an unframed host or a frame host, sends no filler.
+    pub silent-sends-no-filler : silent (m .settings) ≡ true → p .filler ≡ false
+    silent-sends-no-filler silence = progress .host silence
 
     -- A module with a begun word is enabled.
     pub begun-enabled : m .settings .spien ≡ true

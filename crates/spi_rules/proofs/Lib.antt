@@ -59,4 +59,8 @@ pub mod LivesReach
 pub mod FramesSeen
 pub mod FramesCalls
 pub mod FramesHold
+pub mod Fillers
 pub mod DemandsHold
+pub mod Claims
+pub mod PageRun
+pub mod PageHolds

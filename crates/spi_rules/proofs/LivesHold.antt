@@ -9,6 +9,7 @@ use mathlib.Core.List.{List, [], _∷_, _++_}
 use mathlib.Core.Path.{_≡_, refl, sym, ap, _∙_}
 use lib.Dec.{leb}
 use Rattle.spi_rules.specs.declared.Module.{Module}
+use Rattle.spi_rules.specs.declared.Pins.{Pins}
 use Rattle.spi_rules.specs.declared.Outcome.{Outcome}
 use Rattle.spi_rules.specs.declared.Refusal.the-variants.{Overflowed}
 use Rattle.spi_rules.specs.declared.Call.{Call}
@@ -17,7 +18,7 @@ use Rattle.spi_rules.specs.Choice.{if_then_else_}
 use Rattle.spi_rules.specs.Settings.{depthOf}
 use Rattle.spi_rules.specs.Refusals.{numberOf, saidOf}
 use Rattle.spi_rules.specs.Words.{unreadIn}
-use Rattle.spi_rules.specs.Calls.{refuse, readBuf, readOf, poweredUp, performOf, interruptOf}
+use Rattle.spi_rules.specs.Calls.{refuse, readBuf, readOf, poweredUp, performOf, interruptOf, sckOf}
 use Rattle.spi_rules.specs.Invariant.{Reached}
 use Rattle.spi_rules.specs.Ledger.{unmarked, anyMarked}
 use Rattle.spi_rules.specs.Watch.{Watched, watchedCall}
@@ -29,7 +30,7 @@ use Rattle.spi_rules.proofs.InvariantHolds.{call-keeps}
 use Rattle.spi_rules.proofs.InvariantPulse.{powered-up-reached, unframed-pulse, call-reaches}
 use Rattle.spi_rules.proofs.OrderTied.{TiedNow, Follows}
 use Rattle.spi_rules.proofs.OrderKept.{call-follows, calls-follow}
-use Rattle.spi_rules.proofs.FlagsSdo.{sdo-shown}
+use Rattle.spi_rules.proofs.FlagsSdo.{sdo-shown, levels-stay}
 
 -- Words without a mark are all among the unmarked ones.
 unmarked-all : (words : List ℕ) → unmarked (allUnmarked words) ≡ words
@@ -111,7 +112,7 @@ module _ (x : Watched) (v : Lives x) where
 
   -- What a call changes.
   pub call-changes : (c : Call) → CallChanges x c
-  unfolding interruptOf
+  unfolding interruptOf sckOf
   call-changes c =
       let fits : Fitting (x .now .settings) c (performOf (x .now) c) = call-fits (x .now) c in
       record {
@@ -121,6 +122,8 @@ module _ (x : Watched) (v : Lives x) where
         flag = followed c .flag;
         spirov = followed c .spirov;
         sdo = sdo-shown x c (call-keeps (x .now) c (v .holds .holds)) (followed c .tied);
+        sck = λ off. ap (λ (p : Pins). p .sck) (levels-stay (x .now) c off);
+        ss = λ off. ap (λ (p : Pins). p .ss) (levels-stay (x .now) c off);
       }
 
   -- Word order.

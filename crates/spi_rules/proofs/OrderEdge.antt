@@ -22,7 +22,7 @@ use Rattle.spi_rules.specs.Settings.{widthOf, depthOf, ckeOf, ssenClient
 use Rattle.spi_rules.specs.Buffers.{waiting, unread}
 use Rattle.spi_rules.specs.Bits.{samples, shiftedIn, receivedAfter, progressed}
 use Rattle.spi_rules.specs.Finish.{isLost, delivered, sentDropped, finished}
-use Rattle.spi_rules.specs.Edge.{wordEdges, shifted, advanced}
+use Rattle.spi_rules.specs.Edge.{shifted, advanced}
 use Rattle.spi_rules.specs.Invariant.{sampled}
 use Rattle.spi_rules.specs.Ledger.{OnWire, Wire, busy, Passed, Ledger, spelled, sent, undropped, leftToSend, isDropped, counted, closed, onWire, given, anyMarked, hasLost}
 use Rattle.spi_rules.specs.Watch.{terms, Watched}
@@ -69,7 +69,7 @@ last-same (x ∷ l) a b e = last-same l a b (cc)
 -- The ledger's word after an edge is the one that the shift register's word then stands for.
 pub counted-is : (s : Settings) (sdo sdi : Bool) (p : Progress) (n : Engine) → EdgeHolds s n p → sdo ≡ n .pins .sdo →
     counted (terms s) sdo sdi (onWireOf s p) ≡ onWireOf s (progressed s sdi p)
-unfolding counted progressed receivedAfter wordEdges
+unfolding counted progressed receivedAfter
 counted-is s sdo sdi p n h same =
     let cke : Bool = ckeOf s in
     let bits : ℕ = sampled cke (p .edges) in
@@ -313,7 +313,7 @@ module _ (s : Settings) (on : s .spien ≡ true) (n : Engine) (l : Ledger) (p : 
   -- An edge of a word under way.
   pub advanced-after : (sdo sdi : Bool) → sdo ≡ n .pins .sdo →
       After s (stood n l) (advanced s sdi p n) (given (terms s) sdo sdi (busy (onWireOf s p)) l)
-  unfolding advanced given wordEdges
+  unfolding advanced given
   advanced-after sdo sdi same =
       if-both (After s (stood n l)) (ltb (p .edges + 1) (2 * widthOf s)) _ _ _ _ _ refl
       (λ e. shifted-after sdo sdi same)

@@ -4,11 +4,9 @@
 use Prim.Native.Nat.{ℕ, _+_, _*_, _≤_}
 use mathlib.Core.Bool.{Bool, true, false, not, _&&_, _||_, Bool·beq}
 use mathlib.Core.Path.{_≡_, refl, sym, ap, subst, _∙_}
-use native.Mathlib.Omega.{arith}
 use borrow.Author.Tests.{le-ltb, not-true}
 use mir.Val.{boolByte}
 use lib.Dec.{ltb, leb}
-use lib.ListN.{length}
 use Rattle.spi_rules.specs.declared.Settings.{Settings}
 use Rattle.spi_rules.specs.declared.Engine.{Engine}
 use Rattle.spi_rules.specs.declared.Receive.{Receive}
@@ -26,7 +24,7 @@ use Rattle.spi_rules.specs.Loading.{isBegun}
 use Rattle.spi_rules.specs.Bits.{receivedAfter}
 use Rattle.spi_rules.specs.Finish.{isLost, delivered, finished}
 use Rattle.spi_rules.specs.Select.{selectRemembered, deselected, selectSeen}
-use Rattle.spi_rules.specs.Edge.{wordEdges, begun, advanced, advancedIfBegun, awaitsPulse, underWay, pulsed, clocked, edged, levels, stepped}
+use Rattle.spi_rules.specs.Edge.{begun, advanced, advancedIfBegun, awaitsPulse, underWay, pulsed, clocked, edged, levels, stepped}
 use Rattle.spi_rules.specs.Calls.{answering, toldSelect, performOf, sckOf}
 use Rattle.spi_rules.specs.Demands.{drops, LastEdge, clocksWord}
 use Rattle.spi_rules.proofs.Keeps.{if-keeps, if-false, clash, and-left, and-right, and-false, unlike}
@@ -48,7 +46,7 @@ module _ (s : Settings) (n : Engine) (p : Progress) (e : n .shift ≡ Begun p) (
   finishes : (sck sdi : Bool) →
       advancedIfBegun s sdi (underWay s sck n) (clocked sck n)
       ≡ finished s (p .filler) (receivedAfter s (p .edges + 1) sdi (p .received)) (clocked sck n)
-  unfolding advancedIfBegun advanced wordEdges
+  unfolding advancedIfBegun advanced
   finishes sck sdi =
       ap (λ (x : Shift). advancedIfBegun s sdi x (clocked sck n)) (goes-on sck)
       ∙ if-false (ltb (p .edges + 1) (2 * widthOf s)) _ _ (le-ltb (p .edges + 1) (2 * widthOf s) last)

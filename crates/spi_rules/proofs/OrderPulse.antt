@@ -132,7 +132,7 @@ module _ (s : Settings) (sck sdi : Bool) (n : Engine) where
   pub loaded-shown : frameHost s ≡ true → s .con2 .frmdly ≡ true → (word : ℕ) → n .shift ≡ Loaded word →
       Bool·beq sck (s .con1 .ckp) ≡ false →
       pulsed s sck (advancedIfBegun s sdi (underWay s sck n) (clocked sck n)) .pins .pulse ≡ true
-  unfolding pulsed pulseAfter underWay awaitsPulse begun advancedIfBegun advanced shifted clocked progressed pulseDue wordEdges
+  unfolding pulsed pulseAfter underWay awaitsPulse begun advancedIfBegun advanced shifted clocked progressed pulseDue
   loaded-shown host dly word e away =
       let f : framed s ≡ true = and-left (framed s) _ host in
       let fsd : s .con2 .spifsd ≡ false = not-true (s .con2 .spifsd) (and-right (framed s) _ host) in

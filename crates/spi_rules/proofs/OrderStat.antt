@@ -22,7 +22,7 @@ use Rattle.spi_rules.specs.declared.Answer.the-variants.{Refused, Done}
 use Rattle.spi_rules.specs.declared.Call.{Call}
 use Rattle.spi_rules.specs.declared.Call.the-variants.{Read, Write, Tick, Pin, Clear}
 use Rattle.spi_rules.specs.Choice.{if_then_else_}
-use Rattle.spi_rules.specs.Settings.{widthOf, depthOf}
+use Rattle.spi_rules.specs.Settings.{depthOf}
 use Rattle.spi_rules.specs.Refusals.{isDone, badSettings}
 use Rattle.spi_rules.specs.RefusalTable.{writes, isClear}
 use Rattle.spi_rules.specs.Registers.{bitOf, statSettings, spirovAfter, statEngine, enabledEngine, disabledEngine}
@@ -86,7 +86,7 @@ refuse-follows m l Clear r other was = clash true refl other
 module _ (v : ℕ) (s : Settings) where
   -- What the wire carries is told by CON1 among the settings.
   wire-stat : (sh : Shift) → wireOf s sh ≡ wireOf (statSettings v s) sh
-  unfolding statSettings widthOf
+  unfolding statSettings
   wire-stat Free = refl
   wire-stat (Loaded word) = refl
   wire-stat (Begun p) = refl
@@ -100,7 +100,7 @@ module _ (v : ℕ) (s : Settings) where
 
   -- A STAT write that leaves SPIEN as it was.
   stat-tied : (n : Engine) (l : Ledger) → TiedNow s n l → TiedNow (statSettings v s) (statEngine v n) l
-  unfolding statSettings statEngine depthOf
+  unfolding statSettings statEngine
   stat-tied n l t =
       record {
         sck = t .sck;
@@ -117,7 +117,7 @@ module _ (v : ℕ) (s : Settings) where
   -- A STAT write that enables: the module is empty, and the ledger opens.
   opened-tied : (n : Engine) → ModuleHolds (record { settings = s; engine = n }) → s .spien ≡ false →
       TiedNow (statSettings v s) (enabledEngine v (s .con1) n) (opened (s .con1 .ckp))
-  unfolding statSettings enabledEngine opened depthOf emptyReceive
+  unfolding statSettings enabledEngine opened emptyReceive
   opened-tied n h off =
       let m : Module = record { settings = s; engine = n } in
       let free : n .shift ≡ Free = h .emptied off .shift in

@@ -28,7 +28,7 @@ use Rattle.spi_rules.specs.declared.Answer.the-variants.{Refused, Done, 
 use Rattle.spi_rules.specs.declared.Call.{Call}
 use Rattle.spi_rules.specs.declared.Call.the-variants.{Read, Write, Tick, Pin, Clear}
 use Rattle.spi_rules.specs.Choice.{if_then_else_}
-use Rattle.spi_rules.specs.Settings.{widthOf, depthOf, ownClock, clockStops, unframedHost}
+use Rattle.spi_rules.specs.Settings.{depthOf, ownClock, clockStops, unframedHost}
 use Rattle.spi_rules.specs.Refusals.{isDone, badSettings}
 use Rattle.spi_rules.specs.Registers.{bitOf, isFree, spitbf, statSettings, statEngine}
 use Rattle.spi_rules.specs.Buffers.{empty}
@@ -78,7 +78,7 @@ module _ (m : Module) (h : ModuleHolds m) (on : m .settings .spien ≡ true) (ow
 
   -- A STAT write that leaves the module enabled pays.
   stat-pays : (register v : ℕ) → Pays m (Write register v) (writeStat m v)
-  unfolding writeStat statWritten turnsOn turnsOff statSettings statEngine widthOf depthOf
+  unfolding writeStat statWritten turnsOn turnsOff statSettings statEngine
   stat-pays register v =
       let c : Call = Write register v in
       let s : Settings = m .settings in

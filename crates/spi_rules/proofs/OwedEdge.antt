@@ -30,7 +30,7 @@ use Rattle.spi_rules.specs.Interrupts.{noted}
 use Rattle.spi_rules.specs.Bits.{progressed}
 use Rattle.spi_rules.specs.Loading.{wordLeaves, moved, canLoad, loaded, rested, sdoAt}
 use Rattle.spi_rules.specs.Finish.{overflowed, wordAppended, isLost, delivered, sentDropped, freed, finished}
-use Rattle.spi_rules.specs.Edge.{wordEdges, fresh, begun, shifted, advanced, advancedIfBegun, underWay, clocked, levels, stepped, awaitsPulse, pulsed}
+use Rattle.spi_rules.specs.Edge.{fresh, begun, shifted, advanced, advancedIfBegun, underWay, clocked, levels, stepped, awaitsPulse, pulsed}
 use Rattle.spi_rules.specs.Invariant.{ShiftHolds}
 use Rattle.spi_rules.specs.Words.{unfinished, waitingIn, leftBuffer}
 use Rattle.spi_rules.proofs.Keeps.{if-keeps, if-false, clash, and-left}
@@ -59,7 +59,7 @@ stat-unfinished v s (Begun p) = refl
 -- A STAT write that leaves SPIEN does not change what is owed.
 pub stat-owes : (v : ℕ) (m : Module) →
     owedIn (record { settings = statSettings v (m .settings); engine = statEngine v (m .engine) }) ≡ owedIn m
-unfolding statSettings statEngine widthOf depthOf
+unfolding statSettings statEngine
 stat-owes v m =
     ap (λ (l : List ℕ). 2 * widthOf (m .settings) * (length l + length (waitingIn m)) - givenIn (m .engine .shift))
     (stat-unfinished v (m .settings) (m .engine .shift))
@@ -141,7 +141,7 @@ module _ (s : Settings) (own : unframedHost s ≡ true) where
   -- An edge of a host's word lowers what is owed by one: it goes on, or it finishes and the next loads or none is left.
   advanced-owes : (sdi : Bool) (p : Progress) (n : Engine) → p .filler ≡ false → p .edges < 2 * widthOf s →
       1 + owingIn s (advanced s sdi p n) ≡ 2 * widthOf s * n .transmit .count + 2 * widthOf s - p .edges
-  unfolding advanced shifted progressed wordEdges
+  unfolding advanced shifted progressed
   advanced-owes sdi p n host k =
       if-keeps
       (λ (x : Engine). 1 + owingIn s x ≡ 2 * widthOf s * n .transmit .count + 2 * widthOf s - p .edges)
@@ -164,7 +164,7 @@ module _ (s : Settings) (own : unframedHost s ≡ true) where
   -- An edge lowers by one what a host owes that has a word loaded or begun.
   pub edge-owes : (sdi : Bool) (n : Engine) (sh : Shift) → n .shift ≡ sh → ShiftHolds s n sh → isFree sh ≡ false →
       1 + owingIn s (stepped s (levels (not (n .pins .sck)) sdi (n .pins .ss)) n) ≡ owing s sh (n .transmit .count)
-  unfolding advancedIfBegun underWay begun clocked wordEdges pulsed
+  unfolding advancedIfBegun underWay begun clocked pulsed
   edge-owes sdi n Free e h busy = clash true refl busy
   edge-owes sdi n (Loaded word) e h busy =
       let sck : Bool = not (n .pins .sck) in
@@ -188,7 +188,6 @@ module _ (s : Settings) (own : unframedHost s ≡ true) where
 
   -- A host with a word loaded or begun owes an edge.
   pub busy-owes : (n : Engine) (sh : Shift) → ShiftHolds s n sh → (k : ℕ) → owing s sh k ≡ 0 → isFree sh ≡ true
-  unfolding wordEdges
   busy-owes n Free h k e = refl
   busy-owes n (Loaded word) h k e = absurd (omega (arith, width-least s, loaded-owes word k))
   busy-owes n (Begun p) h k e =

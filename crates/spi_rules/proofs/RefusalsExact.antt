@@ -116,7 +116,7 @@ read-refused m =
 -- A STAT write is refused exactly by rows 13 to 15, a CON1 or CON2 write by row 3, and a BUF write by rows 2 and 5.
 write-refused : (m : Module) (v register : ℕ) →
     told (performOf m (Write register v)) ≡ firstNumber (rows m (Write register v))
-unfolding performOf writeOf writeStat turnsOn configured writeBuf spitbf depthOf if_then_else_ refuse answering numberOf
+unfolding performOf writeOf writeStat turnsOn configured writeBuf spitbf if_then_else_ refuse answering numberOf
 write-refused m v =
     register-cases (λ k. told (performOf m (Write k v)) ≡ firstNumber (rows m (Write k v)))
     (by-spien (Write 0 v)

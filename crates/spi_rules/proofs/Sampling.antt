@@ -22,7 +22,7 @@ use Rattle.spi_rules.proofs.Keeps.{if-keeps, like, unlike}
 
 -- An edge that samples adds a bit.
 pub sampled-more : (cke : Bool) (k : ℕ) → samples cke (k + 1) ≡ true → sampled cke (k + 1) ≡ suc (sampled cke k)
-unfolding samples sampled if_then_else_
+unfolding sampled if_then_else_
 sampled-more true k e =
     let odd : (k + 1) % 2 ≡ 1 = eqb-true ((k + 1) % 2) 1 (sym (like true _ e)) in
     omega arith
@@ -32,7 +32,7 @@ sampled-more false k e =
 
 -- An edge that does not sample adds none.
 pub sampled-same : (cke : Bool) (k : ℕ) → samples cke (k + 1) ≡ false → sampled cke (k + 1) ≡ sampled cke k
-unfolding samples sampled if_then_else_
+unfolding sampled if_then_else_
 sampled-same true k e =
     let is-odd : Bool = eqb ((k + 1) % 2) 1 in
     let even : (k + 1) % 2 ≡ 1 → ⊥ = eqb-false ((k + 1) % 2) 1 (not-true is-odd (sym (unlike true is-odd e))) in
@@ -68,7 +68,7 @@ shown-sampled false k = omega arith
 
 -- An edge that samples finds SDO at the bit that the edge before it left there.
 pub shown-kept : (cke : Bool) (k : ℕ) → samples cke (k + 1) ≡ true → (if cke then k else k - 1) / 2 ≡ sampled cke k
-unfolding samples sampled if_then_else_
+unfolding sampled if_then_else_
 shown-kept true k e =
     let odd : (k + 1) % 2 ≡ 1 = eqb-true ((k + 1) % 2) 1 (sym (like true _ e)) in
     omega arith
@@ -78,7 +78,7 @@ shown-kept false k e =
 
 -- An edge that does not sample takes SDO to the bit below those sampled.
 pub shown-changed : (cke : Bool) (k : ℕ) → samples cke (k + 1) ≡ false → (k + 1) / 2 ≡ sampled cke k
-unfolding samples sampled if_then_else_
+unfolding sampled if_then_else_
 shown-changed true k e = refl
 shown-changed false k e =
     let is-odd : Bool = eqb ((k + 1) % 2) 1 in

@@ -23,22 +23,18 @@ use Rattle.spi_rules.proofs.Keeps.{if-keeps}
 
 -- A word has at least one bit.
 pub width-least : (s : Settings) → 1 ≤ widthOf s
-unfolding widthOf
 width-least s = if-keeps (λ (w : ℕ). 1 ≤ w) (s .con1 .mode16) 16 8 (λ e. omega arith) (λ e. omega arith)
 
 -- A word has at most 16 bits.
 pub width-most : (s : Settings) → widthOf s ≤ 16
-unfolding widthOf
 width-most s = if-keeps (λ (w : ℕ). w ≤ 16) (s .con1 .mode16) 16 8 (λ e. omega arith) (λ e. omega arith)
 
 -- A buffer holds at least one word.
 pub depth-least : (s : Settings) → 1 ≤ depthOf s
-unfolding depthOf
 depth-least s = if-keeps (λ (d : ℕ). 1 ≤ d) (s .con2 .spiben) enhancedDepth 1 (λ e. omega arith) (λ e. omega arith)
 
 -- A buffer has a cell for each word of its depth.
 pub depth-most : (s : Settings) → depthOf s ≤ capacity
-unfolding depthOf
 depth-most s = if-keeps (λ (d : ℕ). d ≤ capacity) (s .con2 .spiben) enhancedDepth 1 (λ e. omega arith) (λ e. omega arith)
 
 -- A power of two is at least 1.
@@ -47,12 +43,10 @@ power-least k = one-le-pow k 2 (omega arith)
 
 -- The bits that BUF keeps fit the width.
 pub low-bits-fit : (s : Settings) (v : ℕ) → lowBits s v < 2 ^ widthOf s
-unfolding lowBits
 low-bits-fit s v = mod-lt v (power-least (widthOf s))
 
 -- A word that fits the width is shown whole.
 pub low-bits-of-fit : (s : Settings) (v : ℕ) → v < 2 ^ widthOf s → lowBits s v ≡ v
-unfolding lowBits
 low-bits-of-fit s v h = mod-eq-of-lt h
 
 -- A number below a power of two has no bit at that power or above.
@@ -73,5 +67,4 @@ bit-most false = lit≤ tt
 
 -- A word has at least eight bits.
 pub width-eight : (s : Settings) → 8 ≤ widthOf s
-unfolding widthOf
 width-eight s = if-keeps (λ (w : ℕ). 8 ≤ w) (s .con1 .mode16) _ _ (λ e. omega arith) (λ e. omega arith)

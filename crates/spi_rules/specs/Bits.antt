@@ -10,7 +10,7 @@ use Rattle.spi_rules.specs.Settings.{widthOf, ckeOf}
 use Rattle.spi_rules.specs.Registers.{bitOf}
 
 -- An edge samples SDI or changes SDO. CKE 0 samples on even edges, CKE 1 on odd ones.
-unfoldable pub samples : Bool → ℕ → Bool
+abbrev pub samples : Bool → ℕ → Bool
 samples cke edge = Bool·beq cke (eqb (edge % 2) 1)
 
 -- A sampled bit enters the 16-bit register behind those received before it.

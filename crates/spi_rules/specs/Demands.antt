@@ -22,16 +22,16 @@ use Rattle.spi_rules.specs.declared.Call.the-variants.{Read, Write, Tick
 use Rattle.spi_rules.specs.Choice.{if_then_else_}
 use Rattle.spi_rules.specs.Refusals.{numberOf, saidOf, isDone}
 use Rattle.spi_rules.specs.Examples.{examples, furtherExamples, frameExamples, markExamples}
-use Rattle.spi_rules.specs.Settings.{widthOf, depthOf, ckeOf, framed, frameHost, frameClient, ssenClient, ownClock, unframedHost}
+use Rattle.spi_rules.specs.InBits.{wordBits, room, oddSampled, clocksItself, stopsBetweenWords, heedsSelect, givesPulses, takesPulses}
 use Rattle.spi_rules.specs.Registers.{bitOf}
 use Rattle.spi_rules.specs.Words.{waitingIn, unreadIn, owedWords}
 use Rattle.spi_rules.specs.Calls.{poweredUp, performOf, interruptOf, sckOf, sdoOf, ssOf}
 use Rattle.spi_rules.specs.Invariant.{Reached, sampled}
 use Rattle.spi_rules.specs.RefusalTable.{firstNumber, asks, writes, isClear, rows}
-use Rattle.spi_rules.specs.Ledger.{Ledger, Wire, quiet, busy, Passed, spelled, sent, undropped, hasLost, opened}
+use Rattle.spi_rules.specs.Ledger.{Ledger, Wire, quiet, busy, isQuiet, Passed, spelled, sent, undropped, hasLost, opened}
 use Rattle.spi_rules.specs.Watch.{Watched, watchedCall, watchedCalls, showsPulse}
 use Rattle.spi_rules.specs.Flags.{bits, statNamed, statPlaces, statBits, con1Named, con1Places, con2Named, con2Places, con2Bits, seesAccepted, seesLost, seesRaised, sdoShown, pinShown, selectShown}
-use Rattle.spi_rules.specs.Frames.{edgesGiven, unsent, FramedCall, FrameHostCall, FrameClientCall, FollowsOn}
+use Rattle.spi_rules.specs.Frames.{edgesGiven, unsent, carriesFiller, FramedCall, FrameHostCall, FrameClientCall, FollowsOn}
 
 -- Demand 1. Every call is answered and ends, for any value in any state: performOf is a total function, and the gate
 -- proves that the code of each call ends with what it says.
@@ -59,6 +59,22 @@ pub record Answered : Type 0 where
   pub inKind : (m : Module) (c : Call) → among (saidOf (performOf m c .answer) .kind) (0 ∷ kindsFor c) ≡ true
   pub oneOutcome : (m : Module) (c : Call) (x y : Outcome) → x ≡ performOf m c → y ≡ performOf m c → x ≡ y
 
+-- The figures that this page reckons with: what the bits of a number are, and what number bits spell, highest first.
+pub record Figures : Type 0 where
+  pub bit : bits (15 ∷ 14 ∷ 13 ∷ 12 ∷ 11 ∷ 10 ∷ 9 ∷ 8 ∷ 7 ∷ 6 ∷ 5 ∷ 4 ∷ 3 ∷ 2 ∷ 1 ∷ 0 ∷ []) 40015
+      ≡ (true ∷ false ∷ false ∷ true ∷ true ∷ true ∷ false ∷ false ∷ false ∷ true ∷ false ∷ false ∷ true ∷ true ∷ true ∷ true ∷ [])
+  pub spells : spelled 0 (true ∷ false ∷ false ∷ true ∷ true ∷ []) ≡ 19
+
+-- Power-up: registers read 0, the interrupt flag is clear, and the remembered levels are low.
+pub record AllZero (m : Module) : Type 0 where
+  pub stat : performOf m (Read 0) .answer ≡ Value 0
+  pub con1 : performOf m (Read 1) .answer ≡ Value 0
+  pub con2 : performOf m (Read 2) .answer ≡ Value 0
+  pub flag : interruptOf m ≡ false
+  pub sck : sckOf m ≡ false
+  pub ss : m .engine .pins .ss ≡ false
+  pub sdo : m .engine .pins .sdo ≡ false
+
 -- Where a module is watched from: power-up, or the middle of its life, for any enabled module that has the invariant of
 -- specs/Invariant.antt. The ledger then opens with what the module holds.
 
@@ -71,12 +87,12 @@ abbrev pub wireOf : Settings → Shift → Wire
 wireOf s Free = quiet
 wireOf s (Loaded word) = quiet
 wireOf s (Begun p) =
-    let bits : ℕ = sampled (ckeOf s) (p .edges) in
+    let bits : ℕ = sampled (oddSampled s) (p .edges) in
     busy
     (record {
       filler = p .filler;
       edges = p .edges;
-      shown = topBits (widthOf s) bits (p .word);
+      shown = topBits (wordBits s) bits (p .word);
       seen = topBits bits bits (p .received);
     })
 
@@ -129,7 +145,7 @@ wrote register x c = isDone (performOf (x .now) c .answer) && writes register c
 
 -- What a call changes. The bits of a register are as a done write of it left them. The interrupt flag is set by the
 -- conditions, and only the clear call takes it down. SPIROV is set exactly by a loss and cleared exactly by a done STAT
--- write with a 0 in bit 6.
+-- write with a 0 in bit 6. The levels of a module that is disabled stay as disabling found them.
 pub record CallChanges (x : Watched) (c : Call) : Type 0 where
   pub stat : statNamed (watchedCall x c .now .settings)
       ≡ (if wrote 0 x c then bits statPlaces (asks c .value) else statNamed (x .now .settings))
@@ -143,6 +159,8 @@ pub record CallChanges (x : Watched) (c : Call) : Type 0 where
       ≡ (if wrote 0 x c then x .now .engine .spirov && bitOf (asks c .value) 6
       else x .now .engine .spirov || seesLost x (watchedCall x c))
   pub sdo : watchedCall x c .now .engine .pins .sdo ≡ sdoShown x (watchedCall x c)
+  pub sck : watchedCall x c .now .settings .spien ≡ false → sckOf (watchedCall x c .now) ≡ sckOf (x .now)
+  pub ss : watchedCall x c .now .settings .spien ≡ false → watchedCall x c .now .engine .pins .ss ≡ x .now .engine .pins .ss
 
 -- The pins as others see them: SDO and SS with their levels or undriven, and the clock where the ledger has it.
 pub record PinsShow (x : Watched) : Type 0 where
@@ -160,14 +178,29 @@ pub record WordOrder (x : Watched) : Type 0 where
   pub sending : x .ledger .accepted ≡ sent (x .ledger) ++ owedWords (x .now)
   pub receiving : undropped (x .ledger) ≡ x .ledger .read ++ unreadIn (x .now)
   pub dropped : (c : Call) (a : Passed) → watchedCall x c .ledger .arrivals ≡ x .ledger .arrivals ++ (a ∷ []) →
-      a .marked ≡ (leb (depthOf (x .now .settings)) (length (unreadIn (x .now))) || x .now .engine .receive .marked)
+      a .marked ≡ (leb (room (x .now .settings)) (length (unreadIn (x .now))) || x .now .engine .receive .marked)
   pub mark : x .now .engine .receive .marked ≡ (x .now .settings .con2 .spiben && hasLost (x .ledger))
   pub stale : x .now .engine .receive .marked ≡ true → saidOf (performOf (x .now) (Read 3) .answer) .number ≡ 16
+
+-- Fillers. The module sends one exactly while the ledger has one on the wire, and SDO is low then. A client without SSEN and without
+-- FRMEN that has nothing to send begins one at its first edge.
+abbrev pub sendsFiller : Shift → Bool
+sendsFiller Free = false
+sendsFiller (Loaded word) = false
+sendsFiller (Begun p) = p .filler
+
+pub record Fillers (x : Watched) : Type 0 where
+  pub same : sendsFiller (x .now .engine .shift) ≡ carriesFiller (x .ledger .wire)
+  pub low : sendsFiller (x .now .engine .shift) ≡ true → x .now .engine .pins .sdo ≡ false
+  pub begins : x .now .settings .con1 .msten ≡ false → x .now .settings .con1 .ssen ≡ false → x .now .settings .con2 .frmen ≡ false →
+      isQuiet (x .ledger .wire) ≡ true → unsent (x .ledger) ≡ 0 → (sck sdi ss : Bool) → Bool·beq sck (sckOf (x .now)) ≡ false →
+      Bool·beq sck (x .now .settings .con1 .ckp) ≡ false →
+      sendsFiller (performOf (x .now) (Pin sck sdi ss) .after .engine .shift) ≡ true
 
 -- The last edge of a word, of every record, reached by calls or not: the received word is dropped exactly if the buffer is full
 -- or marked, each loss sets SPIROV, and the mark in enhanced operation.
 abbrev pub drops : Module → Bool
-drops m = leb (depthOf (m .settings)) (length (unreadIn m)) || m .engine .receive .marked
+drops m = leb (room (m .settings)) (length (unreadIn m)) || m .engine .receive .marked
 
 pub record LastEdge (m after : Module) : Type 0 where
   pub unread : length (unreadIn after) ≡ length (unreadIn m) + boolByte (not (drops m))
@@ -179,16 +212,16 @@ pub record LastEdge (m after : Module) : Type 0 where
 abbrev pub clocksWord : Module → Call → Bool
 clocksWord m (Read register) = false
 clocksWord m (Write register v) = false
-clocksWord m (Tick sdi ss) = ownClock (m .settings)
+clocksWord m (Tick sdi ss) = clocksItself (m .settings .con1)
 clocksWord m (Pin sck sdi ss) =
-    not (ownClock (m .settings)) && (not (Bool·beq sck (sckOf m)) && not (ssenClient (m .settings) && ss))
+    not (clocksItself (m .settings .con1)) && (not (Bool·beq sck (sckOf m)) && not (heedsSelect (m .settings) && ss))
 clocksWord m Clear = false
 
 -- Edges owed by an unframed host with its own clock, said from the history: 2w for each word accepted and not sent, less those
 -- given to the word on the wire. The clock of a framed host runs on, so that it owes no number of edges.
 abbrev pub owed : Watched → ℕ
 owed x =
-    2 * widthOf (x .now .settings) * unsent (x .ledger) - edgesGiven (x .ledger .wire)
+    2 * wordBits (x .now .settings) * unsent (x .ledger) - edgesGiven (x .ledger .wire)
 
 -- Calls that leave the module enabled and accept no word.
 pub record Undisturbed (x : Watched) (c : Call) : Type 0 where
@@ -231,24 +264,27 @@ pub record FallsIdle (x : Watched) : Type 0 where
 -- Frames (document 02, Three) of a framed module that is enabled now: specs/Frames.antt has the statements.
 pub record FramesHold (x : Watched) : Type 0 where
   pub each : (c : Call) → FramedCall x c
-  pub host : frameHost (x .now .settings) ≡ true → (c : Call) → FrameHostCall x c
-  pub client : frameClient (x .now .settings) ≡ true → (c : Call) → FrameClientCall x c
-  pub follows : frameHost (x .now .settings) ≡ true → FollowsOn x
+  pub host : givesPulses (x .now .settings) ≡ true → (c : Call) → FrameHostCall x c
+  pub client : takesPulses (x .now .settings) ≡ true → (c : Call) → FrameClientCall x c
+  pub follows : givesPulses (x .now .settings) ≡ true → FollowsOn x
 
 -- What the buyer signs for, of one module.
 pub record OneModule : Type 0 where
   pub answered : Answered
   pub paperExamples : (examples ≡ true) × (furtherExamples ≡ true) × (frameExamples ≡ true) × (markExamples ≡ true)
+  pub figures : Figures
+  pub allZero : AllZero poweredUp
   pub reached : (b : Beginning) (cs : List Call) → Reached (life b cs .now)
   pub readsShow : (b : Beginning) (cs : List Call) → ReadsShow (life b cs)
   pub callChanges : (b : Beginning) (cs : List Call) (c : Call) → CallChanges (life b cs) c
   pub pinsShow : (b : Beginning) (cs : List Call) → PinsShow (life b cs)
   pub wordOrder : (b : Beginning) (cs : List Call) → life b cs .now .settings .spien ≡ true → WordOrder (life b cs)
+  pub fillers : (b : Beginning) (cs : List Call) → life b cs .now .settings .spien ≡ true → Fillers (life b cs)
   pub lastEdge : (m : Module) (c : Call) (p : Progress) → m .settings .spien ≡ true → clocksWord m c ≡ true →
-      m .engine .shift ≡ Begun p → 2 * widthOf (m .settings) ≤ p .edges + 1 → LastEdge m (performOf m c .after)
+      m .engine .shift ≡ Begun p → 2 * wordBits (m .settings) ≤ p .edges + 1 → LastEdge m (performOf m c .after)
   pub fallsIdle : (b : Beginning) (cs : List Call) → life b cs .now .settings .spien ≡ true →
-      unframedHost (life b cs .now .settings) ≡ true → FallsIdle (life b cs)
+      stopsBetweenWords (life b cs .now .settings) ≡ true → FallsIdle (life b cs)
   pub framesHold : (b : Beginning) (cs : List Call) → life b cs .now .settings .spien ≡ true →
-      framed (life b cs .now .settings) ≡ true → FramesHold (life b cs)
+      life b cs .now .settings .con2 .frmen ≡ true → FramesHold (life b cs)
   pub enabling : (b : Beginning) (cs : List Call) (c : Call) → life b cs .now .settings .spien ≡ false →
       showsPulse (watchedCall (life b cs) c .now) ≡ false

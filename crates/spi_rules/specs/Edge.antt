@@ -17,7 +17,7 @@ use Rattle.spi_rules.specs.Finish.{finished}
 use Rattle.spi_rules.specs.Select.{deselected, selectSeen}
 
 -- The edges that a word takes.
-unfoldable pub wordEdges : Settings → ℕ
+abbrev pub wordEdges : Settings → ℕ
 wordEdges s = 2 * widthOf s
 
 -- A word at its beginning: no edge given, nothing received.

@@ -12,7 +12,7 @@ use Rattle.spi_rules.specs.declared.Settings.{Settings}
 use Rattle.spi_rules.specs.declared.Output.{Output}
 use Rattle.spi_rules.specs.declared.Output.the-variants.{Low, High, Undriven}
 use Rattle.spi_rules.specs.Choice.{if_then_else_}
-use Rattle.spi_rules.specs.Settings.{widthOf, depthOf, ckeOf}
+use Rattle.spi_rules.specs.InBits.{wordBits, room, oddSampled, heedsSelect, givesPulses}
 use Rattle.spi_rules.specs.Registers.{bitOf}
 use Rattle.spi_rules.specs.Words.{waitingIn, unreadIn, leftBuffer}
 use Rattle.spi_rules.specs.Ledger.{Wire, quiet, busy, isQuiet, Ledger, sent, undropped, leftToSend}
@@ -75,7 +75,7 @@ statBits x =
     ∷ x .now .engine .spirov
     ∷ (shows && eqb (length (unreadIn (x .now))) 0)
     ∷ bits (2 ∷ 1 ∷ 0 ∷ []) (s .sisel)
-    ++ (eqb (length (waitingIn (x .now))) (depthOf s) ∷ eqb (length (unreadIn (x .now))) (depthOf s) ∷ [])))
+    ++ (eqb (length (waitingIn (x .now))) (room s) ∷ eqb (length (unreadIn (x .now))) (room s) ∷ [])))
 
 -- What happened in a call, seen by what stood before it (x) and after it (y): a word was accepted, read, finished, lost,
 -- added to those unread, or left the transmit buffer. A word that passes through the buffer within a BUF write has left
@@ -135,10 +135,10 @@ firstUnsent l = getD (l .accepted) (length (sent l)) 0
 -- the top bit, 3 and 4 the next, and so on; with CKE 1 edge 1 still shows the top bit, 2 and 3 the next. Between words:
 -- with CKE 1 the top bit of the word to be sent next, with CKE 0 as before.
 abbrev pub levelShown : Settings → Ledger → Wire → Bool → Bool
-levelShown s l quiet before = if ckeOf s then bitOf (firstUnsent l) (widthOf s - 1) else before
+levelShown s l quiet before = if oddSampled s then bitOf (firstUnsent l) (wordBits s - 1) else before
 levelShown s l (busy w) before =
     bitOf (if w .filler then 0 else firstUnsent l)
-    (widthOf s - 1 - (if ckeOf s then w .edges else w .edges - 1) / 2)
+    (wordBits s - 1 - (if oddSampled s then w .edges else w .edges - 1) / 2)
 
 -- Enabling sets SDO to 0, and while disabled it stays.
 abbrev pub sdoShown : Watched → Watched → Bool
@@ -151,7 +151,7 @@ sdoShown x y =
 abbrev pub pinShown : Watched → Output
 pinShown x =
     let s : Settings = x .now .settings in
-    if not (s .spien) || (s .con1 .dissdo || ((not (s .con1 .msten) && (not (s .con2 .frmen) && s .con1 .ssen)) && x .ledger .ss)) then Undriven
+    if not (s .spien) || (s .con1 .dissdo || (heedsSelect s && x .ledger .ss)) then Undriven
     else if x .now .engine .pins .sdo then High
     else Low
 
@@ -160,6 +160,6 @@ pinShown x =
 abbrev pub selectShown : Watched → Output
 selectShown x =
     let s : Settings = x .now .settings in
-    if not (s .spien && (s .con2 .frmen && not (s .con2 .spifsd))) then Undriven
+    if not (s .spien && givesPulses s) then Undriven
     else if Bool·beq (x .ledger .pulse) (s .con2 .frmpol) then High
     else Low

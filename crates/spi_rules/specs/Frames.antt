@@ -10,7 +10,7 @@ use Rattle.spi_rules.specs.declared.Answer.the-variants.{Edge}
 use Rattle.spi_rules.specs.declared.Call.{Call}
 use Rattle.spi_rules.specs.declared.Call.the-variants.{Read, Write, Tick, Pin, Clear}
 use Rattle.spi_rules.specs.Choice.{if_then_else_}
-use Rattle.spi_rules.specs.Settings.{widthOf, ownClock}
+use Rattle.spi_rules.specs.InBits.{wordBits, clocksItself}
 use Rattle.spi_rules.specs.Calls.{performOf, sckOf}
 use Rattle.spi_rules.specs.Ledger.{Ledger, Wire, quiet, busy, isQuiet, sent}
 use Rattle.spi_rules.specs.Watch.{Watched, watchedCall, watchedCalls, showsPulse}
@@ -55,11 +55,11 @@ endsPulse x c = showsPulse (x .now) && not (showsPulse (watchedCall x c .now))
 -- A framed module with its own clock makes an edge at every tick, with nothing to send too. A word or filler under way is given
 -- every edge until it has 2w, and nothing but disabling takes it off the wire.
 pub record FramedCall (x : Watched) (c : Call) : Type 0 where
-  pub runsOn : ownClock (x .now .settings) ≡ true → (sdi ss : Bool) → performOf (x .now) (Tick sdi ss) .answer ≡ Edge
+  pub runsOn : clocksItself (x .now .settings .con1) ≡ true → (sdi ss : Bool) → performOf (x .now) (Tick sdi ss) .answer ≡ Edge
   pub whole : isQuiet (x .ledger .wire) ≡ false → watchedCall x c .now .settings .spien ≡ true →
       edgesGiven (watchedCall x c .ledger .wire)
       ≡ (if edgeMade x c
-      then (if eqb (edgesGiven (x .ledger .wire) + 1) (2 * widthOf (x .now .settings)) then 0 else edgesGiven (x .ledger .wire) + 1)
+      then (if eqb (edgesGiven (x .ledger .wire) + 1) (2 * wordBits (x .now .settings)) then 0 else edgesGiven (x .ledger .wire) + 1)
       else edgesGiven (x .ledger .wire))
 
 -- Whether SS of a frame host must be active after a transmit edge. FRMDLY 0: with nothing under way if a word is left to send,
@@ -67,7 +67,7 @@ pub record FramedCall (x : Watched) (c : Call) : Type 0 where
 abbrev pub pulseExpected : Settings → Ledger → Bool
 pulseExpected s l =
     if s .con2 .frmdly then eqb (edgesGiven (l .wire)) 1
-    else (isQuiet (l .wire) && leb 1 (unsent l)) || (eqb (edgesGiven (l .wire) + 1) (2 * widthOf s) && leb 2 (unsent l))
+    else (isQuiet (l .wire) && leb 1 (unsent l)) || (eqb (edgesGiven (l .wire) + 1) (2 * wordBits s) && leb 2 (unsent l))
 
 -- A word of a frame host begins exactly at the transmit edge that ends a pulse (FRMDLY 0) or starts one (FRMDLY 1), and no
 -- filler does. SS changes at transmit edges alone, and is then as expected: so a pulse lasts one clock and comes as early as it
@@ -112,7 +112,7 @@ Still x (c ∷ cs) =
 -- e begins that word. FRMDLY 1: c makes edge 2w, a word is there before d makes the next edge, and d begins it.
 pub record FollowsOn (x : Watched) : Type 0 where
   pub before : x .now .settings .con2 .frmdly ≡ false → (c d e : Call) (cs ds : List Call) →
-      edgesGiven (x .ledger .wire) + 2 ≡ 2 * widthOf (x .now .settings) →
+      edgesGiven (x .ledger .wire) + 2 ≡ 2 * wordBits (x .now .settings) →
       edgeMade x c ≡ true →
       2 ≤ unsent (x .ledger) →
       Still (watchedCall x c) cs →
@@ -121,7 +121,7 @@ pub record FollowsOn (x : Watched) : Type 0 where
       edgeMade (watchedCalls (watchedCall (watchedCalls (watchedCall x c) cs) d) ds) e ≡ true →
       wordBegins (watchedCalls (watchedCall (watchedCalls (watchedCall x c) cs) d) ds) e ≡ true
   pub with : x .now .settings .con2 .frmdly ≡ true → (c d : Call) (cs : List Call) →
-      edgesGiven (x .ledger .wire) + 1 ≡ 2 * widthOf (x .now .settings) →
+      edgesGiven (x .ledger .wire) + 1 ≡ 2 * wordBits (x .now .settings) →
       edgeMade x c ≡ true →
       Still (watchedCall x c) cs →
       1 ≤ unsent (watchedCalls (watchedCall x c) cs .ledger) →

@@ -14,6 +14,7 @@ pub mod Finish
 pub mod Select
 pub mod Edge
 pub mod Calls
+pub mod InBits
 pub mod Words
 pub mod Invariant
 pub mod Examples

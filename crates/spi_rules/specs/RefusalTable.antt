@@ -10,7 +10,7 @@ use Rattle.spi_rules.specs.declared.Module.{Module}
 use Rattle.spi_rules.specs.declared.Call.{Call}
 use Rattle.spi_rules.specs.declared.Call.the-variants.{Read, Write, Tick, Pin, Clear}
 use Rattle.spi_rules.specs.Choice.{if_then_else_}
-use Rattle.spi_rules.specs.Settings.{depthOf}
+use Rattle.spi_rules.specs.InBits.{room, clocksItself, undividedClock, ckeWithoutSelect}
 use Rattle.spi_rules.specs.Registers.{bitOf}
 use Rattle.spi_rules.specs.Words.{waitingIn, unreadIn}
 
@@ -58,10 +58,6 @@ isClear c = eqb (asks c .kind) 4
 abbrev pub enables : Module → Call → Bool
 enables m c = not (m .settings .spien) && (writes 0 c && bitOf (asks c .value) 15)
 
--- A host with its own clock.
-abbrev pub clocksItself : Con1 → Bool
-clocksItself con1 = con1 .msten && not (con1 .dissck)
-
 -- Register calls test 1, then 2 or 3, then 13, 14 and 15, 5 or 16 and 6; tick and pin calls test 2, then 7.
 abbrev pub rows : Module → Call → List Row
 rows m c =
@@ -73,13 +69,13 @@ rows m c =
     -- CON1 or CON2 written while SPIEN is 1
     ∷ row 3 (m .settings .spien && (writes 1 c || writes 2 c))
     -- STAT write turns SPIEN from 0 to 1 with MSTEN, without DISSCK and with both prescalers 1:1
-    ∷ row 13 (enables m c && (clocksItself con1 && (eqb (con1 .ppre) 3 && eqb (con1 .spre) 7)))
+    ∷ row 13 (enables m c && undividedClock (m .settings))
     -- with SMP
     ∷ row 14 (enables m c && con1 .smp)
     -- for a client with CKE, no SSEN and no FRMEN
-    ∷ row 15 (enables m c && (not (m .settings .con2 .frmen) && (not (con1 .msten) && (con1 .cke && not (con1 .ssen)))))
+    ∷ row 15 (enables m c && ckeWithoutSelect (m .settings))
     -- BUF write with the transmit buffer full
-    ∷ row 5 (writes 3 c && leb (depthOf (m .settings)) (length (waitingIn m)))
+    ∷ row 5 (writes 3 c && leb (room (m .settings)) (length (waitingIn m)))
     -- BUF read with the receive buffer marked
     ∷ row 16 (reads 3 c && m .engine .receive .marked)
     -- BUF read with the receive buffer empty

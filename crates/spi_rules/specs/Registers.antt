@@ -64,7 +64,7 @@ con2Value c =
     weighed (c .frmen) (2 ^ 15) + weighed (c .spifsd) (2 ^ 14) + weighed (c .frmpol) (2 ^ 13) + weighed (c .frmdly) (2 ^ 1) + weighed (c .spiben) (2 ^ 0)
 
 -- The w bits of a value that BUF keeps when written and shows when read.
-unfoldable pub lowBits : Settings → ℕ → ℕ
+abbrev pub lowBits : Settings → ℕ → ℕ
 lowBits s v = v % 2 ^ widthOf s
 
 -- No word is loaded or begun in the shift register. A begun filler is a word begun.

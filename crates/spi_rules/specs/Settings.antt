@@ -5,7 +5,7 @@ use Rattle.spi_rules.specs.declared.Settings.{Settings}
 use Rattle.spi_rules.specs.Choice.{if_then_else_}
 
 -- Width w: 16 with MODE16, else 8.
-unfoldable pub widthOf : Settings → ℕ
+abbrev pub widthOf : Settings → ℕ
 widthOf s = if s .con1 .mode16 then 16 else 8
 
 -- Words that a buffer holds in enhanced operation.
@@ -13,7 +13,7 @@ abbrev pub enhancedDepth : ℕ
 enhancedDepth = 8
 
 -- Words that each buffer holds: the enhanced depth with SPIBEN, else 1.
-unfoldable pub depthOf : Settings → ℕ
+abbrev pub depthOf : Settings → ℕ
 depthOf s = if s .con2 .spiben then enhancedDepth else 1
 
 -- Document 02, Three: with FRMEN a module is framed. SPIFSD 0 makes it a frame host, which gives pulses on SS; SPIFSD 1 makes

@@ -1,5 +1,5 @@
 -- How this module is watched: what its ledger must know of it, and what each call and its answer tell.
-use Prim.Native.Nat.{_*_}
+use Prim.Native.Nat.{_*_, _%_, _^_}
 use mathlib.Core.Bool.{Bool, false, not, _&&_, _||_, Bool·beq}
 use mathlib.Core.List.{List, [], _∷_}
 use lib.Dec.{eqb}
@@ -11,12 +11,10 @@ use Rattle.spi_rules.specs.declared.Output.the-variants.{Low, High, Undr
 use Rattle.spi_rules.specs.declared.Call.{Call}
 use Rattle.spi_rules.specs.declared.Call.the-variants.{Read, Write, Tick, Pin, Clear}
 use Rattle.spi_rules.specs.Choice.{if_then_else_}
-use Rattle.spi_rules.specs.Settings.{widthOf, depthOf, framed, frameHost, frameClient, ckeOf, silent}
+use Rattle.spi_rules.specs.InBits.{wordBits, room, sampledAt, heedsSelect, givesPulses, takesPulses, sendsNoFiller}
 use Rattle.spi_rules.specs.Refusals.{saidOf, isDone, isValue, isEdge}
-use Rattle.spi_rules.specs.Registers.{bitOf, lowBits}
-use Rattle.spi_rules.specs.Bits.{samples}
-use Rattle.spi_rules.specs.Select.{deselected}
-use Rattle.spi_rules.specs.Edge.{Levels, levels}
+use Rattle.spi_rules.specs.Registers.{bitOf}
+use Rattle.spi_rules.specs.Edge.{Levels}
 use Rattle.spi_rules.specs.Calls.{performOf, ssOf}
 use Rattle.spi_rules.specs.Ledger.{Terms, Ledger, opened, selectNoted, edgeNoted, acceptedNoted, readNoted}
 
@@ -26,16 +24,16 @@ use Rattle.spi_rules.specs.Ledger.{Terms, Ledger, opened, selectNoted, e
 abbrev pub terms : Settings → Terms
 terms s =
     record {
-      depth = depthOf s;
+      depth = room s;
       marks = s .con2 .spiben;
-      samples = samples (ckeOf s);
-      last = 2 * widthOf s;
+      samples = sampledAt s;
+      last = 2 * wordBits s;
       idle = λ sck. Bool·beq sck (s .con1 .ckp);
-      silent = silent s;
-      deaf = deselected s;
-      starts = λ stood shown. not (framed s) || (if frameHost s && s .con2 .frmdly then shown else stood);
-      gives = frameHost s;
-      active = λ ss. frameClient s && Bool·beq ss (s .con2 .frmpol);
+      silent = sendsNoFiller s;
+      deaf = λ ss. heedsSelect s && ss;
+      starts = λ stood shown. not (s .con2 .frmen) || (if givesPulses s && s .con2 .frmdly then shown else stood);
+      gives = givesPulses s;
+      active = λ ss. takesPulses s && Bool·beq ss (s .con2 .frmpol);
     }
 
 -- A pin that is driven at this level.
@@ -61,16 +59,16 @@ unfoldable pub entered : Settings → Bool → Bool → Call → Answer → Ledg
 entered s sdo shown (Read register) a l = if isValue a && eqb register 3 then readNoted (saidOf a .value) l else l
 -- a BUF write was done: the accepted word is the w bits that it kept; a STAT write that turns SPIEN on opens the ledger
 entered s sdo shown (Write register v) a l =
-    if isDone a && eqb register 3 then acceptedNoted (lowBits s v) l
+    if isDone a && eqb register 3 then acceptedNoted (v % 2 ^ wordBits s) l
     else if isDone a && (eqb register 0 && (not (s .spien) && bitOf v 15)) then opened (s .con1 .ckp)
     else l
 -- a tick made an edge: the clock went to its other level; select is what a frame client was told, and else as it was
 entered s sdo shown (Tick sdi ss) a l =
     if isEdge a
-    then levelsNoted (terms s) sdo shown (levels (not (l .sck)) sdi (if frameClient s then ss else l .ss)) l
+    then levelsNoted (terms s) sdo shown (record { sck = not (l .sck); sdi = sdi; ss = if takesPulses s then ss else l .ss }) l
     else l
 -- a pin call showed its levels
-entered s sdo shown (Pin sck sdi ss) a l = if isDone a then levelsNoted (terms s) sdo shown (levels sck sdi ss) l else l
+entered s sdo shown (Pin sck sdi ss) a l = if isDone a then levelsNoted (terms s) sdo shown (record { sck = sck; sdi = sdi; ss = ss }) l else l
 entered s sdo shown Clear a l = l
 
 -- A module and its ledger, and both after one call and after a list of calls.

@@ -2,28 +2,27 @@
 use Prim.Native.Nat.{ℕ}
 use mathlib.Core.Bool.{_||_}
 use mathlib.Core.List.{List, [], _∷_, _++_}
-use lib.ListN.{length}
 use Rattle.spi_rules.specs.declared.Settings.{Settings}
 use Rattle.spi_rules.specs.declared.Module.{Module}
 use Rattle.spi_rules.specs.declared.Shift.{Shift}
 use Rattle.spi_rules.specs.declared.Shift.the-variants.{Free, Loaded, Begun}
 use Rattle.spi_rules.specs.Choice.{if_then_else_}
-use Rattle.spi_rules.specs.Settings.{depthOf, ssenClient}
+use Rattle.spi_rules.specs.InBits.{room, heedsSelect}
 use Rattle.spi_rules.specs.Buffers.{waiting, unread}
 
 -- The words waiting to be sent, and the words received and not read.
 abbrev pub waitingIn : Module → List ℕ
-waitingIn m = waiting (depthOf (m .settings)) (m .engine .transmit)
+waitingIn m = waiting (room (m .settings)) (m .engine .transmit)
 
 abbrev pub unreadIn : Module → List ℕ
-unreadIn m = unread (depthOf (m .settings)) (m .engine .receive)
+unreadIn m = unread (room (m .settings)) (m .engine .receive)
 
 -- The one word that has left the transmit buffer and is not finished, if any. The begun word of an SSEN client has not
 -- left, and a filler is no accepted word.
 abbrev pub unfinished : Settings → Shift → List ℕ
 unfinished s Free = []
 unfinished s (Loaded word) = word ∷ []
-unfinished s (Begun p) = if p .filler || ssenClient s then [] else p .word ∷ []
+unfinished s (Begun p) = if p .filler || heedsSelect s then [] else p .word ∷ []
 
 abbrev pub leftBuffer : Module → List ℕ
 leftBuffer m = unfinished (m .settings) (m .engine .shift)

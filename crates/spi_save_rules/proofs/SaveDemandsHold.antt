@@ -12,20 +12,20 @@ use lib.Dec.{leb, ltb}
 use lib.ListN.{length, take, drop, length-append, length-drop}
 use lib.Seq.{take-at, drop-at}
 use Rattle.spi_rules.specs.declared.Module.{Module}
+use Rattle.spi_rules.specs.declared.Call.{Call}
 use Rattle.spi_rules.specs.Choice.{if_then_else_}
 use Rattle.spi_rules.specs.RefusalTable.{row, firstNumber}
 use Rattle.spi_rules.specs.Calls.{poweredUp, afterCalls}
-use Rattle.spi_rules.proofs.Keeps.{if-true, if-false, and-left, and-right, by-test, clash}
+use Rattle.spi_rules.proofs.Keeps.{if-true, if-false, and-left, and-right, by-test}
 use Rattle.spi_script_rules.specs.Script.{readFrom, linesOf, scriptCalls, scriptEnd}
 use Rattle.spi_trace_rules.specs.declared.Played.the-variants.{Made}
-use Rattle.spi_trace_rules.specs.Trace.{fileCalls, playedOf, isMade, playedModule}
-use Rattle.spi_save_rules.specs.declared.Saved.{Saved}
+use Rattle.spi_trace_rules.specs.Trace.{sectionCount, fileCalls, playedOf, isMade, playedModule}
 use Rattle.spi_save_rules.specs.declared.Saved.the-variants.{NoRoom, Written}
-use Rattle.spi_save_rules.specs.Save.{keptCalls, fileOf, savedFile, fits, savedOf, bufferAfter, savedNumberOf, savedLengthOf}
-use Rattle.spi_save_rules.specs.SaveDemands.{linesKept, fileSize, Kept, Saves}
+use Rattle.spi_save_rules.specs.Save.{keptCalls, savedFile, fits, savedOf, bufferAfter, savedNumberOf, savedLengthOf}
+use Rattle.spi_save_rules.specs.SaveDemands.{callsKept, fileSize, Kept, Saves}
 use Rattle.spi_save_rules.proofs.SaveExamplesHold.{save-examples-hold}
-use Rattle.spi_save_rules.proofs.SaveFile.{file-length, file-played, file-calls}
-use Rattle.spi_save_rules.proofs.SaveLines.{at-most, same-lines, kept-length, all-kept, kept-ends}
+use Rattle.spi_save_rules.proofs.SaveFile.{file-length, file-section, file-played, file-calls}
+use Rattle.spi_save_rules.proofs.SaveLines.{at-most, kept-calls, all-kept, kept-ends}
 
 -- The row of the table.
 rows-law : (long narrow : Bool) (n : ℕ) →
@@ -36,19 +36,28 @@ rows-law false true n = refl
 rows-law false false n = refl
 
 module _ (input : List ℕ) where
-  calls-kept : length (keptCalls input) ≡ linesKept input
+  calls-kept : keptCalls input ≡ callsKept input
   unfolding keptCalls
-  calls-kept = kept-length (linesOf (readFrom input))
+  calls-kept = kept-calls (linesOf (readFrom input))
 
   -- The file's length, in the paper's words.
   pub saved-length : length (savedFile input) ≡ fileSize input
   unfolding savedFile
-  saved-length = file-length (keptCalls input) ∙ ap (λ (n : ℕ). 10 + 4 * n) calls-kept
+  saved-length = file-length (keptCalls input) ∙ ap (λ (cs : List Call). 10 + 4 * length cs) calls-kept
+
+  -- It has one section, whose calls are those of the lines kept.
+  saved-section : sectionCount (savedFile input) ≡ 1
+  unfolding savedFile
+  saved-section = file-section (keptCalls input)
+
+  saved-calls : fileCalls (savedFile input) ≡ callsKept input
+  unfolding savedFile
+  saved-calls = file-calls (keptCalls input) ∙ calls-kept
 
   -- The file is played, makes a call for each line that was kept, and ends where the script does.
-  saved-played : length (savedFile input) ≤ 65535 → playedOf (savedFile input) ≡ Made (linesKept input)
+  saved-played : length (savedFile input) ≤ 65535 → playedOf (savedFile input) ≡ Made (length (callsKept input))
   unfolding savedFile keptCalls
-  saved-played h = file-played (keptCalls input) (all-kept (linesOf (readFrom input))) h ∙ ap Made calls-kept
+  saved-played h = file-played (keptCalls input) (all-kept (linesOf (readFrom input))) h ∙ ap (λ (cs : List Call). Made (length cs)) calls-kept
 
   saved-ends : length (savedFile input) ≤ 65535 → (m : Module) → playedModule m (savedFile input) ≡ scriptEnd input
   unfolding playedModule savedFile keptCalls scriptEnd scriptCalls
@@ -108,6 +117,8 @@ module _ (input : List ℕ) where
         cc (n, after, take-at f (drop (length f) buffer) (length f) refl) in
         record {
           size = n ∙ saved-length;
+          section = ap sectionCount file ∙ saved-section;
+          calls = ap fileCalls file ∙ saved-calls;
           plays = ap playedOf file ∙ saved-played short;
           ends = λ m. ap (playedModule m) file ∙ saved-ends short m;
           behind = cc (n, after, drop-at f (drop (length f) buffer) (length f) refl);
@@ -129,5 +140,5 @@ saves-hold =
       refusedExactly = refused-exactly;
       refusedUnchanged = refused-unchanged;
       kept = kept;
-      sameLines = same-lines;
+      oneOutcome = λ input buffer x y u v e f g h. (e ∙ sym f, g ∙ sym h);
     }

@@ -1,17 +1,18 @@
 -- The file of some calls is a right trace file that makes them.
 --     records-length four bytes for each call
 --     file-length    and ten before them
+--     file-section   it has one section
 --     file-played    it is played, and counts its calls
 --     file-calls     and makes them in order
 -- Assumes nothing.
-use Prim.Native.Nat.{ℕ, zero, suc, _+_, _*_, _/_, _%_, _≤_, _<_}
+use Prim.Native.Nat.{ℕ, zero, suc, _+_, _*_, _/_, _%_, _≤_}
 use mathlib.Core.Bool.{Bool, true, false, not, _&&_}
 use mathlib.Core.List.{List, [], _∷_, _++_, append-nil}
 use mathlib.Core.Path.{_≡_, refl, sym, ap, _∙_}
 use native.Mathlib.Omega.{arith}
 use borrow.Author.Tests.{le-ltb}
 use lib.Dec.{leb, ltb}
-use lib.ListN.{length, take, length-append}
+use lib.ListN.{length, length-append}
 use lib.Seq.{take-at}
 use Rattle.spi_rules.specs.declared.Call.{Call}
 use Rattle.spi_rules.specs.declared.Call.the-variants.{Read, Write, Tick, Pin, Clear}
@@ -19,9 +20,8 @@ use Rattle.spi_rules.specs.Choice.{if_then_else_}
 use Rattle.spi_rules.proofs.Keeps.{if-false, and-left, and-right, and-both}
 use Rattle.spi_trace_rules.specs.declared.Entry.{Entry}
 use Rattle.spi_trace_rules.specs.declared.Played.the-variants.{Made}
-use Rattle.spi_trace_rules.specs.Trace.{byteAt, halfAt, wordAt, sectionCount, tableEnd, startOf, sizeOf, contentsRight, bodyOf, entriesIn, recordsOf as entriesOf, isPlay, wireIn, rightRecord, allRight, sectionsRight, recordsRight, callOf, times, callsBy, callsOf, countBy, countOf, fileCalls, fileCount, playedOf}
-use Rattle.spi_trace_rules.specs.TraceDemands.{Whole}
-use Rattle.spi_trace_rules.proofs.TraceContents.{whole-right}
+use Rattle.spi_trace_rules.specs.Trace.{byteAt, halfAt, wordAt, sectionCount, tableEnd, startOf, sizeOf, contentsRight, bodyOf, entriesIn, recordsOf as entriesOf, isPlay, wireIn, levelOf, rightRecord, allRight, allBelow, recordsRight, callOf, callsBy, callsOf, countBy, countOf, fileCalls, fileCount, playedOf}
+use Rattle.spi_trace_rules.proofs.TraceContents.{laid-contents}
 use Rattle.spi_save_rules.specs.Save.{keeps, wires, recordOf, recordsOf, fileOf}
 
 -- Every call is one that is kept.
@@ -64,7 +64,7 @@ module _ (cs : List Call) where
   contents : length (fileOf cs) ≤ 65535 → contentsRight (fileOf cs) ≡ true
   unfolding tableEnd sectionCount startOf wordAt halfAt byteAt fileOf
   contents fits =
-      whole-right (fileOf cs)
+      laid-contents (fileOf cs)
       (record {
         some = omega arith;
         most = omega arith;
@@ -142,19 +142,20 @@ levels false false true = record { below = refl; sdi-is = refl; sck-is = refl; s
 levels false false false = record { below = refl; sdi-is = refl; sck-is = refl; ss-is = refl }
 
 -- A record of a call that is kept is right, plays no section, and is that call.
-right : (f : List ℕ) (c : Call) → keeps c ≡ true → rightRecord f 0 (entryOf c) ≡ true
+right : (count level : ℕ) (c : Call) → keeps c ≡ true → rightRecord count level 0 (entryOf c) ≡ true
 unfolding rightRecord keeps if_then_else_
-right f (Write register v) k = k
-right f (Read register) k = and-both (leb register 3) _ k refl
-right f (Tick sdi ss) k = let l = levels sdi false ss in cc (l .below, l .sck-is)
-right f (Pin sck sdi ss) k = let l = levels sdi sck ss in cc (l .below)
-right f Clear k = refl
+right count level (Write register v) k = k
+right count level (Read register) k = and-both (leb register 3) _ k refl
+right count level (Tick sdi ss) k = let l = levels sdi false ss in cc (l .below, l .sck-is)
+right count level (Pin sck sdi ss) k = let l = levels sdi sck ss in cc (l .below)
+right count level Clear k = refl
 
-all-right : (f : List ℕ) (cs : List Call) → allKept cs ≡ true → allRight f 0 (entries cs) ≡ true
+all-right : (count level : ℕ) (cs : List Call) → allKept cs ≡ true → allRight count level 0 (entries cs) ≡ true
 unfolding allRight
-all-right f [] k = refl
-all-right f (c ∷ cs) k =
-    and-both (rightRecord f 0 (entryOf c)) _ (right f c (and-left (keeps c) _ k)) (all-right f cs (and-right (keeps c) _ k))
+all-right count level [] k = refl
+all-right count level (c ∷ cs) k =
+    and-both (rightRecord count level 0 (entryOf c)) _ (right count level c (and-left (keeps c) _ k))
+    (all-right count level cs (and-right (keeps c) _ k))
 
 call : (c : Call) → callOf (entryOf c) ≡ c
 unfolding callOf if_then_else_
@@ -187,6 +188,10 @@ count sub (c ∷ cs) =
     ∙ omega (arith, count sub cs)
 
 -- The whole file.
+pub file-section : (cs : List Call) → sectionCount (fileOf cs) ≡ 1
+unfolding sectionCount halfAt byteAt fileOf
+file-section cs = refl
+
 pub file-calls : (cs : List Call) → fileCalls (fileOf cs) ≡ cs
 unfolding fileCalls callsOf
 file-calls cs = ap (callsBy (callsOf (fileOf cs) 7)) (section cs) ∙ calls (callsOf (fileOf cs) 7) cs
@@ -196,8 +201,10 @@ unfolding fileCount countOf
 file-count cs = ap (countBy (countOf (fileOf cs) 7)) (section cs) ∙ count (countOf (fileOf cs) 7) cs
 
 records : (cs : List Call) → allKept cs ≡ true → recordsRight (fileOf cs) ≡ true
-unfolding recordsRight sectionsRight sectionCount halfAt byteAt fileOf
-records cs k = and-both (allRight (fileOf cs) 0 (entriesOf (fileOf cs) 0)) _ (ap (allRight (fileOf cs) 0) (section cs) ∙ all-right (fileOf cs) cs k) refl
+unfolding recordsRight allBelow sectionCount halfAt byteAt fileOf
+records cs k =
+    let level : ℕ = levelOf (entriesOf (fileOf cs)) 0 in
+    ap (allRight 1 level 0) (section cs) ∙ all-right 1 level cs k
 
 pub file-played : (cs : List Call) → allKept cs ≡ true → length (fileOf cs) ≤ 65535 → playedOf (fileOf cs) ≡ Made (length cs)
 unfolding playedOf

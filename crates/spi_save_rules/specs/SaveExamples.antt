@@ -21,10 +21,12 @@ saved script room file behind =
     && (eqb (savedLengthOf (savedOf (bytes script) room)) (length file)
     && sameBytes (bufferAfter (bytes script) (lent room)) (file ++ lent behind))
 
--- It is refused with 20, and the buffer is as before.
+-- It is refused with 20, no length is told, and the buffer is as before.
 abbrev pub refused : String → ℕ → Bool
 refused script room =
-    eqb (savedNumberOf (savedOf (bytes script) room)) 20 && sameBytes (bufferAfter (bytes script) (lent room)) (lent room)
+    eqb (savedNumberOf (savedOf (bytes script) room)) 20
+    && (eqb (savedLengthOf (savedOf (bytes script) room)) 0
+    && sameBytes (bufferAfter (bytes script) (lent room)) (lent room))
 
 abbrev pub every : List Bool → Bool
 every [] = true
@@ -63,18 +65,19 @@ saves =
     ∷ saved worked 53 workedFile 3
     ∷ refused worked 49
     -- left out: lines that cannot be read, and registers above 3
-    ∷ saved "X\nW 4 0000\nR 9\n\nC\nR 3\n" 100
+    ∷ saved "X\nW 4 0000\nR 4\nR 9\n\nC\nR 3\n" 100
     (0x01 ∷ 0x00 ∷ 0x0A ∷ 0x00 ∷ 0x00 ∷ 0x00 ∷ 0x08 ∷ 0x00 ∷ 0x00 ∷ 0x00 ∷ 0x04 ∷ 0x00 ∷ 0x00 ∷ 0x00 ∷ 0x01 ∷ 0x03 ∷ 0x00 ∷ 0x00 ∷ []) 82
     -- every kind of call
-    ∷ saved "W 3 FFFF\nR 2\nT 1\nT 0 1\nP 1 0 1\nC\n" 100
-    (0x01 ∷ 0x00 ∷ 0x0A ∷ 0x00 ∷ 0x00 ∷ 0x00 ∷ 0x18 ∷ 0x00 ∷ 0x00 ∷ 0x00
+    ∷ saved "W 3 FFFF\nR 1\nR 2\nT 1\nT 0 1\nP 1 0 1\nC\n" 100
+    (0x01 ∷ 0x00 ∷ 0x0A ∷ 0x00 ∷ 0x00 ∷ 0x00 ∷ 0x1C ∷ 0x00 ∷ 0x00 ∷ 0x00
     ∷ 0x00 ∷ 0x03 ∷ 0xFF ∷ 0xFF
+    ∷ 0x01 ∷ 0x01 ∷ 0x00 ∷ 0x00
     ∷ 0x01 ∷ 0x02 ∷ 0x00 ∷ 0x00
     ∷ 0x02 ∷ 0x01 ∷ 0x00 ∷ 0x00
     ∷ 0x02 ∷ 0x04 ∷ 0x00 ∷ 0x00
     ∷ 0x03 ∷ 0x06 ∷ 0x00 ∷ 0x00
     ∷ 0x04 ∷ 0x00 ∷ 0x00 ∷ 0x00
-    ∷ []) 66
+    ∷ []) 62
     ∷ []
 
 abbrev pub saveExamples : Bool

@@ -25,7 +25,8 @@ use Rattle.spi_trace_rules.specs.declared.Entry.{Entry}
 use Rattle.spi_trace_rules.specs.declared.Fault.{Fault}
 use Rattle.spi_trace_rules.specs.declared.Played.{Played}
 use Rattle.spi_trace_rules.specs.declared.Played.the-variants.{Refused, Made}
-use Rattle.spi_trace_rules.specs.Trace.{contentsRight, sectionCount, tableEnd, startOf, sizeOf, recordsOf, isPlay, rightRecord, recordsRight, callOf, times, callsBy, callsOf, fileCalls, playedOf, isMade, playedModule}
+use Rattle.spi_trace_rules.specs.Trace.{contentsRight, sectionCount, tableEnd, startOf, sizeOf, recordsOf, isPlay, levelOf, rightOf, recordsRight, callOf, times, callsBy, callsOf, fileCalls, playedOf, isMade, playedModule}
+use Rattle.spi_trace_rules.proofs.TraceContents.{place-below}
 use Rattle.spi_trace_rules.proofs.TraceLevels.{play-right}
 use Rattle.spi_trace_files.specs.Places.{entryAt, entriesAt}
 use Rattle.spi_trace_files.specs.Idle.{idle, landingOf, PassedFrom}
@@ -77,7 +78,7 @@ no-levels f left k none = ap (λ (i : ℕ). callsOf f i k) none
 pub record Here (f : List ℕ) (k at n : ℕ) : Type 0 where
   pub inside : at + 4 * n ≤ length f
   pub short : length f ≤ 65535
-  pub right : rightRecord f k (entryAt f at) ≡ true
+  pub right : rightOf f k (entryAt f at) ≡ true
 
 -- The next record from an idle one on that is not idle.
 pub record Next (f : List ℕ) (at to : ℕ) : Type 0 where
@@ -86,9 +87,9 @@ pub record Next (f : List ℕ) (at to : ℕ) : Type 0 where
   pub whole : (to - at) % 4 ≡ 0
 
 -- A play record that is right names a section of the file.
-pub names-one : (f : List ℕ) (k : ℕ) (e : Entry) → rightRecord f k e ≡ true → isPlay e ≡ true → e .argument < sectionCount f
+pub names-one : (f : List ℕ) (k : ℕ) (e : Entry) → rightOf f k e ≡ true → isPlay e ≡ true → e .argument < sectionCount f
 names-one f k e right play =
-    let is = sym (play-right f k e play) ∙ right in
+    let is = sym (play-right (sectionCount f) (levelOf (recordsOf f) k) k e play) ∙ right in
     ltb-true (e .argument) (sectionCount f)
     (and-left (ltb (e .argument) (sectionCount f)) _ (and-right (ltb k (e .argument)) _ is))
 
@@ -108,7 +109,7 @@ module _ (f : List ℕ) (contents : contentsRight f ≡ true) (records : records
           inside = omega (arith, p .inside);
           short = p .short;
           right =
-              ap (λ (j : ℕ). rightRecord f k (entryAt f j))
+              ap (λ (j : ℕ). rightOf f k (entryAt f j))
               (let same : at ≡ startOf f k % 65536 + 4 * (sizeOf f k / 4 % 65536 - n) = omega arith in same)
               ∙ record-right f contents records k h (sizeOf f k / 4 % 65536 - n) (omega arith);
         }
@@ -119,7 +120,7 @@ module _ (f : List ℕ) (contents : contentsRight f ≡ true) (records : records
         let p = section-places f contents k h in
         let inside : at + 4 ≤ length f = omega (arith, p .inside) in
         let is : getD next (at / 4) 0 ≡ landingOf f at =
-        passed .each at (omega (arith, p .first)) inside (omega (arith, p .aligned, p .inside)) idles in
+        passed .each at (omega (arith, p .first, place-below f k 0 (omega arith))) inside (omega (arith, p .aligned, p .inside)) idles in
         let step : landingOf f at ≡ landingOf f (at + 4) = landing-step f at inside ∙ if-true (idle (entryAt f at)) _ _ idles in
         let l : Lands f (at + 4) (landingOf f (at + 4)) = lands f (at + 4) inside in
         record { is = is; further = omega (arith, l .least); whole = omega (arith, l .whole, l .least) }

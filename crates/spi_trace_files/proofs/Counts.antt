@@ -16,8 +16,8 @@ use lib.ListN.{getD, set, length-set, replicate, length-replicate}
 use lib.Seq.{getD-set-same, getD-set-other}
 use Rattle.spi_rules.proofs.Keeps.{if-true, if-false, by-test, and-both}
 use Rattle.spi_trace_rules.specs.declared.Entry.{Entry}
-use Rattle.spi_trace_rules.specs.Trace.{sectionCount, contentsRight, recordsOf, isPlay, playsAny, recordsRight, countBy, countOf}
-use Rattle.spi_trace_rules.proofs.TraceContents.{contents-whole}
+use Rattle.spi_trace_rules.specs.Trace.{levelOf, sectionCount, contentsRight, recordsOf, isPlay, playsAny, recordsRight, countBy, countOf}
+use Rattle.spi_trace_rules.proofs.TraceContents.{contents-laid}
 use Rattle.spi_trace_rules.proofs.TraceLevels.{PlaysUp, plays-up, level-least, stable, counts-same}
 use Rattle.spi_trace_files.specs.Places.{entryAt, entriesAt}
 use Rattle.spi_trace_files.proofs.Records.{entries-more, entries-none}
@@ -115,7 +115,7 @@ counted-is counts sub (e ∷ es) h =
 pub count-full : (f : List ℕ) → recordsRight f ≡ true → (k : ℕ) → k < sectionCount f →
     countBy (countOf f 8) (recordsOf f k) ≡ countOf f 8 k
 unfolding countOf
-count-full f right k h = stable f right countBy counts-same (countOf f) (λ l k. refl) 7 k h (omega (arith, level-least f k))
+count-full f right k h = stable f right countBy counts-same (countOf f) (λ l k. refl) 7 k h (omega (arith, level-least (recordsOf f) k))
 
 -- One record more, before those that are counted.
 pub count-more : (f : List ℕ) (sub : ℕ → ℕ) (n at : ℕ) → 0 < n →
@@ -139,7 +139,7 @@ counts-next f contents right k h counts n from is =
     is
     ∙ counted-is counts (countOf f 8) (recordsOf f k)
     (λ j plays.
-    let up : PlaysUp f k j = plays-up f right k j h plays in
+    let up : PlaysUp (sectionCount f) (levelOf (recordsOf f) k) k j = plays-up f right k j h plays in
     from .each j (omega (arith, up .up)) (up .there))
     ∙ ap capped (count-full f right k h) in
     record {
@@ -149,7 +149,7 @@ counts-next f contents right k h counts n from is =
           (λ here.
           let same : j ≡ k = eqb-true j k here in
           ap (λ (i : ℕ). getD (set counts k n) i 0) same
-          ∙ getD-set-same counts k n 0 (omega (arith, from .all, contents-whole f contents .most))
+          ∙ getD-set-same counts k n 0 (omega (arith, from .all, contents-laid f contents .most))
           ∙ total
           ∙ ap (λ (i : ℕ). capped (countOf f 8 i)) (sym same))
           (λ other.

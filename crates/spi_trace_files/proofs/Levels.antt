@@ -1,21 +1,21 @@
 -- Levels, record by record.
 --     levels-first, levels-next   before any section, and behind one more
---     sections-none, sections-more, sections-wrong   the sections left to look at
+--     right-at                    a record's level is its section's
 -- Assumes nothing.
 use Prim.Native.Nat.{ℕ, zero, suc, _+_, _-_, _<_, _≤_}
 use mathlib.Core.Bool.{Bool, true, false, _&&_, _||_}
 use mathlib.Core.List.{List, [], _∷_, _++_}
 use mathlib.Core.Path.{_≡_, refl, sym, ap, ap₂, _∙_}
 use native.Mathlib.Omega.{arith}
-use borrow.Author.Tests.{ltb-true, leb-true, leb-false, le-leb, lt-leb, eqb-true, eqb-false, eq-eqb, ne-eqb}
+use borrow.Author.Tests.{ltb-true, leb-true, leb-false, le-leb, eqb-true, eqb-false, eq-eqb, ne-eqb}
 use lib.Dec.{eqb, leb, ltb}
 use lib.ListN.{length, getD, set, length-set, List·getD-append, replicate, length-replicate, getD-replicate}
 use lib.Seq.{getD-set-same, getD-set-other, set-getD}
 use Rattle.spi_rules.specs.Choice.{if_then_else_}
 use Rattle.spi_rules.proofs.Keeps.{if-true, if-false, by-test, and-left, and-right, and-both, and-first, and-false}
 use Rattle.spi_trace_rules.specs.declared.Entry.{Entry}
-use Rattle.spi_trace_rules.specs.Trace.{sectionCount, contentsRight, recordsOf, isPlay, playsAny, higher, highestPlayer, levelsBelow, levelOf, rightRecord, allRight, sectionsRight}
-use Rattle.spi_trace_rules.proofs.TraceContents.{contents-whole}
+use Rattle.spi_trace_rules.specs.Trace.{sectionCount, contentsRight, recordsOf, isPlay, playsAny, higher, highestPlayer, levelsBelow, levelOf, rightRecord, rightOf, allRight, allOf}
+use Rattle.spi_trace_rules.proofs.TraceContents.{contents-laid}
 use Rattle.spi_trace_rules.proofs.TraceLevels.{levels-length, level-below, play-right}
 use Rattle.spi_trace_files.specs.Places.{entryAt, entriesAt}
 use Rattle.spi_trace_files.specs.Passes.{raisedOne, raisedBy, LevelsAt}
@@ -126,71 +126,66 @@ raised-at level ls (e ∷ es) j h =
     ∙ ap (λ (x : ℕ). if playsAny es j then higher x (level + 1) else x) (one-at level ls e j h)
     ∙ twice (isPlay e && eqb (e .argument) j) (playsAny es j) (getD ls j 0) (level + 1)
 
-module _ (f : List ℕ) where
+module _ (s : ℕ → List Entry) where
   -- Levels behind those looked at do not count.
-  players-same : (ls more : List ℕ) (j n : ℕ) → n ≤ length ls → highestPlayer f (ls ++ more) j n ≡ highestPlayer f ls j n
+  players-same : (ls more : List ℕ) (j n : ℕ) → n ≤ length ls → highestPlayer s (ls ++ more) j n ≡ highestPlayer s ls j n
   unfolding highestPlayer
   players-same ls more j zero h = refl
   players-same ls more j (suc n) h =
-      ap₂ (λ (a b : ℕ). higher a (if playsAny (recordsOf f n) j then b else 0))
+      ap₂ (λ (a b : ℕ). higher a (if playsAny (s n) j then b else 0))
       (players-same ls more j n (omega arith))
       (List·getD-append ls more 0 n (omega arith))
 
   -- One section more.
   player-next : (k j : ℕ) →
-      1 + highestPlayer f (levelsBelow f (suc k)) j (suc k)
-      ≡ (if playsAny (recordsOf f k) j then higher (1 + highestPlayer f (levelsBelow f k) j k) (levelOf f k + 1)
-      else 1 + highestPlayer f (levelsBelow f k) j k)
+      1 + highestPlayer s (levelsBelow s (suc k)) j (suc k)
+      ≡ (if playsAny (s k) j then higher (1 + highestPlayer s (levelsBelow s k) j k) (levelOf s k + 1)
+      else 1 + highestPlayer s (levelsBelow s k) j k)
   unfolding highestPlayer levelsBelow
   player-next k j =
-      ap (λ (x : ℕ). 1 + higher x (if playsAny (recordsOf f k) j then getD (levelsBelow f (suc k)) k 0 else 0))
-      (players-same (levelsBelow f k) _ j k (omega (arith, levels-length f k)))
-      ∙ by-test (playsAny (recordsOf f k) j)
+      ap (λ (x : ℕ). 1 + higher x (if playsAny (s k) j then getD (levelsBelow s (suc k)) k 0 else 0))
+      (players-same (levelsBelow s k) _ j k (omega (arith, levels-length s k)))
+      ∙ by-test (playsAny (s k) j)
       (λ plays.
-      ap (λ (x : ℕ). 1 + higher (highestPlayer f (levelsBelow f k) j k) x)
-      (if-true (playsAny (recordsOf f k) j) _ _ plays ∙ level-below f (suc k) k (omega arith))
-      ∙ sym (higher-one (highestPlayer f (levelsBelow f k) j k) (levelOf f k))
-      ∙ sym (if-true (playsAny (recordsOf f k) j) _ _ plays))
+      ap (λ (x : ℕ). 1 + higher (highestPlayer s (levelsBelow s k) j k) x)
+      (if-true (playsAny (s k) j) _ _ plays ∙ level-below s (suc k) k (omega arith))
+      ∙ sym (higher-one (highestPlayer s (levelsBelow s k) j k) (levelOf s k))
+      ∙ sym (if-true (playsAny (s k) j) _ _ plays))
       (λ none.
-      ap (λ (x : ℕ). 1 + higher (highestPlayer f (levelsBelow f k) j k) x) (if-false (playsAny (recordsOf f k) j) _ _ none)
-      ∙ ap (λ (x : ℕ). 1 + x) (higher-first (highestPlayer f (levelsBelow f k) j k) 0 (omega arith))
-      ∙ sym (if-false (playsAny (recordsOf f k) j) _ _ none))
+      ap (λ (x : ℕ). 1 + higher (highestPlayer s (levelsBelow s k) j k) x) (if-false (playsAny (s k) j) _ _ none)
+      ∙ ap (λ (x : ℕ). 1 + x) (higher-first (highestPlayer s (levelsBelow s k) j k) 0 (omega arith))
+      ∙ sym (if-false (playsAny (s k) j) _ _ none))
 
-  pub levels-first : LevelsAt f 0 (replicate 64 1)
+  pub levels-first : LevelsAt s 0 (replicate 64 1)
   unfolding highestPlayer levelsBelow
   levels-first = record { all = length-replicate {A = ℕ} 64 1; each = λ j h. getD-replicate {A = ℕ} 64 j 1 0 h }
 
-  pub levels-next : (k : ℕ) (ls : List ℕ) → LevelsAt f k ls → LevelsAt f (k + 1) (raisedBy (levelOf f k) ls (recordsOf f k))
+  pub levels-next : (k : ℕ) (ls : List ℕ) → LevelsAt s k ls → LevelsAt s (k + 1) (raisedBy (levelOf s k) ls (s k))
   levels-next k ls at =
       record {
-        all = raised-length (levelOf f k) ls (recordsOf f k) ∙ at .all;
+        all = raised-length (levelOf s k) ls (s k) ∙ at .all;
         each = λ j h.
-            raised-at (levelOf f k) ls (recordsOf f k) j (omega (arith, at .all))
-            ∙ ap (λ (x : ℕ). if playsAny (recordsOf f k) j then higher x (levelOf f k + 1) else x) (at .each j h)
+            raised-at (levelOf s k) ls (s k) j (omega (arith, at .all))
+            ∙ ap (λ (x : ℕ). if playsAny (s k) j then higher x (levelOf s k + 1) else x) (at .each j h)
             ∙ sym (player-next k j)
-            ∙ ap (λ (i : ℕ). 1 + highestPlayer f (levelsBelow f i) j i) (let same : suc k ≡ k + 1 = omega arith in same);
+            ∙ ap (λ (i : ℕ). 1 + highestPlayer s (levelsBelow s i) j i) (let same : suc k ≡ k + 1 = omega arith in same);
       }
 
   -- A section's own level.
-  pub level-here : (k : ℕ) (ls : List ℕ) → LevelsAt f k ls → k < 64 → getD ls k 0 ≡ levelOf f k
+  pub level-here : (k : ℕ) (ls : List ℕ) → LevelsAt s k ls → k < 64 → getD ls k 0 ≡ levelOf s k
   unfolding levelOf
   level-here k ls at h = at .each k h
 
-  -- The sections left to look at.
-  pub sections-none : (n k : ℕ) → n ≤ k → sectionsRight f (n - k) k ≡ true
-  unfolding sectionsRight
-  sections-none n k h = ap (λ (i : ℕ). sectionsRight f i k) (let same : n - k ≡ 0 = omega arith in same)
-
-  pub sections-more : (n k : ℕ) → k < n →
-      sectionsRight f (n - k) k ≡ (allRight f k (recordsOf f k) && sectionsRight f (n - (k + 1)) (k + 1))
-  unfolding sectionsRight
-  sections-more n k h = ap (λ (i : ℕ). sectionsRight f i k) (let same : n - k ≡ suc (n - (k + 1)) = omega arith in same)
+module _ (f : List ℕ) where
+  -- A record is right in its section at the level of that section.
+  pub right-at : (k level : ℕ) (e : Entry) → level ≡ levelOf (recordsOf f) k → rightOf f k e ≡ rightRecord (sectionCount f) level k e
+  right-at k level e is = ap (λ (l : ℕ). rightRecord (sectionCount f) l k e) (sym is)
 
   -- The records left to look at in a section.
   module _ (k n at : ℕ) (h : 0 < n) where
-    pub right-more : allRight f k (entriesAt f n at) ≡ (rightRecord f k (entryAt f at) && allRight f k (entriesAt f (n - 1) (at + 4)))
+    pub right-more : allOf f k (entriesAt f n at) ≡ (rightOf f k (entryAt f at) && allOf f k (entriesAt f (n - 1) (at + 4)))
     unfolding allRight
-    right-more = ap (allRight f k) (entries-more f n at h)
+    right-more = ap (allOf f k) (entries-more f n at h)
 
     pub raised-more : (level : ℕ) (ls : List ℕ) →
         raisedBy level ls (entriesAt f n at) ≡ raisedBy level (raisedOne level ls (entryAt f at)) (entriesAt f (n - 1) (at + 4))
@@ -198,24 +193,24 @@ module _ (f : List ℕ) where
     raised-more level ls = ap (raisedBy level ls) (entries-more f n at h)
 
   module _ (k n at : ℕ) (h : n ≤ 0) where
-    pub right-none : allRight f k (entriesAt f n at) ≡ true
+    pub right-none : allOf f k (entriesAt f n at) ≡ true
     unfolding allRight
-    right-none = ap (allRight f k) (entries-none f n at h)
+    right-none = ap (allOf f k) (entries-none f n at h)
 
     pub raised-none : (level : ℕ) (ls : List ℕ) → raisedBy level ls (entriesAt f n at) ≡ ls
     unfolding raisedBy
     raised-none level ls = ap (raisedBy level ls) (entries-none f n at h)
 
   -- A right play record stands below level 8 and names one of 64 sections.
-  pub play-safe : contentsRight f ≡ true → (k : ℕ) (e : Entry) → rightRecord f k e ≡ true → isPlay e ≡ true →
-      (levelOf f k < 8) × (e .argument < 64)
+  pub play-safe : contentsRight f ≡ true → (k : ℕ) (e : Entry) → rightOf f k e ≡ true → isPlay e ≡ true →
+      (levelOf (recordsOf f) k < 8) × (e .argument < 64)
   play-safe contents k e right play =
-      let is = sym (play-right f k e play) ∙ right in
+      let is = sym (play-right (sectionCount f) (levelOf (recordsOf f) k) k e play) ∙ right in
       let rest = and-right (ltb k (e .argument)) _ is in (
-        ltb-true (levelOf f k) 8 (and-right (ltb (e .argument) (sectionCount f)) _ rest),
+        ltb-true (levelOf (recordsOf f) k) 8 (and-right (ltb (e .argument) (sectionCount f)) _ rest),
         omega (
           arith,
           ltb-true (e .argument) (sectionCount f) (and-left (ltb (e .argument) (sectionCount f)) _ rest),
-          contents-whole f contents .most,
+          contents-laid f contents .most,
         ),
       )

@@ -7,9 +7,8 @@ ghost use mathlib.Core.Bool.{true};
 ghost use mathlib.Core.Path.{_≡_};
 ghost use lib.ListN.{length, getD, set};
 ghost use Rattle.spi_rules.specs.Choice.{if_then_else_};
-ghost use Rattle.spi_trace_rules.specs.TraceDemands.{sizesBelow};
-ghost use Rattle.spi_trace_rules.specs.Trace.{tableEnd, byteAt, halfAt, wordAt, sectionCount, startOf, sizeOf, gapless, contentsRight, bodyOf, recordsOf, isPlay, levelOf, rightRecord, allRight, recordsRight, countBy, fileCount, playedOf, isMade};
-ghost use Rattle.spi_trace_files.specs.Places.{entryAt};
+ghost use Rattle.spi_trace_rules.specs.Trace.{tableEnd, byteAt, halfAt, wordAt, sectionCount, startOf, sizeOf, placeOf, contentsRight, bodyOf, recordsOf, isPlay, levelOf, rightRecord, allOf, recordsRight, countBy, fileCount, playedOf, isMade};
+ghost use Rattle.spi_trace_files.specs.Places.{entryAt, laid};
 ghost use Rattle.spi_trace_files.specs.Passes.{raisedOne, raisedBy, capped, weightBy};
 ghost use Rattle.spi_trace_files.specs.Idle.{idle, landingOf, PassedFrom};
 
@@ -91,7 +90,8 @@ pub fn size(f: &[u8], k: u16) -> u32
 
 // Whether the sections lie one behind the other, the first behind the table and the last ending the file.
 fn lies_gapless(f: &[u8], n: u16) -> bool
-    ensures { λ r. ⌜ r ≡ gapless (now (f .entry)) n 0 (2 + 8 * n) ⌝ }
+    requires { ⌜ n ≡ sectionCount (now f) ⌝ }
+    ensures { λ r. ⌜ r ≡ laid (now (f .entry)) n ⌝ }
 {
     let mut at: u64 = 2 + 8 * (n as u64);
     let mut k: u16 = 0;
@@ -184,8 +184,7 @@ pub fn record_count(f: &[u8], k: u16) -> u16
 
 // Whether a record of a section of some level is right.
 fn record_right(f: &[u8], k: u16, level: u8, e: Entry) -> bool
-    requires { ⌜ level ≡ levelOf (now f) k ⌝ }
-    ensures { λ r. ⌜ r ≡ rightRecord (now (f .entry)) k e ⌝ }
+    ensures { λ r. ⌜ r ≡ rightRecord (sectionCount (now (f .entry))) level k e ⌝ }
 {
     let kind = e.kind;
     let argument = e.argument;
@@ -235,9 +234,9 @@ fn raise(levels: &mut [u8; 64], level: u8, e: Entry)
 // Whether every record of a section is right. If so, the sections that it plays are raised.
 fn section_right(f: &[u8], k: u16, levels: &mut [u8; 64]) -> bool
     requires { ⌜ (contentsRight (now f) ≡ true) × (k < sectionCount (now f)) ⌝ }
-    requires { ⌜ getD (now levels) k 0 ≡ levelOf (now f) k ⌝ }
-    ensures { λ r. ⌜ r ≡ allRight (now (f .entry)) k (recordsOf (now (f .entry)) k) ⌝ }
-    ensures { λ r. ⌜ (r ≡ true → now (levels .exit) ≡ raisedBy (levelOf (now (f .entry)) k) (now (levels .entry)) (recordsOf (now (f .entry)) k)) ⌝ }
+    requires { ⌜ getD (now levels) k 0 ≡ levelOf (recordsOf (now f)) k ⌝ }
+    ensures { λ r. ⌜ r ≡ allOf (now (f .entry)) k (recordsOf (now (f .entry)) k) ⌝ }
+    ensures { λ r. ⌜ (r ≡ true → now (levels .exit) ≡ raisedBy (levelOf (recordsOf (now (f .entry))) k) (now (levels .entry)) (recordsOf (now (f .entry)) k)) ⌝ }
 {
     let own = k as usize;
     let level = levels[own];
@@ -340,11 +339,11 @@ fn pass_section(
     behind: u16,
 ) -> Passed
     requires { ⌜ (contentsRight (now f) ≡ true) × (k < sectionCount (now f)) ⌝ }
-    requires { ⌜ PassedFrom (now f) (tableEnd (now f) + sizesBelow (now f) (k + 1)) (now next) ⌝ }
-    requires { ⌜ behind ≡ landingOf (now f) (tableEnd (now f) + sizesBelow (now f) (k + 1)) ⌝ }
-    ensures { λ r. ⌜ r .to ≡ landingOf (now (f .entry)) (tableEnd (now (f .entry)) + sizesBelow (now (f .entry)) k) ⌝ }
+    requires { ⌜ PassedFrom (now f) (placeOf (now f) (k + 1)) (now next) ⌝ }
+    requires { ⌜ behind ≡ landingOf (now f) (placeOf (now f) (k + 1)) ⌝ }
+    ensures { λ r. ⌜ r .to ≡ landingOf (now (f .entry)) (placeOf (now (f .entry)) k) ⌝ }
     ensures { λ r. ⌜ r .count ≡ capped (countBy (λ j. getD (now (counts .entry)) j 0) (recordsOf (now (f .entry)) k)) ⌝ }
-    ensures { λ _. ⌜ PassedFrom (now (f .entry)) (tableEnd (now (f .entry)) + sizesBelow (now (f .entry)) k) (now (next .exit)) ⌝ }
+    ensures { λ _. ⌜ PassedFrom (now (f .entry)) (placeOf (now (f .entry)) k) (now (next .exit)) ⌝ }
 {
     let mut left = record_count(f, k);
     let mut at = first_record(f, k) + 4 * left;

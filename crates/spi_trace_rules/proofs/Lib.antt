@@ -1,6 +1,10 @@
 -- What follows from the definitions of trace files.
 pub mod TraceExamplesHold
-pub mod TraceCounts
+pub mod TraceBelow
 pub mod TraceLevels
 pub mod TraceContents
+pub mod TracePlaces
+pub mod TraceRight
+pub mod TraceOrder
+pub mod TraceRuns
 pub mod TraceDemandsHold

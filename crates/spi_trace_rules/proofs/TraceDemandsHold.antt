@@ -1,73 +1,130 @@
 -- The demands on trace files of specs/TraceDemands.antt, all of them.
 --     traces-hold   what the buyer signs for, of trace files
 -- Assumes nothing.
-use Prim.Native.Nat.{ℕ, _≤_}
-use mathlib.Core.Bool.{Bool, true, false, not}
-use mathlib.Core.List.{List, [], _∷_}
-use mathlib.Core.Path.{_≡_, refl, sym, ap, _∙_}
+use Prim.Native.Nat.{ℕ, _/_, _<_}
+use mathlib.Core.Bool.{true, not}
+use mathlib.Core.List.{List}
+use mathlib.Core.Path.{_≡_, refl, sym, ap, subst, _∙_}
 use native.Mathlib.Omega.{arith}
-use borrow.Author.Tests.{ltb-false, not-true, not-false}
+use borrow.Author.Tests.{ltb-true, ltb-false}
 use lib.Dec.{ltb}
 use Rattle.spi_rules.specs.declared.Module.{Module}
+use Rattle.spi_rules.specs.declared.Call.{Call}
 use Rattle.spi_rules.specs.Choice.{if_then_else_}
 use Rattle.spi_rules.specs.Calls.{poweredUp, afterCalls}
-use Rattle.spi_rules.specs.RefusalTable.{firstNumber}
 use Rattle.spi_rules.specs.Demands.{powerUp, begins, life}
 use Rattle.spi_rules.proofs.LivesReach.{watched-reaches}
 use Rattle.spi_rules.proofs.Keeps.{if-true, if-false, clash, by-test}
 use Rattle.spi_trace_rules.specs.declared.Fault.the-variants.{BadContents, BadRecord, TooManyCalls}
+use Rattle.spi_trace_rules.specs.declared.Played.{Played}
 use Rattle.spi_trace_rules.specs.declared.Played.the-variants.{Refused, Made}
-use Rattle.spi_trace_rules.specs.Trace.{contentsRight, recordsRight, fileCalls, fileCount, faultNumberOf, playedOf, isMade, playedModule}
-use Rattle.spi_trace_rules.specs.TraceDemands.{numberIn, countIn, traceRows, Traces}
+use Rattle.spi_trace_rules.specs.Trace.{sectionCount, contentsRight, recordsOf, levelOf, allRight, allOf, recordsRight, fileCalls, fileCount, faultNumberOf, playedOf, isMade, playedModule}
+use Rattle.spi_trace_rules.specs.TraceDemands.{sections, start, size, section, Levels, AllRight, Outcome, wrongContents, wrongRecord, tooManyCalls, played, numberIn, countIn, Traces}
 use Rattle.spi_trace_rules.proofs.TraceExamplesHold.{trace-examples-hold}
-use Rattle.spi_trace_rules.proofs.TraceCounts.{count-is}
-use Rattle.spi_trace_rules.proofs.TraceContents.{contents-whole, whole-right}
-use Rattle.spi_trace_rules.proofs.TraceLevels.{eight-levels}
+use Rattle.spi_trace_rules.proofs.TraceBelow.{below-each}
+use Rattle.spi_trace_rules.proofs.TraceContents.{Laid, contents-laid, laid-contents}
+use Rattle.spi_trace_rules.proofs.TracePlaces.{count-spelled, laid-whole, whole-laid, section-is}
+use Rattle.spi_trace_rules.proofs.TraceLevels.{level-same, section-right}
+use Rattle.spi_trace_rules.proofs.TraceRight.{each-right, right-each}
+use Rattle.spi_trace_rules.proofs.TraceOrder.{levels-hold, one-level}
+use Rattle.spi_trace_rules.proofs.TraceRuns.{runs-hold, one-run}
 
--- The number of an answer is that of the first row that applies.
-rows-law : (a b c : Bool) (k : ℕ) →
-    numberIn (if not a then Refused BadContents else if not b then Refused BadRecord else if c then Refused TooManyCalls else Made k)
-    ≡ (if not a then 17 else if not b then 18 else if c then 19 else 0)
-unfolding if_then_else_ faultNumberOf
-rows-law true true true k = refl
-rows-law true true false k = refl
-rows-law true false c k = refl
-rows-law false b c k = refl
+module _ (f : List ℕ) (laid : Laid f) where
+  -- The page's levels are the file's.
+  level-is : (k : ℕ) → k < sectionCount f → levelOf (recordsOf f) k ≡ levelOf (section f) k
+  level-is k h = level-same (recordsOf f) (section f) k (λ j below. section-is f laid j (omega arith))
 
-refused-exactly : (f : List ℕ) → numberIn (playedOf f) ≡ firstNumber (traceRows f)
-unfolding playedOf
-refused-exactly f = rows-law (contentsRight f) (recordsRight f) (ltb 65535 (fileCount f)) (fileCount f)
+  -- The records of a section are right exactly if they are so at their places.
+  all-is : (level : ℕ → ℕ) → Levels (section f) level → (k : ℕ) → k < sectionCount f →
+      allOf f k (recordsOf f k) ≡ allRight (sections f) (level k) k (section f k)
+  all-is level levels k h =
+      let same : levelOf (recordsOf f) k ≡ level k =
+      level-is k h ∙ one-level (section f) (levelOf (section f)) level (levels-hold (section f)) levels k in
+      cc (same, count-spelled f, section-is f laid k h)
 
--- A file that is played has right contents and records, and counts no more calls than may be made.
-made-when : (a b c : Bool) (k : ℕ) →
-    isMade (if not a then Refused BadContents else if not b then Refused BadRecord else if c then Refused TooManyCalls else Made k) ≡ true →
-    (if not a then Refused BadContents else if not b then Refused BadRecord else if c then Refused TooManyCalls else Made k) ≡ Made k
-    × (c ≡ false)
-unfolding if_then_else_
-made-when true true true k e = clash false e refl
-made-when true true false k e = (refl, refl)
-made-when true false c k e = clash false e refl
-made-when false b c k e = clash false e refl
+  pub right-all : recordsRight f ≡ true → AllRight f
+  unfolding section
+  right-all right =
+      record {
+        level = levelOf (section f);
+        levels = levels-hold (section f);
+        each = λ k i h inside.
+            let below : k < sectionCount f = omega (arith, count-spelled f) in
+            each-right (sections f) (levelOf (section f) k) k f (size f k / 4) (start f k)
+            (sym (all-is (levelOf (section f)) (levels-hold (section f)) k below) ∙ section-right f right k below) i inside;
+      }
 
-made-is : (f : List ℕ) → isMade (playedOf f) ≡ true → (playedOf f ≡ Made (fileCount f)) × (fileCount f ≤ 65535)
-unfolding playedOf
-made-is f e =
-    let w = made-when (contentsRight f) (recordsRight f) (ltb 65535 (fileCount f)) (fileCount f) e in
-    (w .0, ltb-false 65535 (fileCount f) (w .1))
+  pub all-right : AllRight f → recordsRight f ≡ true
+  unfolding recordsRight section
+  all-right all =
+      below-each (λ k. allOf f k (recordsOf f k)) (sectionCount f)
+      (λ k h.
+      all-is (all .level) (all .levels) k h
+      ∙ right-each (sections f) (all .level k) k f (size f k / 4) (start f k)
+      (λ i inside. all .each k i (omega (arith, count-spelled f)) inside))
+
+-- Playing a file has the outcome that the page says.
+module _ (m : Module) (f : List ℕ) where
+  outcome-is : (p : Played) → playedOf f ≡ p → Outcome m f (numberIn p) (countIn p) (if isMade p then afterCalls poweredUp (fileCalls f) else m) →
+      Outcome m f (numberIn (playedOf f)) (countIn (playedOf f)) (playedModule m f)
+  unfolding playedModule
+  outcome-is p e =
+      subst (λ (q : Played). Outcome m f (numberIn q) (countIn q) (if isMade q then afterCalls poweredUp (fileCalls f) else m)) (sym e)
+
+  answers : Outcome m f (numberIn (playedOf f)) (countIn (playedOf f)) (playedModule m f)
+  unfolding playedOf faultNumberOf if_then_else_
+  answers =
+      by-test (contentsRight f)
+      (λ right.
+      let laid : Laid f = contents-laid f right in
+      let to-18 = if-false (not (contentsRight f)) (Refused BadContents) _ (ap not right) in
+      by-test (recordsRight f)
+      (λ records.
+      let all : AllRight f = right-all f laid records in
+      let run = runs-hold f laid records in
+      let to-19 = to-18 ∙ if-false (not (recordsRight f)) (Refused BadRecord) _ (ap not records) in
+      by-test (ltb 65535 (fileCount f))
+      (λ many.
+      outcome-is (Refused TooManyCalls) (to-19 ∙ if-true (ltb 65535 (fileCount f)) _ (Made (fileCount f)) many)
+      (tooManyCalls (laid-whole f laid) all run (ltb-true 65535 (fileCount f) many)))
+      (λ few.
+      outcome-is (Made (fileCount f)) (to-19 ∙ if-false (ltb 65535 (fileCount f)) (Refused TooManyCalls) _ few)
+      (subst (Outcome m f 0 (fileCount f)) (watched-reaches (fileCalls f) (begins powerUp))
+      (played (laid-whole f laid) all run (ltb-false 65535 (fileCount f) few)))))
+      (λ wrong.
+      outcome-is (Refused BadRecord) (to-18 ∙ if-true (not (recordsRight f)) (Refused BadRecord) _ (ap not wrong))
+      (wrongRecord (laid-whole f laid) (λ all. clash (recordsRight f) (all-right f laid all) wrong))))
+      (λ wrong.
+      outcome-is (Refused BadContents) (if-true (not (contentsRight f)) (Refused BadContents) _ (ap not wrong))
+      (wrongContents (λ whole. clash (contentsRight f) (laid-contents f (whole-laid f whole)) wrong)))
+
+  -- Two outcomes are the same one.
+  pub one-outcome : {a b x y : ℕ} {u v : Module} → Outcome m f a x u → Outcome m f b y v → (a ≡ b) × (x ≡ y) × (u ≡ v)
+  one-outcome (wrongContents n) (wrongContents o) = (refl, refl, refl)
+  one-outcome (wrongContents n) (wrongRecord w o) = absurd (n w)
+  one-outcome (wrongContents n) (tooManyCalls w r s o) = absurd (n w)
+  one-outcome (wrongContents n) (played w r s o) = absurd (n w)
+  one-outcome (wrongRecord w n) (wrongContents o) = absurd (o w)
+  one-outcome (wrongRecord w n) (wrongRecord x o) = (refl, refl, refl)
+  one-outcome (wrongRecord w n) (tooManyCalls x r s o) = absurd (n r)
+  one-outcome (wrongRecord w n) (played x r s o) = absurd (n r)
+  one-outcome (tooManyCalls w r s n) (wrongContents o) = absurd (o w)
+  one-outcome (tooManyCalls w r s n) (wrongRecord x o) = absurd (o r)
+  one-outcome (tooManyCalls w r s n) (tooManyCalls x t q o) = (refl, refl, refl)
+  one-outcome (tooManyCalls w r s n) (played x t q o) = absurd (omega (arith, one-run (section f) (section f 0) _ _ _ _ s q .1))
+  one-outcome (played w r s n) (wrongContents o) = absurd (o w)
+  one-outcome (played w r s n) (wrongRecord x o) = absurd (o r)
+  one-outcome (played w r s n) (tooManyCalls x t q o) = absurd (omega (arith, one-run (section f) (section f 0) _ _ _ _ s q .1))
+  one-outcome (played w r s n) (played x t q o) =
+      let same = one-run (section f) (section f 0) _ _ _ _ s q in
+      (refl, same .1, ap (λ (cs : List Call). life powerUp cs .now) (same .0))
 
 pub traces-hold : Traces
-unfolding playedModule fileCalls fileCount
 traces-hold =
     record {
       paperExamples = trace-examples-hold;
-      refusedExactly = refused-exactly;
-      refusedUnchanged = λ m f refused. if-false (isMade (playedOf f)) _ _ refused;
-      whole = contents-whole;
-      right = whole-right;
-      plays = λ m f made. if-true (isMade (playedOf f)) _ _ made ∙ sym (watched-reaches (fileCalls f) (begins powerUp));
-      counts = λ f made. (
-        ap countIn (made-is f made .0) ∙ count-is f 8 0,
-        omega (arith, ap countIn (made-is f made .0), made-is f made .1),
-      );
-      eightLevels = λ f contents records. eight-levels f (contents-whole f contents .some) records;
+      answers = answers;
+      oneOutcome = one-outcome;
+      levels = levels-hold;
+      oneLevel = one-level;
     }

@@ -16,6 +16,38 @@ use Rattle.spi_trace_rules.specs.declared.Fault.the-variants.{BadContent
 use Rattle.spi_trace_rules.specs.declared.Played.{Played}
 use Rattle.spi_trace_rules.specs.declared.Played.the-variants.{Refused, Made}
 
+-- The limits: the bytes of a file, its sections, their levels, and the calls.
+abbrev pub mostBytes : ℕ
+mostBytes = 65535
+
+abbrev pub mostSections : ℕ
+mostSections = 64
+
+abbrev pub mostLevels : ℕ
+mostLevels = 8
+
+abbrev pub mostCalls : ℕ
+mostCalls = 65535
+
+-- The kinds of records.
+abbrev pub writeKind : ℕ
+writeKind = 0
+
+abbrev pub readKind : ℕ
+readKind = 1
+
+abbrev pub tickKind : ℕ
+tickKind = 2
+
+abbrev pub pinsKind : ℕ
+pinsKind = 3
+
+abbrev pub clearKind : ℕ
+clearKind = 4
+
+abbrev pub playKind : ℕ
+playKind = 5
+
 -- Numbers of two and four bytes, the lowest byte first.
 unfoldable pub byteAt : List ℕ → ℕ → ℕ
 byteAt f i = getD f i 0
@@ -40,19 +72,37 @@ startOf f k = wordAt f (2 + 8 * k)
 unfoldable pub sizeOf : List ℕ → ℕ → ℕ
 sizeOf f k = wordAt f (6 + 8 * k)
 
--- `n` sections from number `k` on lie one behind the other, the first at `at` and the last ending the file, each of whole
--- records.
-unfoldable pub gapless : List ℕ → ℕ → ℕ → ℕ → Bool
-gapless f zero k at = eqb at (length f)
-gapless f (suc n) k at =
-    eqb (startOf f k) at && (eqb (sizeOf f k % 4) 0 && gapless f n (k + 1) (at + sizeOf f k))
+-- A test of every number below one.
+unfoldable pub allBelow : (ℕ → Bool) → ℕ → Bool
+allBelow test zero = true
+allBelow test (suc n) = allBelow test n && test n
 
--- The contents are right: at most 65,535 bytes, 1 to 64 sections, a whole table, and no gap, behind the table neither.
-unfoldable pub contentsRight : List ℕ → Bool
-contentsRight f =
-    leb (length f) 65535
+-- Where a section must start: behind the table and the sections below it.
+abbrev pub placeOf : List ℕ → ℕ → ℕ
+placeOf f zero = tableEnd f
+placeOf f (suc k) = placeOf f k + sizeOf f k
+
+-- Three tests of the sections: none lies behind a gap, each has whole records, and the last ends the file.
+abbrev pub gapless : List ℕ → ℕ → Bool
+gapless f n = allBelow (λ k. eqb (startOf f k) (placeOf f k)) n
+
+abbrev pub inFours : List ℕ → ℕ → Bool
+inFours f n = allBelow (λ k. eqb (sizeOf f k % 4) 0) n
+
+abbrev pub endsFile : List ℕ → ℕ → Bool
+endsFile f n = eqb (placeOf f n) (length f)
+
+-- The table of contents is whole and gapless: 1 to 64 sections, the table within a file of at most 65,535 bytes, and no gap, behind the
+-- table neither.
+unfoldable pub tableRight : List ℕ → Bool
+tableRight f =
+    leb (length f) mostBytes
     && (leb 1 (sectionCount f)
-    && (leb (sectionCount f) 64 && (leb (tableEnd f) (length f) && gapless f (sectionCount f) 0 (tableEnd f))))
+    && (leb (sectionCount f) mostSections && (leb (tableEnd f) (length f) && gapless f (sectionCount f))))
+
+-- The contents are right.
+unfoldable pub contentsRight : List ℕ → Bool
+contentsRight f = tableRight f && (inFours f (sectionCount f) && endsFile f (sectionCount f))
 
 -- A section's body is part of the file itself, and its records have four bytes each.
 unfoldable pub bodyOf : List ℕ → ℕ → List ℕ
@@ -70,65 +120,68 @@ recordsOf f k = entriesIn (bodyOf f k)
 
 -- A record plays a section, and these records do.
 unfoldable pub isPlay : Entry → Bool
-isPlay e = eqb (e .kind) 5
+isPlay e = eqb (e .kind) playKind
 
 unfoldable pub playsAny : List Entry → ℕ → Bool
 playsAny [] k = false
 playsAny (e ∷ es) k = (isPlay e && eqb (e .argument) k) || playsAny es k
 
 -- The level of a section is one more than the highest among the lower-numbered ones that play it, zero times included, or 1 if
--- none does. `levels` are those of the sections below `n`.
+-- none does. `s` are the sections' records, by number; `levels` are the levels of the sections below `n`.
 unfoldable pub higher : ℕ → ℕ → ℕ
 higher a b = if leb a b then b else a
 
-unfoldable pub highestPlayer : List ℕ → List ℕ → ℕ → ℕ → ℕ
-highestPlayer f levels k zero = 0
-highestPlayer f levels k (suc j) =
-    higher (highestPlayer f levels k j) (if playsAny (recordsOf f j) k then getD levels j 0 else 0)
+unfoldable pub highestPlayer : (ℕ → List Entry) → List ℕ → ℕ → ℕ → ℕ
+highestPlayer s levels k zero = 0
+highestPlayer s levels k (suc j) =
+    higher (highestPlayer s levels k j) (if playsAny (s j) k then getD levels j 0 else 0)
 
-unfoldable pub levelsBelow : List ℕ → ℕ → List ℕ
-levelsBelow f zero = []
-levelsBelow f (suc n) = levelsBelow f n ++ ((1 + highestPlayer f (levelsBelow f n) n n) ∷ [])
+unfoldable pub levelsBelow : (ℕ → List Entry) → ℕ → List ℕ
+levelsBelow s zero = []
+levelsBelow s (suc n) = levelsBelow s n ++ ((1 + highestPlayer s (levelsBelow s n) n n) ∷ [])
 
-unfoldable pub levelOf : List ℕ → ℕ → ℕ
-levelOf f k = 1 + highestPlayer f (levelsBelow f k) k k
+unfoldable pub levelOf : (ℕ → List Entry) → ℕ → ℕ
+levelOf s k = 1 + highestPlayer s (levelsBelow s k) k k
 
 -- The levels of the wires in an argument: bit 0 is SDI, bit 1 SCK, bit 2 SS.
 unfoldable pub wireIn : ℕ → ℕ → Bool
 wireIn argument weight = eqb (argument / weight % 2) 1
 
--- A right record of section `k`: kinds 0 to 5 are write, read, tick, pins, clear and play. A write and a read name a register
--- from 0 to 3, a tick has no SCK, and what a kind does not use is 0. A play names a higher-numbered section that exists, and
--- stands in a section below level 8.
-unfoldable pub rightRecord : List ℕ → ℕ → Entry → Bool
-rightRecord f k e =
-    if eqb (e .kind) 0 then leb (e .argument) 3
-    else if eqb (e .kind) 1 then leb (e .argument) 3 && eqb (e .value) 0
-    else if eqb (e .kind) 2 then (ltb (e .argument) 8 && not (wireIn (e .argument) 2)) && eqb (e .value) 0
-    else if eqb (e .kind) 3 then ltb (e .argument) 8 && eqb (e .value) 0
-    else if eqb (e .kind) 4 then eqb (e .argument) 0 && eqb (e .value) 0
-    else if isPlay e then ltb k (e .argument) && (ltb (e .argument) (sectionCount f) && ltb (levelOf f k) 8)
+-- A right record of section `k`, which stands at a level, among so many sections. A write and a read name a register from 0 to 3, a
+-- tick has no SCK, and what a kind does not use is 0. A play names a higher-numbered section that exists, and stands in a section below
+-- level 8. No other kind is right.
+unfoldable pub rightRecord : ℕ → ℕ → ℕ → Entry → Bool
+rightRecord count level k e =
+    if eqb (e .kind) writeKind then leb (e .argument) 3
+    else if eqb (e .kind) readKind then leb (e .argument) 3 && eqb (e .value) 0
+    else if eqb (e .kind) tickKind then (ltb (e .argument) 8 && not (wireIn (e .argument) 2)) && eqb (e .value) 0
+    else if eqb (e .kind) pinsKind then ltb (e .argument) 8 && eqb (e .value) 0
+    else if eqb (e .kind) clearKind then eqb (e .argument) 0 && eqb (e .value) 0
+    else if isPlay e then ltb k (e .argument) && (ltb (e .argument) count && ltb level mostLevels)
     else false
 
-unfoldable pub allRight : List ℕ → ℕ → List Entry → Bool
-allRight f k [] = true
-allRight f k (e ∷ es) = rightRecord f k e && allRight f k es
+unfoldable pub allRight : ℕ → ℕ → ℕ → List Entry → Bool
+allRight count level k [] = true
+allRight count level k (e ∷ es) = rightRecord count level k e && allRight count level k es
 
--- Every record of `n` sections from number `k` on is right, played or not.
-unfoldable pub sectionsRight : List ℕ → ℕ → ℕ → Bool
-sectionsRight f zero k = true
-sectionsRight f (suc n) k = allRight f k (recordsOf f k) && sectionsRight f n (k + 1)
+-- The same of section `k` of a file.
+abbrev pub rightOf : List ℕ → ℕ → Entry → Bool
+rightOf f k e = rightRecord (sectionCount f) (levelOf (recordsOf f) k) k e
 
+abbrev pub allOf : List ℕ → ℕ → List Entry → Bool
+allOf f k es = allRight (sectionCount f) (levelOf (recordsOf f) k) k es
+
+-- Every record of every section is right, played or not.
 unfoldable pub recordsRight : List ℕ → Bool
-recordsRight f = sectionsRight f (sectionCount f) 0
+recordsRight f = allBelow (λ k. allOf f k (recordsOf f k)) (sectionCount f)
 
 -- The call of a record that is one.
 unfoldable pub callOf : Entry → Call
 callOf e =
-    if eqb (e .kind) 0 then Write (e .argument) (e .value)
-    else if eqb (e .kind) 1 then Read (e .argument)
-    else if eqb (e .kind) 2 then Tick (wireIn (e .argument) 1) (wireIn (e .argument) 4)
-    else if eqb (e .kind) 3 then Pin (wireIn (e .argument) 2) (wireIn (e .argument) 1) (wireIn (e .argument) 4)
+    if eqb (e .kind) writeKind then Write (e .argument) (e .value)
+    else if eqb (e .kind) readKind then Read (e .argument)
+    else if eqb (e .kind) tickKind then Tick (wireIn (e .argument) 1) (wireIn (e .argument) 4)
+    else if eqb (e .kind) pinsKind then Pin (wireIn (e .argument) 2) (wireIn (e .argument) 1) (wireIn (e .argument) 4)
     else Clear
 
 -- A list so many times over.
@@ -157,10 +210,10 @@ countOf f (suc left) k = countBy (countOf f left) (recordsOf f k)
 
 -- A file: section 0, with eight levels.
 unfoldable pub fileCalls : List ℕ → List Call
-fileCalls f = callsOf f 8 0
+fileCalls f = callsOf f mostLevels 0
 
 unfoldable pub fileCount : List ℕ → ℕ
-fileCount f = countOf f 8 0
+fileCount f = countOf f mostLevels 0
 
 -- The table's number for each fault.
 unfoldable pub faultNumberOf : Fault → ℕ
@@ -176,7 +229,7 @@ unfoldable pub playedOf : List ℕ → Played
 playedOf f =
     if not (contentsRight f) then Refused BadContents
     else if not (recordsRight f) then Refused BadRecord
-    else if ltb 65535 (fileCount f) then Refused TooManyCalls
+    else if ltb mostCalls (fileCount f) then Refused TooManyCalls
     else Made (fileCount f)
 
 -- The module after it: a fresh one after the file's calls. A refused play leaves the module of before.

@@ -1,11 +1,9 @@
 -- The test is the definition.
 use mathlib.Core.Path.{refl}
-use Rattle.spi_rules.specs.Bits.{samples}
 use Rattle.spi_bits.proofs.is_sampling.Statement.{statement}
 use Rattle.spi_bits.proofs.is_sampling.Tie as tie
 
 returns : tie.Need-returns
-unfolding samples
 returns c = refl
 
 pub is-sampling-spec : {M : Type 1} → statement M

@@ -5,7 +5,6 @@ use native.Mathlib.Nat.{mod-lt, lt-of-lt-of-le}
 use lib.Pow.{pow-pos, pow-mono}
 use Prim.Native.Nat.{ℕ, _%_, _^_, _<_, _≤_}
 use mathlib.Core.Path.{ap, subst, sym, _∙_}
-use Rattle.spi_rules.specs.Registers.{lowBits}
 use Rattle.spi_rules.proofs.Sizes.{width-most, one-shifted}
 use Rattle.spi_bits.proofs.low_bits.Statement.{statement}
 use Rattle.spi_bits.proofs.low_bits.Tie as tie
@@ -28,7 +27,6 @@ cast-result-2 c =
     }
 
 returns : tie.Need-returns
-unfolding lowBits
 returns c =
     let most : c .width .result ≤ 16 = omega (arith, width-most (c .before .args .s)) in
     ap (λ (q : ℕ). c .before .args .v % q) (one-shifted (c .width .result) most ∙ ap (λ (w : ℕ). 2 ^ w) (c .width .ensures))

@@ -4,7 +4,8 @@ use mathlib.Core.Path.{refl, sym, _∙_}
 use native.Mathlib.Omega.{arith}
 use Rattle.spi_rules.proofs.Choices.{by-case, so, not-so}
 use Rattle.spi_board_rules.specs.Owed.{inShift}
-use Rattle.spi_board.proofs.Owing.{filler-counts-none, client-counts-none, host-counts, other-counts}
+use Rattle.spi_board_rules.proofs.BoardCalls.{or-both}
+use Rattle.spi_board.proofs.Owing.{filler-counts-none, client-counts-none, host-counts}
 use Rattle.spi_board.proofs.in_shift.Statement.{statement}
 use Rattle.spi_board.proofs.in_shift.Tie as tie
 
@@ -36,7 +37,7 @@ returns-5 c =
 returns-6 : tie.Need-returns-6
 unfolding inShift
 returns-6 c =
-    (by-case (inShift (c .before .before .before .before .before .before .before .args .s)) (c .before .before .before .before .before .sh .given .1) (not-so _ _ _ (other-counts _ _ (c .before .before .before .if1 .left) (sym (c .before .ssen-client .ensures) ∙ (c .if3 .left))) refl), omega arith)
+    (by-case (inShift (c .before .before .before .before .before .before .before .args .s)) (c .before .before .before .before .before .sh .given .1) (not-so _ _ _ (or-both _ _ (c .before .before .before .if1 .left) (sym (c .before .ssen-client .ensures) ∙ (c .if3 .left))) refl), omega arith)
 
 pub in-shift-spec : {M : Type 1} → statement M
 in-shift-spec =

@@ -5,18 +5,18 @@ use Rattle.spi_board.proofs.refusal.Statement.{statement}
 use Rattle.spi_board.proofs.refusal.Tie as tie
 
 returns : tie.Need-returns
-returns c = refuses-list (few (omega arith))
+returns c = refuses-list _ _ (few (omega arith))
 
 returns-2 : tie.Need-returns-2
-returns-2 c = refuses-list (many (omega arith) (omega arith))
+returns-2 c = refuses-list _ _ (many (omega arith) (omega arith))
 
 returns-3 : tie.Need-returns-3
 returns-3 c =
-    refuses-module (right (omega arith) (omega arith)) (omega arith)
+    refuses-module _ _ (right (omega arith) (omega arith)) (omega arith)
 
 returns-4 : tie.Need-returns-4
 returns-4 c =
-    refuses-not (right (omega arith) (omega arith)) (omega arith)
+    refuses-not _ _ (right (omega arith) (omega arith)) (omega arith)
 
 pub refusal-spec : {M : Type 1} → statement M
 refusal-spec = tie.close (tie.spec returns returns-2 returns-3 returns-4)

@@ -5,13 +5,13 @@ use Rattle.spi_board.proofs.refusal_of_two.Statement.{statement}
 use Rattle.spi_board.proofs.refusal_of_two.Tie as tie
 
 returns : tie.Need-returns
-returns c = pair-first (c .before .refusal .ensures) (search needs)
+returns c = pair-first _ _ _ (c .before .refusal .ensures) (search needs)
 
 returns-2 : tie.Need-returns-2
-returns-2 c = pair-twice (c .before .before .refusal .ensures) (search needs) (search needs)
+returns-2 c = pair-twice _ _ _ (c .before .before .refusal .ensures) (search needs) (search needs)
 
 returns-3 : tie.Need-returns-3
-returns-3 c = pair-second (c .before .before .before .refusal .ensures) (search needs) (search needs) (c .refusal2 .ensures)
+returns-3 c = pair-second _ _ _ (c .before .before .before .refusal .ensures) (search needs) (search needs) (c .refusal2 .ensures)
 
 pub refusal-of-two-spec : {M : Type 1} → statement M
 refusal-of-two-spec =

@@ -1,17 +1,19 @@
 -- No refusal, or its number under the total.
 use borrow.Author.Needs.{needs}
-use mathlib.Core.Path.{refl}
+use mathlib.Core.Path.{refl, sym, ap, _∙_}
 use Rattle.spi_rules.proofs.Choices.{so-eq, not-so-eq}
+use Rattle.spi_board.specs.Owing.{bothIn, refusedNumber}
 use Rattle.spi_board.proofs.refused.Statement.{statement}
 use Rattle.spi_board.proofs.refused.Tie as tie
 
 returns : tie.Need-returns
-returns c =
-    record { why = (c .before .refusal .result); tested = (c .before .refusal .ensures); number = so-eq _ _ _ _ (c .if1 .taken) (refl) }
+unfolding refusedNumber
+returns c = so-eq _ _ _ _ (sym (c .before .refusal .ensures) ∙ c .if1 .taken) refl
 
 returns-2 : tie.Need-returns-2
+unfolding refusedNumber
 returns-2 c =
-    record { why = (c .before .before .refusal .result); tested = (c .before .before .refusal .ensures); number = not-so-eq _ _ _ _ (c .before .if1 .left) (c .both .ensures) }
+    not-so-eq _ _ _ _ (λ e. c .before .if1 .left (c .before .before .refusal .ensures ∙ e)) (c .both .ensures ∙ ap (bothIn _) (c .before .before .refusal .ensures))
 
 pub refused-spec : {M : Type 1} → statement M
 refused-spec = tie.close (tie.spec (λ c κs. search needs) returns (λ c κs. search needs) returns-2)

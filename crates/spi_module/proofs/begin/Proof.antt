@@ -11,7 +11,7 @@ use Rattle.spi_module.proofs.begin.Statement.{statement}
 use Rattle.spi_module.proofs.begin.Tie as tie
 
 returns : tie.Need-returns
-unfolding advanced wordEdges shifted progressed
+unfolding advanced shifted progressed
 returns c =
     let w = c .before .before .before .before .before .before .before .before .before .before .args .w .now in
     let received-after = c .before .before .before .before .before .received-after .ensures in

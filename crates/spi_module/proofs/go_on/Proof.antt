@@ -30,7 +30,7 @@ cast-store-gone-2 c =
     omega (arith, width-most settings-in-result, width)
 
 returns : tie.Need-returns
-unfolding advanced wordEdges
+unfolding advanced
 returns c =
     let progress-in-result = c .before .before .before .before .before .before .before .before .progress-in .result in
     let w = c .before .before .before .before .before .before .before .before .before .before .before .before .args .w .now in
@@ -49,7 +49,7 @@ returns c =
     (sampled _ _ word _ (rw (is-sampling, given .1) at if1) shift-in)))
 
 returns-2 : tie.Need-returns-2
-unfolding advanced wordEdges receivedAfter
+unfolding advanced receivedAfter
 returns-2 c =
     let progress-in-result = c .before .before .before .before .before .before .before .before .progress-in .result in
     let w = c .before .before .before .before .before .before .before .before .before .before .before .before .args .w .now in
@@ -68,7 +68,7 @@ returns-2 c =
     (ap (λ (k : ℕ). finished (settingsIn w) (p .filler) k (engineIn w)) (so _ _ _ (rw (is-sampling, given .1) at if1) shift-in))))
 
 returns-3 : tie.Need-returns-3
-unfolding advanced wordEdges shownBit
+unfolding advanced shownBit
 returns-3 c =
     let progress-in-result = c .before .before .before .before .before .before .before .before .before .before .progress-in .result in
     let w = c .before .before .before .before .before .before .before .before .before .before .before .before .before .before .args .w .now in
@@ -88,7 +88,7 @@ returns-3 c =
     (bit ∙ ap (bitOf (p .word)) (omega (arith, rw settings-in at width))))))
 
 returns-4 : tie.Need-returns-4
-unfolding advanced wordEdges receivedAfter
+unfolding advanced receivedAfter
 returns-4 c =
     let progress-in-result = c .before .before .before .before .before .before .before .progress-in .result in
     let w = c .before .before .before .before .before .before .before .before .before .before .before .args .w .now in

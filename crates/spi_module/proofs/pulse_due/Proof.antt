@@ -1,7 +1,7 @@
 -- Each arm is the clause of the definition for its case.
 use borrow.Author.Needs.{needs}
 use mathlib.Core.Path.{refl}
-use Rattle.spi_rules.specs.Edge.{wordEdges, pulseDue}
+use Rattle.spi_rules.specs.Edge.{pulseDue}
 use Rattle.spi_rules.proofs.Choices.{so, not-so, by-case}
 use Rattle.spi_module.proofs.pulse_due.Statement.{statement}
 use Rattle.spi_module.proofs.pulse_due.Tie as tie
@@ -27,7 +27,7 @@ returns-3 c =
     by-case (pulseDue s count) shift (so _ _ _ (c .before .if1 .taken) refl)
 
 returns-4 : tie.Need-returns-4
-unfolding pulseDue wordEdges
+unfolding pulseDue
 returns-4 c =
     let s = c .before .before .before .before .before .before .args .s in
     let count = c .before .before .before .before .before .before .args .count in

@@ -1,14 +1,13 @@
-use Rattle.spi_rules.specs.Settings.{depthOf}
 use Rattle.spi_rules.specs.Choice.{if_then_else_}
 use Rattle.spi_settings.proofs.depth.Statement.{statement}
 use Rattle.spi_settings.proofs.depth.Tie as tie
 
 returns : tie.Need-returns
-unfolding depthOf if_then_else_
+unfolding if_then_else_
 returns c = cc
 
 returns-2 : tie.Need-returns-2
-unfolding depthOf if_then_else_
+unfolding if_then_else_
 returns-2 c = cc
 
 pub depth-spec : {M : Type 1} → statement M

@@ -1,14 +1,13 @@
-use Rattle.spi_rules.specs.Settings.{widthOf}
 use Rattle.spi_rules.specs.Choice.{if_then_else_}
 use Rattle.spi_settings.proofs.width.Statement.{statement}
 use Rattle.spi_settings.proofs.width.Tie as tie
 
 returns : tie.Need-returns
-unfolding widthOf if_then_else_
+unfolding if_then_else_
 returns c = cc
 
 returns-2 : tie.Need-returns-2
-unfolding widthOf if_then_else_
+unfolding if_then_else_
 returns-2 c = cc
 
 pub width-spec : {M : Type 1} → statement M

@@ -18,7 +18,7 @@ use Rattle.spi_rules.specs.declared.Call.{Call}
 use Rattle.spi_rules.specs.Calls.{afterCalls}
 use Rattle.spi_memory.specs.Memory.{moduleIn}
 use Rattle.spi_trace_rules.specs.declared.Entry.{Entry}
-use Rattle.spi_trace_rules.specs.Trace.{startOf, sizeOf, isPlay, rightRecord, times, callsBy, callsOf}
+use Rattle.spi_trace_rules.specs.Trace.{startOf, sizeOf, isPlay, rightOf, times, callsBy, callsOf}
 use Rattle.spi_trace_files.specs.Places.{entriesAt}
 use Rattle.spi_trace_files.specs.Idle.{idle}
 use Rattle.spi_trace.specs.Playing.{entryCalls}
@@ -218,7 +218,7 @@ entry-requires t c κs =
     let l = c .before .before .before .before .before in
     let b = l .before .before .before .before .before in
     let e = c .before .before .before .entry-at in
-    let right = ap (rightRecord (b .args .f .now) (b .args .k)) (e .ensures) ∙ there t l (c .before .before .before .before .loop-test .taken) .right in (
+    let right = ap (rightOf (b .args .f .now) (b .args .k)) (e .ensures) ∙ there t l (c .before .before .before .before .loop-test .taken) .right in (
       omega (arith, b .pre .0, l .loop .inv .0),
       (b .pre .1 .0, names-one (b .args .f .now) (b .args .k) (e .result) right),
     )

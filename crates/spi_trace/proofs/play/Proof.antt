@@ -5,7 +5,7 @@ use borrow.Author.Needs.{needs}
 use Rattle.spi_rules.specs.declared.Module.{Module}
 use Rattle.spi_rules.specs.Calls.{afterCalls}
 use Rattle.spi_trace_rules.specs.Trace.{callsOf, fileCalls, isMade}
-use Rattle.spi_trace_rules.proofs.TraceContents.{contents-whole}
+use Rattle.spi_trace_rules.proofs.TraceContents.{contents-laid}
 use Rattle.spi_trace.proofs.Playing.{made-right, plays-refused, plays-made}
 use Rattle.spi_trace.proofs.play.Statement.{statement}
 use Rattle.spi_trace.proofs.play.Tie as tie
@@ -17,7 +17,7 @@ play-section-requires c κs =
     let f = looked .before .before .before .args .f .now in
     let made = told .answer2 .given .1 in
     let right = made-right f _ (sym (looked .look-over .ensures .0) ∙ made) in
-    ((right .0, right .1, looked .look-over .ensures .1 (ap isMade made)), contents-whole f (right .0) .some)
+    ((right .0, right .1, looked .look-over .ensures .1 (ap isMade made)), contents-laid f (right .0) .some)
 
 returns : tie.Need-returns
 returns c =

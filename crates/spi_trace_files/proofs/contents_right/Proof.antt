@@ -1,9 +1,8 @@
 -- `spi_trace_files::contents_right` meets its contract, test by test. Assumes nothing.
-use Prim.Native.Nat.{ℕ, _+_, _*_}
-use mathlib.Core.Path.{_≡_, ap, sym, _∙_}
+use mathlib.Core.Path.{ap, sym, _∙_}
 use native.Mathlib.Omega.{arith}
 use borrow.Author.Needs.{needs}
-use Rattle.spi_trace_rules.specs.Trace.{sectionCount, gapless}
+use Rattle.spi_trace_files.specs.Places.{laid}
 use Rattle.spi_trace_files.proofs.Contents.{too-long, no-section, too-many, no-table, only-gapless}
 use Rattle.spi_trace_files.proofs.contents_right.Statement.{statement}
 use Rattle.spi_trace_files.proofs.contents_right.Tie as tie
@@ -26,7 +25,7 @@ returns-5 : tie.Need-returns-5
 returns-5 c =
     let f = c .before .before .before .before .before .before .before .args .f .now in
     c .lies-gapless .ensures
-    ∙ ap (λ (n : ℕ). gapless f n 0 (2 + 8 * n)) (c .before .before .before .before .count .ensures)
+    ∙ ap (laid f) (c .before .before .before .before .count .ensures)
     ∙ sym (only-gapless f (omega arith) (omega arith) (omega arith) (omega arith))
 
 pub contents-right-spec : {M : Type 1} → statement M

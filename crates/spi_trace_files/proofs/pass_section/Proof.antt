@@ -9,8 +9,7 @@ use borrow.Author.Needs.{needs}
 use lib.ListN.{length, getD, set}
 use Rattle.spi_rules.specs.Choice.{if_then_else_}
 use Rattle.spi_trace_rules.specs.declared.Entry.{Entry}
-use Rattle.spi_trace_rules.specs.Trace.{tableEnd, startOf, sizeOf, countBy}
-use Rattle.spi_trace_rules.specs.TraceDemands.{sizesBelow}
+use Rattle.spi_trace_rules.specs.Trace.{startOf, sizeOf, placeOf, countBy}
 use Rattle.spi_trace_files.specs.Places.{entriesAt}
 use Rattle.spi_trace_files.specs.Passes.{capped, weightBy}
 use Rattle.spi_trace_files.specs.Idle.{idle, landingOf, PassedFrom}
@@ -22,7 +21,7 @@ use Rattle.spi_trace_files.proofs.pass_section.Tie as tie
 
 abbrev Inv-loop : tie.InvT-loop
 Inv-loop f k counts next₀ behind left₀ at₀ to₀ total₀ next left at to total =
-    (left ≤ sizeOf f k / 4 % 65536) × (at ≡ tableEnd f + sizesBelow f k + 4 * left)
+    (left ≤ sizeOf f k / 4 % 65536) × (at ≡ placeOf f k + 4 * left)
     × (to ≡ landingOf f at) × PassedFrom f at next
     × (total ≡ countBy (λ j. getD counts j 0) (entriesAt f (sizeOf f k / 4 % 65536 - left) at))
     × (total ≤ 281470681743360 * (sizeOf f k / 4 % 65536 - left))
@@ -46,7 +45,7 @@ loop-holds c =
     let b = c .before .before .before in
     let f = b .args .f .now in
     let p = section-places f (b .pre .0 .0) (b .args .k) (b .pre .0 .1) in
-    let end : tableEnd f + sizesBelow f (b .args .k + 1) ≡ c .first-record .result + 4 * c .before .record-count .result =
+    let end : placeOf f (b .args .k + 1) ≡ c .first-record .result + 4 * c .before .record-count .result =
     omega (arith, p .behind, c .first-record .ensures, c .before .record-count .ensures) in (
       omega arith,
       omega (arith, p .first),
@@ -138,7 +137,7 @@ returns c =
     let k = b .args .k in
     let sub : ℕ → ℕ = λ j. getD (b .args .counts .now) j 0 in
     let p = section-places f (b .pre .0 .0) k (b .pre .0 .1) in
-    let end : l .loop .at ≡ tableEnd f + sizesBelow f k = omega arith in (
+    let end : l .loop .at ≡ placeOf f k = omega arith in (
       l .loop .inv .2 ∙ ap (landingOf f) end,
       (
         c .cap .ensures

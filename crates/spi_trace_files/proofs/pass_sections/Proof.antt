@@ -5,9 +5,8 @@ use mathlib.Core.Path.{_≡_, ap, subst, sym, _∙_}
 use native.Mathlib.Omega.{arith}
 use borrow.Author.Needs.{needs}
 use lib.ListN.{length}
-use Rattle.spi_trace_rules.specs.Trace.{sectionCount, tableEnd, fileCount}
-use Rattle.spi_trace_rules.specs.TraceDemands.{sizesBelow}
-use Rattle.spi_trace_rules.proofs.TraceContents.{contents-whole}
+use Rattle.spi_trace_rules.specs.Trace.{sectionCount, tableEnd, placeOf, fileCount}
+use Rattle.spi_trace_rules.proofs.TraceContents.{contents-laid}
 use Rattle.spi_trace_files.specs.Passes.{CountsFrom}
 use Rattle.spi_trace_files.specs.Idle.{landingOf, PassedFrom}
 use Rattle.spi_trace_files.proofs.Records.{section-below}
@@ -18,8 +17,8 @@ use Rattle.spi_trace_files.proofs.pass_sections.Tie as tie
 
 abbrev Inv-loop : tie.InvT-loop
 Inv-loop f next₀ counts₀ to₀ k₀ next counts to k =
-    (k ≤ sectionCount f) × (to ≡ landingOf f (tableEnd f + sizesBelow f k))
-    × PassedFrom f (tableEnd f + sizesBelow f k) next × CountsFrom f k counts
+    (k ≤ sectionCount f) × (to ≡ landingOf f (placeOf f k))
+    × PassedFrom f (placeOf f k) next × CountsFrom f k counts
 
 abbrev μ-loop : tie.MeasureT-loop
 μ-loop f next₀ counts₀ to₀ k₀ next counts to k = k
@@ -28,9 +27,9 @@ loop-holds : tie.Need-loop-holds Inv-loop μ-loop
 loop-holds c =
     let b = c .before .before in
     let f = b .args .f .now in
-    let w = contents-whole f (b .pre .0) in
-    let end : length f ≡ tableEnd f + sizesBelow f (c .count .result) =
-    sym (w .ends) ∙ ap (λ (k : ℕ). tableEnd f + sizesBelow f k) (sym (c .count .ensures)) in (
+    let w = contents-laid f (b .pre .0) in
+    let end : length f ≡ placeOf f (c .count .result) =
+    sym (w .ends) ∙ ap (placeOf f) (sym (c .count .ensures)) in (
       omega arith,
       omega (arith, w .size, landing-end f, ap (landingOf f) end),
       subst (λ (i : ℕ). PassedFrom f i (b .args .next .now)) end (passed-first f (b .args .next .now) (b .pre .2)),
@@ -45,8 +44,8 @@ pass-section-requires c κs =
     let same : l .loop .k ≡ l .loop .k - 1 + 1 = omega arith in (
       (b .pre .0, omega arith),
       (
-        subst (λ (k : ℕ). PassedFrom f (tableEnd f + sizesBelow f k) (l .loop .next)) same (l .loop .inv .2),
-        l .loop .inv .1 ∙ ap (λ (k : ℕ). landingOf f (tableEnd f + sizesBelow f k)) same,
+        subst (λ (k : ℕ). PassedFrom f (placeOf f k) (l .loop .next)) same (l .loop .inv .2),
+        l .loop .inv .1 ∙ ap (λ (k : ℕ). landingOf f (placeOf f k)) same,
       ),
     )
 
@@ -77,10 +76,10 @@ returns c =
     let l = c .before in
     let b = l .before .before .before in
     let f = b .args .f .now in (
-      l .loop .inv .3 .each 0 (omega arith) (contents-whole f (b .pre .0) .some),
+      l .loop .inv .3 .each 0 (omega arith) (contents-laid f (b .pre .0) .some),
       subst (λ (i : ℕ). PassedFrom f i (l .loop .next))
-          (let same : tableEnd f + sizesBelow f (l .loop .k) ≡ tableEnd f =
-          omega (arith, ap (sizesBelow f) (let none : l .loop .k ≡ 0 = omega arith in none)) in same)
+          (let same : placeOf f (l .loop .k) ≡ tableEnd f =
+          omega (arith, ap (placeOf f) (let none : l .loop .k ≡ 0 = omega arith in none)) in same)
           (l .loop .inv .2),
     )
 

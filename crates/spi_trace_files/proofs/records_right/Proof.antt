@@ -1,16 +1,16 @@
--- `spi_trace_files::records_right` meets its contract. The loop's invariant: the sections left decide, and the levels are those
--- that the sections before give. The measure is the sections left. Assumes nothing.
-use Prim.Native.Nat.{ℕ, _+_, _-_, _<_, _≤_}
-use mathlib.Core.Path.{_≡_, ap, subst, sym, _∙_}
+-- `spi_trace_files::records_right` meets its contract. The loop's invariant: the sections before the one reached are right, and the
+-- levels are those that they give. The measure is the sections left. Assumes nothing.
+use Prim.Native.Nat.{_+_, _-_, _<_, _≤_}
+use mathlib.Core.Path.{_≡_, refl, ap, subst, sym, _∙_}
 use native.Mathlib.Omega.{arith}
 use borrow.Author.Needs.{needs}
 use borrow.Author.Tests.{not-true, not-false}
-use Rattle.spi_rules.proofs.Keeps.{and-first}
-use Rattle.spi_trace_rules.specs.Trace.{sectionCount, recordsOf, allRight, sectionsRight, recordsRight}
+use mathlib.Core.Bool.{true}
+use Rattle.spi_trace_rules.specs.Trace.{sectionCount, recordsOf, allBelow, allOf, recordsRight}
+use Rattle.spi_trace_rules.proofs.TraceBelow.{below-next, below-fails}
 use Rattle.spi_trace_files.specs.Passes.{LevelsAt}
-use Rattle.spi_trace_files.proofs.Contents.{and-skip}
 use Rattle.spi_trace_files.proofs.Records.{section-below}
-use Rattle.spi_trace_files.proofs.Levels.{levels-first, levels-next, level-here, sections-none, sections-more}
+use Rattle.spi_trace_files.proofs.Levels.{levels-first, levels-next, level-here}
 use Rattle.spi_trace_files.proofs.records_right.Statement.{statement}
 use Rattle.spi_trace_files.proofs.records_right.Tie as tie
 use Rattle.spi_trace_files.proofs.records_right.Reads as reads
@@ -18,7 +18,7 @@ use Rattle.spi_trace_files.proofs.records_right.Lts as lts
 
 abbrev Inv-loop : tie.InvT-loop
 Inv-loop f n levels₀ k₀ levels k =
-    (n ≡ sectionCount f) × (k ≤ n) × LevelsAt f k levels × (recordsRight f ≡ sectionsRight f (n - k) k)
+    (n ≡ sectionCount f) × (k ≤ n) × LevelsAt (recordsOf f) k levels × (allBelow (λ j. allOf f j (recordsOf f j)) k ≡ true)
 
 abbrev μ-loop : tie.MeasureT-loop
 μ-loop f n levels₀ k₀ levels k = n - k
@@ -29,27 +29,26 @@ section-right-requires c κs =
     let b = l .before .before .before in
     let f = b .args .f .now in
     let below : l .loop .k < sectionCount f = omega arith in
-    ((b .pre, below), level-here f (l .loop .k) (l .loop .levels) (l .loop .inv .2) (section-below f (b .pre) (l .loop .k) below))
+    ((b .pre, below), level-here (recordsOf f) (l .loop .k) (l .loop .levels) (l .loop .inv .2) (section-below f (b .pre) (l .loop .k) below))
 
 loop-holds : tie.Need-loop-holds Inv-loop μ-loop
-unfolding recordsRight
+unfolding allBelow
 loop-holds c =
     let f = c .before .before .args .f .now in (
       c .count .ensures,
       omega arith,
-      levels-first f,
-      ap (λ (n : ℕ). sectionsRight f n 0) (let same : sectionCount f ≡ c .count .result - 0 = omega arith in same),
+      levels-first (recordsOf f),
+      refl,
     )
 
 returns : tie.Need-returns Inv-loop μ-loop
+unfolding recordsRight
 returns c =
     let l = c .before .before .before .before in
     let f = l .before .before .before .args .f .now in
-    let wrong = sym (c .before .section-right .ensures .0) ∙ not-true (c .before .section-right .result) (c .if1 .taken) in
     sym
-    (l .loop .inv .3
-    ∙ sections-more f (l .before .count .result) (l .loop .k) (omega arith)
-    ∙ and-first (allRight f (l .loop .k) (recordsOf f (l .loop .k))) _ wrong)
+    (below-fails (λ j. allOf f j (recordsOf f j)) (sectionCount f) (l .loop .k) (omega arith)
+    (sym (c .before .section-right .ensures .0) ∙ not-true (c .before .section-right .result) (c .if1 .taken)))
 
 loop-again : tie.Need-loop-again Inv-loop μ-loop
 loop-again c =
@@ -58,17 +57,18 @@ loop-again c =
     let so = not-false (c .before .section-right .result) (c .if1 .left) in (
       l .loop .inv .0,
       omega arith,
-      subst (LevelsAt f (l .loop .k + 1)) (sym (c .before .section-right .ensures .1 so)) (levels-next f (l .loop .k) (l .loop .levels) (l .loop .inv .2)),
-      l .loop .inv .3
-          ∙ sections-more f (l .before .count .result) (l .loop .k) (omega arith)
-          ∙ and-skip (allRight f (l .loop .k) (recordsOf f (l .loop .k))) _ (sym (c .before .section-right .ensures .0) ∙ so),
+      subst (LevelsAt (recordsOf f) (l .loop .k + 1)) (sym (c .before .section-right .ensures .1 so)) (levels-next (recordsOf f) (l .loop .k) (l .loop .levels) (l .loop .inv .2)),
+      below-next (λ j. allOf f j (recordsOf f j)) (l .loop .k) (l .loop .inv .3) (sym (c .before .section-right .ensures .0) ∙ so),
     )
 
 returns-2 : tie.Need-returns-2 Inv-loop μ-loop
+unfolding recordsRight
 returns-2 c =
     let l = c .before in
     let f = l .before .before .before .args .f .now in
-    sym (l .loop .inv .3 ∙ sections-none f (l .before .count .result) (l .loop .k) (omega arith))
+    sym
+    (ap (allBelow (λ j. allOf f j (recordsOf f j))) (let all : sectionCount f ≡ l .loop .k = omega arith in all)
+    ∙ l .loop .inv .3)
 
 pub records-right-spec : {M : Type 1} → statement M
 records-right-spec =

@@ -9,20 +9,20 @@ use borrow.Author.Needs.{needs}
 use borrow.Author.Tests.{not-true, not-false}
 use lib.ListN.{length, getD}
 use Rattle.spi_rules.proofs.Keeps.{and-first, clash}
-use Rattle.spi_trace_rules.specs.Trace.{recordsOf, levelOf, rightRecord, allRight}
-use Rattle.spi_trace_rules.proofs.TraceContents.{contents-whole}
+use Rattle.spi_trace_rules.specs.Trace.{recordsOf, levelOf, rightOf, allOf}
+use Rattle.spi_trace_rules.proofs.TraceContents.{contents-laid}
 use Rattle.spi_trace_files.specs.Places.{entryAt, entriesAt}
 use Rattle.spi_trace_files.specs.Passes.{raisedOne, raisedBy}
 use Rattle.spi_trace_files.proofs.Contents.{and-skip}
 use Rattle.spi_trace_files.proofs.Records.{section-at, section-below}
-use Rattle.spi_trace_files.proofs.Levels.{right-more, raised-more, right-none, raised-none, play-safe}
+use Rattle.spi_trace_files.proofs.Levels.{right-at, right-more, raised-more, right-none, raised-none, play-safe}
 use Rattle.spi_trace_files.proofs.section_right.Statement.{statement}
 use Rattle.spi_trace_files.proofs.section_right.Tie as tie
 
 abbrev Inv-loop : tie.InvT-loop
 Inv-loop f k levels₀ own level at₀ left₀ levels at left =
-    (at + 4 * left ≤ length f) × (level ≡ levelOf f k)
-    × (allRight f k (recordsOf f k) ≡ allRight f k (entriesAt f left at))
+    (at + 4 * left ≤ length f) × (level ≡ levelOf (recordsOf f) k)
+    × (allOf f k (recordsOf f k) ≡ allOf f k (entriesAt f left at))
     × (raisedBy level levels₀ (recordsOf f k) ≡ raisedBy level levels (entriesAt f left at))
 
 abbrev μ-loop : tie.MeasureT-loop
@@ -31,13 +31,12 @@ abbrev μ-loop : tie.MeasureT-loop
 element-copy-out-level : tie.Need-element-copy-out-level Inv-loop μ-loop
 element-copy-out-level c = section-below (c .before .args .f .now) (c .before .pre .0 .0) (c .before .args .k) (c .before .pre .0 .1)
 
-record-right-requires : tie.Need-record-right-requires Inv-loop μ-loop
-record-right-requires c κs = c .before .before .before .before .before .before .before .pre .1
-
 raise-requires : tie.Need-raise-requires Inv-loop μ-loop
 raise-requires c κs =
     let b = c .before .before .before .before .before .before .before .before .before .before in
-    let right = sym (c .before .before .record-right .ensures) ∙ not-false (c .before .before .record-right .result) (c .before .if1 .left) in
+    let right =
+    right-at (b .args .f .now) (b .args .k) _ (c .before .before .before .whole-entry .result) (b .pre .1)
+    ∙ sym (c .before .before .record-right .ensures) ∙ not-false (c .before .before .record-right .result) (c .before .if1 .left) in
     λ play.
     let safe = play-safe (b .args .f .now) (b .pre .0 .0) (b .args .k) (c .before .before .before .whole-entry .result) right play in
     (omega (arith, safe .0, b .pre .1), safe .1)
@@ -45,7 +44,7 @@ raise-requires c κs =
 add-at : tie.Need-add-at Inv-loop μ-loop
 add-at c =
     let b = c .before .before .before .before .before .before .before .before .before .before .before in
-    omega (arith, contents-whole (b .args .f .now) (b .pre .0 .0) .size)
+    omega (arith, contents-laid (b .args .f .now) (b .pre .0 .0) .size)
 
 loop-holds : tie.Need-loop-holds Inv-loop μ-loop
 loop-holds c =
@@ -53,18 +52,21 @@ loop-holds c =
     let f = b .args .f .now in
     let at = section-at f (b .pre .0 .0) (b .args .k) (b .pre .0 .1) in
     let records = at .are ∙ ap₂ (entriesAt f) (sym (c .record-count .ensures)) (sym (c .before .first-record .ensures)) in
-    (omega (arith, at .inside), b .pre .1, ap (allRight f (b .args .k)) records, ap (raisedBy _ (b .args .levels .now)) records)
+    (omega (arith, at .inside), b .pre .1, ap (allOf f (b .args .k)) records, ap (raisedBy _ (b .args .levels .now)) records)
 
 returns : tie.Need-returns Inv-loop μ-loop
 returns c =
     let l = c .before .before .before .before in
     let b = l .before .before .before .before .before in
     let f = b .args .f .now in
-    let wrong = ap (rightRecord f (b .args .k)) (sym (c .before .before .whole-entry .ensures)) ∙ sym (c .before .record-right .ensures) ∙ not-true (c .before .record-right .result) (c .if1 .taken) in (
+    let wrong =
+    ap (rightOf f (b .args .k)) (sym (c .before .before .whole-entry .ensures))
+    ∙ right-at f (b .args .k) _ (c .before .before .whole-entry .result) (b .pre .1)
+    ∙ sym (c .before .record-right .ensures) ∙ not-true (c .before .record-right .result) (c .if1 .taken) in (
       sym
           (l .loop .inv .2
           ∙ right-more f (b .args .k) (l .loop .left) (l .loop .at) (omega arith)
-          ∙ and-first (rightRecord f (b .args .k) (entryAt f (l .loop .at))) _ wrong),
+          ∙ and-first (rightOf f (b .args .k) (entryAt f (l .loop .at))) _ wrong),
       λ e. clash false e refl,
     )
 
@@ -74,12 +76,15 @@ loop-again c =
     let b = l .before .before .before .before .before in
     let f = b .args .f .now in
     let e = c .before .before .before .before .whole-entry .ensures in
-    let right = ap (rightRecord f (b .args .k)) (sym e) ∙ sym (c .before .before .before .record-right .ensures) ∙ not-false (c .before .before .before .record-right .result) (c .before .before .if1 .left) in (
+    let right =
+    ap (rightOf f (b .args .k)) (sym e)
+    ∙ right-at f (b .args .k) _ (c .before .before .before .before .whole-entry .result) (b .pre .1)
+    ∙ sym (c .before .before .before .record-right .ensures) ∙ not-false (c .before .before .before .record-right .result) (c .before .before .if1 .left) in (
       omega arith,
       b .pre .1,
       l .loop .inv .2
           ∙ right-more f (b .args .k) (l .loop .left) (l .loop .at) (omega arith)
-          ∙ and-skip (rightRecord f (b .args .k) (entryAt f (l .loop .at))) _ right,
+          ∙ and-skip (rightOf f (b .args .k) (entryAt f (l .loop .at))) _ right,
       l .loop .inv .3
           ∙ raised-more f (b .args .k) (l .loop .left) (l .loop .at) (omega arith) _ (l .loop .levels)
           ∙ ap (λ (ls : List ℕ). raisedBy (getD (b .args .levels .now) (b .args .k) 0) ls (entriesAt f (l .loop .left - 1) (l .loop .at + 4)))
@@ -111,7 +116,7 @@ section-right-spec =
     loop-holds
     (λ c. omega arith)
     (λ c κs. search needs)
-    record-right-requires
+    (λ c κs. search needs)
     returns
     raise-requires
     add-at

@@ -45,7 +45,7 @@ use denote.Exit.{yes}
 use denote.Signature.{Slot, plain}
 use Rattle.spi_board.specs.declared.Cells.{Cells}
 use Rattle.spi_board.specs.Boards.{askedOf, numbersAt, withNumbers}
-use Rattle.spi_board.specs.Owing.{RefusesOwed, MakesOwed, OwedTells}
+use Rattle.spi_board.specs.Owing.{refusedCall, MakesOwed, OwedTells}
 use Rattle.spi_board.proofs.Owing.{owed-inside, owed-refused, owed-made}
 use Rattle.spi_board.proofs.Lent.{R, N, ref, opens-record, shuts-record, lends-cell, cell-back, list-owned, with-u32, given-up, guards, gone, gone-room}
 use Rattle.spi_board.proofs.refused as refused
@@ -126,8 +126,8 @@ module _ {M : Type 1} (𝓤 : URA M) (H : Heap 𝓤) (A : Atoms 𝓤) (W : Given
   goes-refuse =
       qed W (‵ ftrue ∷ []) ∵ with-u32 ! n n-fits $ with-u32 ! owed owed-fits $ owned ! usize (Is usize) (uint-makes 𝓤 H A W w64) (length cs) _ (refl, room .0) $ fjoin ! $ nothing ! $ join ! $ frame ! $ done !
 
-  refuses : (why : ℕ) → ent 𝓤 (ensured 𝓤 H A refused.ended (refused.clauses 𝓤 H A at-mem run) tt (length cs, (owed, (n, tt))) tt why) (fact 𝓤 (RefusesOwed (length cs) owed n why))
-  refuses why = exE 𝓤 _ (λ ws. snd∗ 𝓤 (sem 𝓤 H A (lasts refused.ended tt (length cs, (owed, (n, tt))) ws)) (fact 𝓤 (RefusesOwed (length cs) owed n why)))
+  refuses : (why : ℕ) → ent 𝓤 (ensured 𝓤 H A refused.ended (refused.clauses 𝓤 H A at-mem run) tt (length cs, (owed, (n, tt))) tt why) (fact 𝓤 (why ≡ refusedCall (length cs) owed n))
+  refuses why = exE 𝓤 _ (λ ws. snd∗ 𝓤 (sem 𝓤 H A (lasts refused.ended tt (length cs, (owed, (n, tt))) ws)) (fact 𝓤 (why ≡ refusedCall (length cs) owed n)))
 
   -- where the numbers of the named record lie
   abbrev p : ℕ
@@ -176,7 +176,7 @@ module _ {M : Type 1} (𝓤 : URA M) (H : Heap 𝓤) (A : Atoms 𝓤) (W : Given
         use0 W (raw (Refuse 𝓤 H A at-mem run .pre to-refuse)) goes-refuse $
         calls-at ! fm (Refuse 𝓤 H A at-mem run) known-refused to-refuse (and-then ! (load ! (from ! (stop !)) (look ! 11 refl)) (and-then ! (load ! (from ! (stop !)) (look ! 27 refl)) (and-then ! (load ! (from ! (stop !)) (look ! 25 refl)) (no-more !)))) (λ v.
         use1 W (later (some (λ (why : ℕ). (‵ ftrue ⊛ ‵ (u64 .own why (v ∷ []))) ⊛ raw (ensured 𝓤 H A refused.ended (refused.clauses 𝓤 H A at-mem run) tt (length cs, (owed, (n, tt))) tt why)))) (id⊢ 𝓤 _) $ await ! tt $ pick ! (λ why.
-        split ! $ move ! (1 ∷ []) $ use1 W (raw (fact 𝓤 (RefusesOwed (length cs) owed n why))) (refuses why) $ heard ! (RefusesOwed (length cs) owed n why) (λ tested. split ! $ drop ! $
+        split ! $ move ! (1 ∷ []) $ use1 W (raw (fact 𝓤 (why ≡ refusedCall (length cs) owed n))) (refuses why) $ heard ! (why ≡ refusedCall (length cs) owed n) (λ tested. split ! $ drop ! $
         facts ! u64 (Is u64) (shows 𝓤 H A u64) why (v ∷ []) (λ is.
         land ! (from ! (stop !)) (init ! 12 refl (uint-lawful 𝓤 H A W w64 .typed why _ is .0)) $ rewrite ! 12 (λ (u : Val). ‵ (fat fullShare (tyInt w64) l₉ 0 u)) (ap only (is .0)) refl $
         assigns ! (bin ! (lit ! tt) (load ! (from ! (stop !)) (look ! 12 refl)) tt) (from ! (stop !)) (init ! 8 refl (tt, tt)) $

@@ -43,7 +43,7 @@ use denote.Exit.{yes}
 use denote.Signature.{plain}
 use Rattle.spi_board.specs.declared.Cells.{Cells}
 use Rattle.spi_board.specs.Boards.{numbersAt, withNumbers}
-use Rattle.spi_board.specs.Owing.{RefusesOwedPair, LinksOwed, OwedPairTells}
+use Rattle.spi_board.specs.Owing.{refusedPair, LinksOwed, OwedPairTells}
 use Rattle.spi_board.proofs.Owing.{owed-insides, owed-pair-refused, owed-pair-made}
 use Rattle.spi_board.proofs.Lent.{R, N, ref, fit-typed, opens-record, shuts-record, leaves-record, lends-cell, cell-back, list-owned, with-u32, guards, gone, gone-room}
 use Rattle.spi_board.proofs.refused_two as refused
@@ -106,8 +106,8 @@ module _ {M : Type 1} (𝓤 : URA M) (H : Heap 𝓤) (A : Atoms 𝓤) (W : Given
       qed W (‵ ftrue ∷ []) ∵ with-u32 ! j j-fits $ with-u32 ! i i-fits $ with-u32 ! owed owed-fits $
       owned ! usize (Is usize) (uint-makes 𝓤 H A W w64) (length cs) _ (refl, room .0) $ fjoin ! $ nothing ! $ join ! $ frame ! $ done !
 
-  refuses : (why : ℕ) → ent 𝓤 (ensured 𝓤 H A refused.ended (refused.clauses 𝓤 H A at-mem run) tt (length cs, (owed, (i, (j, tt)))) tt why) (fact 𝓤 (RefusesOwedPair (length cs) owed i j why))
-  refuses why = exE 𝓤 _ (λ ws. snd∗ 𝓤 (sem 𝓤 H A (lasts refused.ended tt (length cs, (owed, (i, (j, tt)))) ws)) (fact 𝓤 (RefusesOwedPair (length cs) owed i j why)))
+  refuses : (why : ℕ) → ent 𝓤 (ensured 𝓤 H A refused.ended (refused.clauses 𝓤 H A at-mem run) tt (length cs, (owed, (i, (j, tt)))) tt why) (fact 𝓤 (why ≡ refusedPair (length cs) owed i j))
+  refuses why = exE 𝓤 _ (λ ws. snd∗ 𝓤 (sem 𝓤 H A (lasts refused.ended tt (length cs, (owed, (i, (j, tt)))) ws)) (fact 𝓤 (why ≡ refusedPair (length cs) owed i j)))
 
   -- where the numbers of record k lie
   abbrev p : ℕ → ℕ
@@ -148,7 +148,7 @@ module _ {M : Type 1} (𝓤 : URA M) (H : Heap 𝓤) (A : Atoms 𝓤) (W : Given
         use0 W (raw (Refuse 𝓤 H A at-mem run .pre to-refuse)) goes-refuse $
         calls-at ! fm (Refuse 𝓤 H A at-mem run) known-refused to-refuse (and-then ! (load ! (from ! (stop !)) (look ! 17 refl)) (and-then ! (load ! (from ! (stop !)) (look ! 31 refl)) (and-then ! (load ! (from ! (stop !)) (look ! 29 refl)) (and-then ! (load ! (from ! (stop !)) (look ! 27 refl)) (no-more !))))) (λ v.
         use1 W (later (some (λ (why : ℕ). (‵ ftrue ⊛ ‵ (u64 .own why (v ∷ []))) ⊛ raw (ensured 𝓤 H A refused.ended (refused.clauses 𝓤 H A at-mem run) tt (length cs, (owed, (i, (j, tt)))) tt why)))) (id⊢ 𝓤 _) $ await ! tt $ pick ! (λ why.
-        split ! $ move ! (1 ∷ []) $ use1 W (raw (fact 𝓤 (RefusesOwedPair (length cs) owed i j why))) (refuses why) $ heard ! (RefusesOwedPair (length cs) owed i j why) (λ tested. split ! $ drop ! $
+        split ! $ move ! (1 ∷ []) $ use1 W (raw (fact 𝓤 (why ≡ refusedPair (length cs) owed i j))) (refuses why) $ heard ! (why ≡ refusedPair (length cs) owed i j) (λ tested. split ! $ drop ! $
         facts ! u64 (Is u64) (shows 𝓤 H A u64) why (v ∷ []) (λ is.
         land ! (from ! (stop !)) (init ! 22 refl (uint-lawful 𝓤 H A W w64 .typed why _ is .0)) $ rewrite ! 22 (λ (u : Val). ‵ (fat fullShare (tyInt w64) l₆ 0 u)) (ap only (is .0)) refl $
         assigns ! (bin ! (lit ! tt) (load ! (from ! (stop !)) (look ! 22 refl)) tt) (from ! (stop !)) (init ! 14 refl (tt, tt)) $
