@@ -1,9 +1,10 @@
 // Bits of words and of registers, over the width. Nothing here asks whether the width is 8 or 16.
-use spi_rules::Settings;
+use spi_types::Settings;
 ghost use mathlib.Core.Path.{_≡_};
 ghost use Prim.Native.Nat.{_-_};
+ghost use Rattle.word_order.specs.Bits.{bitOf};
 ghost use Rattle.spi_rules.specs.Settings.{widthOf};
-ghost use Rattle.spi_rules.specs.Registers.{bitOf, lowBits};
+ghost use Rattle.spi_rules.specs.Registers.{lowBits};
 ghost use Rattle.spi_rules.specs.Bits.{samples, shiftedIn, receivedAfter, shownBit, sdoAfter};
 
 // Bit `i` of a word.

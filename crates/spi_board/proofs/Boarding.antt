@@ -12,7 +12,7 @@ use lib.Dec.{T, ltb, ltb→lt, nltb→le}
 use lib.Ieee.{Float}
 use lib.ListN.{length, set}
 use lib.Seq.{getD-set-other}
-use Rattle.spi_rules.specs.declared.Module.{Module}
+use Rattle.spi_types.specs.declared.Module.{Module}
 use Rattle.spi_rules.specs.RefusalTable.{firstNumber}
 use Rattle.spi_link_rules.specs.declared.Linked.{Linked}
 use Rattle.spi_link_rules.specs.Link.{linkedOf}
@@ -20,7 +20,6 @@ use Rattle.spi_board_rules.specs.declared.BoardCall.{BoardCall}
 use Rattle.spi_board_rules.specs.declared.BoardAnswer.{BoardAnswer}
 use Rattle.spi_board_rules.specs.declared.BoardAnswer.the-variants.{Refused, Powered, Made, Told, Shown}
 use Rattle.spi_board_rules.specs.declared.PairAnswer.{PairAnswer}
-use Rattle.spi_board_rules.specs.declared.PairAnswer.the-variants as pair
 use Rattle.spi_board_rules.specs.Board.{Paired, moduleAt, answerAlone, afterAlone, boardOf, ranOf, pairOf}
 use Rattle.spi_board_rules.specs.BoardDemands.{faultIn, pairFaultIn, boardRows, pairRows}
 use Rattle.spi_board_rules.proofs.BoardCalls.{call-refused-exactly, call-refused-unchanged, call-is, pair-refused-exactly, pair-refused-unchanged, pair-is, named-below, places}
@@ -28,6 +27,7 @@ use Rattle.spi_memory.specs.Memory.{moduleIn}
 use Rattle.spi_numbers.specs.Told.{LinkTells}
 use Rattle.spi_board.specs.declared.Cells.{Cells}
 use Rattle.spi_board.specs.Boards.{modulesIn, recordAt, numbersAt, withNumbers, boardNumber, pairNumber, floatsAfter, keepsAll, pairKeepsAll, callFault, pairFault, MakeTells, BoardLeaves, PairLeaves}
+use Rattle.spi_board_rules.specs.declared.PairAnswer.the-variants as pair
 
 -- Records and modules.
 pub as-many : (cs : List Cells) → length (modulesIn cs) ≡ length cs

@@ -6,9 +6,9 @@ use mathlib.Core.Path.{_≡_}
 use lib.Dec.{eqb}
 use lib.Ieee.{Float}
 use lib.ListN.{getD, set}
-use Rattle.spi_rules.specs.declared.Module.{Module}
-use Rattle.spi_rules.specs.declared.Call.the-variants.{Read, Write, Tick, Pin, Clear}
-use Rattle.spi_rules.specs.Choice.{if_then_else_}
+use Rattle.laws.specs.Choice.{if_then_else_}
+use Rattle.spi_types.specs.declared.Module.{Module}
+use Rattle.spi_types.specs.declared.Call.the-variants.{Read, Write, Tick, Pin, Clear}
 use Rattle.spi_rules.specs.RefusalTable.{firstNumber}
 use Rattle.spi_clock_rules.specs.Clock.{saidClock}
 use Rattle.spi_board_rules.specs.declared.BoardCall.{BoardCall}
@@ -16,7 +16,6 @@ use Rattle.spi_board_rules.specs.declared.BoardCall.the-variants.{PowerUp, Make
 use Rattle.spi_board_rules.specs.declared.BoardAnswer.{BoardAnswer}
 use Rattle.spi_board_rules.specs.declared.BoardAnswer.the-variants.{Refused, Powered, Made, Told, Shown}
 use Rattle.spi_board_rules.specs.declared.PairAnswer.{PairAnswer}
-use Rattle.spi_board_rules.specs.declared.PairAnswer.the-variants as pair
 use Rattle.spi_board_rules.specs.Board.{boardNumberOf, answerAlone, afterAlone, boardOf, pairOf}
 use Rattle.spi_board_rules.specs.BoardDemands.{boardRows, pairRows}
 use Rattle.spi_memory.specs.Memory.{moduleIn}
@@ -24,6 +23,7 @@ use Rattle.spi_module.specs.Answered.{untouching}
 use Rattle.spi_link.specs.Wire.{isRefused}
 use Rattle.spi_numbers.specs.Told.{answerNumber, levelIn, seenNumber, clockNumber, clockFloats, linkNumber}
 use Rattle.spi_board.specs.declared.Cells.{Cells}
+use Rattle.spi_board_rules.specs.declared.PairAnswer.the-variants as pair
 
 -- The modules that a list of records holds.
 abbrev pub modulesIn : List Cells → List Module

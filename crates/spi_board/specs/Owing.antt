@@ -5,8 +5,8 @@ use mathlib.Core.Path.{_≡_}
 use lib.Dec.{eqb}
 use lib.Ieee.{Float}
 use lib.ListN.{length}
-use Rattle.spi_rules.specs.declared.Module.{Module}
-use Rattle.spi_rules.specs.Choice.{if_then_else_}
+use Rattle.laws.specs.Choice.{if_then_else_}
+use Rattle.spi_types.specs.declared.Module.{Module}
 use Rattle.spi_link_rules.specs.Link.{linkedOf}
 use Rattle.spi_board_rules.specs.declared.BoardCall.{BoardCall}
 use Rattle.spi_board_rules.specs.declared.OwedAnswer.{OwedAnswer}

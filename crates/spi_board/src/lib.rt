@@ -1,7 +1,7 @@
 // The board in memory: a lent list of module records. What stands here is over one record's numbers, and over numbers alone; the
 // exported calls of crate thurafeqa lend a record of the list to it.
-use spi_rules::Settings;
-use spi_rules::Shift;
+use spi_types::Settings;
+use spi_types::Shift;
 ghost use Prim.Native.Nat.{_+_, _-_, _≤_};
 ghost use mathlib.Core.Path.{_≡_};
 ghost use Rattle.spi_board_rules.specs.Owed.{inShift, countOf, atMost65535};

@@ -15,11 +15,11 @@ use borrow.Author.Tests.{leb-true, leb-false, eqb-false}
 use lib.Dec.{eqb, leb}
 use lib.ListN.{length, set, length-set}
 use lib.Seq.{getD-set-same, getD-set-other}
-use Rattle.spi_rules.specs.declared.Module.{Module}
-use Rattle.spi_rules.specs.Choice.{if_then_else_}
+use Rattle.laws.specs.Choice.{if_then_else_}
+use Rattle.laws.proofs.Keeps.{if-false, by-test, or-left, or-right}
+use Rattle.spi_types.specs.declared.Module.{Module}
 use Rattle.spi_rules.specs.RefusalTable.{row, firstNumber}
 use Rattle.spi_rules.specs.Calls.{poweredUp}
-use Rattle.spi_rules.proofs.Keeps.{if-false, by-test, or-left, or-right}
 use Rattle.spi_link_rules.specs.declared.Linked.{Linked}
 use Rattle.spi_link_rules.specs.Link.{linkedOf}
 use Rattle.spi_board_rules.specs.declared.BoardCall.{BoardCall}

@@ -8,15 +8,14 @@ use mathlib.Core.Path.{_≡_, refl, sym, ap, _∙_}
 use borrow.Author.Tests.{eqb-true}
 use lib.Dec.{eqb}
 use lib.ListN.{length, replicate, getD-replicate}
-use Rattle.spi_rules.specs.declared.Module.{Module}
-use Rattle.spi_rules.specs.declared.Call.{Call}
+use Rattle.laws.proofs.Keeps.{if-keeps, by-test, and-left, and-right, and-rest}
+use Rattle.spi_types.specs.declared.Module.{Module}
+use Rattle.spi_types.specs.declared.Call.{Call}
 use Rattle.spi_rules.specs.RefusalTable.{firstNumber}
 use Rattle.spi_rules.specs.Calls.{poweredUp, performOf, afterCalls}
-use Rattle.spi_rules.specs.Demands.{powerUp, begins, life}
+use Rattle.spi_rules.specs.Lives.{powerUp, begins, life}
 use Rattle.spi_rules.proofs.LivesReach.{watched-reaches, reaches-append}
-use Rattle.spi_rules.proofs.Keeps.{if-keeps, by-test, and-left, and-right, and-rest}
-use Rattle.spi_link_rules.specs.LinkDemands.{runHostCalls, runClientCalls}
-use Rattle.spi_link_rules.specs.LinkDemands.{refusalOf}
+use Rattle.spi_link_rules.specs.LinkDemands.{runHostCalls, runClientCalls, refusalOf}
 use Rattle.spi_link_rules.proofs.LinkRuns.{link-calls}
 use Rattle.spi_link_rules.proofs.LinkDemandsHold.{linked-runs, made}
 use Rattle.spi_board_rules.specs.declared.BoardCall.{BoardCall}

@@ -4,30 +4,28 @@
 --     one-moved                     one of them is replaced, and the total moved by it
 -- Assumes nothing.
 use Prim.Native.Nat.{ℕ, zero, suc, _+_, _*_, _-_, _<_, _≤_}
-use mathlib.Core.Bool.{Bool, true, false, _||_}
+use mathlib.Core.Bool.{true, false, _||_}
 use mathlib.Core.List.{List, [], _∷_, _++_}
-use mathlib.Core.Path.{_≡_, refl, sym, ap, subst, _∙_}
+use mathlib.Core.Path.{_≡_, refl, sym, ap, _∙_}
 use native.Mathlib.Omega.{arith}
 use borrow.Author.Tests.{le-leb}
-use lib.Dec.{leb, eqb}
+use lib.Dec.{leb}
 use lib.ListN.{length, set, length-append, length-set}
-use Rattle.spi_rules.specs.declared.Settings.{Settings}
-use Rattle.spi_rules.specs.declared.Module.{Module}
-use Rattle.spi_rules.specs.declared.Transmit.{Transmit}
-use Rattle.spi_rules.specs.declared.Shift.{Shift}
-use Rattle.spi_rules.specs.declared.Shift.the-variants.{Free, Loaded, Begun}
-use Rattle.spi_rules.specs.declared.Call.{Call}
-use Rattle.spi_rules.specs.Choice.{if_then_else_}
-use Rattle.spi_rules.specs.Settings.{depthOf, enhancedDepth, ssenClient}
+use Rattle.laws.proofs.Keeps.{if-true, if-ap}
+use Rattle.word_order.specs.Ledger.{sent, unsent}
+use Rattle.spi_types.specs.declared.Settings.{Settings}
+use Rattle.spi_types.specs.declared.Module.{Module}
+use Rattle.spi_types.specs.declared.Transmit.{Transmit}
+use Rattle.spi_types.specs.declared.Shift.{Shift}
+use Rattle.spi_types.specs.declared.Shift.the-variants.{Free, Loaded, Begun}
+use Rattle.spi_types.specs.declared.Call.{Call}
+use Rattle.spi_rules.specs.Settings.{depthOf, ssenClient}
 use Rattle.spi_rules.specs.Buffers.{emptyTransmit}
 use Rattle.spi_rules.specs.Words.{unfinished, leftBuffer, waitingIn}
 use Rattle.spi_rules.specs.Invariant.{ModuleHolds}
-use Rattle.spi_rules.specs.Ledger.{sent}
-use Rattle.spi_rules.specs.Frames.{unsent}
-use Rattle.spi_rules.specs.Demands.{Beginning, life}
-use Rattle.spi_rules.proofs.Keeps.{if-keeps, if-true, if-ap, by-test}
+use Rattle.spi_rules.specs.Lives.{Beginning, life}
 use Rattle.spi_rules.proofs.BuffersOrder.{waiting-length}
-use Rattle.spi_rules.proofs.LivesHold.{life-holds}
+use Rattle.spi_order.proofs.Order.{life-holds}
 use Rattle.spi_link_rules.proofs.LinkIdle.{one-unfinished, depth-within}
 use Rattle.spi_board_rules.specs.BoardDemands.{at}
 use Rattle.spi_board_rules.specs.Owed.{inShift, countOf, atMost65535, totalMoved}
@@ -51,7 +49,7 @@ counts-unsent b cs on =
     omega (
       arith,
       count-is (x .now),
-      ap length (life-holds b cs .tied on .sending),
+      ap length (life-holds b cs .tied on .words .sending),
       length-append (sent (x .ledger)) (leftBuffer (x .now) ++ waitingIn (x .now)),
       length-append (leftBuffer (x .now)) (waitingIn (x .now)),
     )

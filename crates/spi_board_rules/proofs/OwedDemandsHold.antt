@@ -9,14 +9,14 @@ use native.Mathlib.Omega.{arith}
 use borrow.Author.Tests.{ltb-false, leb-false}
 use lib.Dec.{ltb}
 use lib.ListN.{length, set, replicate, length-set}
-use Rattle.spi_rules.specs.declared.Module.{Module}
-use Rattle.spi_rules.specs.Choice.{if_then_else_}
+use Rattle.laws.specs.Choice.{if_then_else_}
+use Rattle.laws.proofs.Keeps.{if-true, if-false, by-test, clash, or-left, or-right}
+use Rattle.spi_types.specs.declared.Module.{Module}
 use Rattle.spi_rules.specs.RefusalTable.{row, firstNumber}
 use Rattle.spi_rules.specs.Invariant.{ModuleHolds}
 use Rattle.spi_rules.specs.Calls.{poweredUp}
-use Rattle.spi_rules.specs.Demands.{powerUp}
-use Rattle.spi_rules.proofs.Keeps.{if-true, if-false, by-test, clash, or-left, or-right}
-use Rattle.spi_rules.proofs.InvariantHolds.{call-keeps, reached-holds}
+use Rattle.spi_rules.specs.Lives.{powerUp}
+use Rattle.spi_invariant.proofs.Holds.{call-keeps, reached-holds}
 use Rattle.spi_link_rules.specs.Link.{linkedOf}
 use Rattle.spi_link_rules.proofs.LinkRuns.{link-holds}
 use Rattle.spi_board_rules.specs.declared.BoardCall.{BoardCall}

@@ -11,10 +11,10 @@ use native.Mathlib.Omega.{arith}
 use borrow.Author.Tests.{eqb-true, ltb-true, ltb-false, lt-leb, le-leb}
 use lib.Dec.{eqb, leb, ltb}
 use lib.ListN.{length}
-use Rattle.spi_rules.specs.declared.Module.{Module}
-use Rattle.spi_rules.specs.Choice.{if_then_else_}
+use Rattle.laws.specs.Choice.{if_then_else_}
+use Rattle.laws.proofs.Keeps.{if-keeps, if-true, if-false, by-test}
+use Rattle.spi_types.specs.declared.Module.{Module}
 use Rattle.spi_rules.specs.RefusalTable.{row, firstNumber}
-use Rattle.spi_rules.proofs.Keeps.{if-keeps, if-true, if-false, by-test}
 use Rattle.spi_board_rules.specs.declared.BoardCall.{BoardCall}
 use Rattle.spi_board_rules.specs.Board.{badList, noModule, noPair, moduleAt, boardOf, pairOf}
 use Rattle.spi_board_rules.specs.BoardDemands.{boardRows, pairRows, at}

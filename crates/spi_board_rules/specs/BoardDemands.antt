@@ -5,24 +5,23 @@ use mathlib.Core.List.{List, [], _∷_, _++_}
 use mathlib.Core.Path.{_≡_}
 use lib.Dec.{eqb, ltb, leb}
 use lib.ListN.{length, getD, replicate}
-use Rattle.spi_rules.specs.declared.Module.{Module}
-use Rattle.spi_rules.specs.declared.Call.{Call}
-use Rattle.spi_rules.specs.Choice.{if_then_else_}
+use Rattle.laws.specs.Choice.{if_then_else_}
+use Rattle.spi_types.specs.declared.Module.{Module}
+use Rattle.spi_types.specs.declared.Call.{Call}
 use Rattle.spi_rules.specs.RefusalTable.{Row, row, firstNumber}
 use Rattle.spi_rules.specs.Calls.{poweredUp, performOf, interruptOf, sckOf, sdoOf, ssOf}
-use Rattle.spi_rules.specs.Demands.{powerUp, life}
+use Rattle.spi_rules.specs.Lives.{powerUp, life}
 use Rattle.spi_link_rules.specs.Link.{linkedOf}
-use Rattle.spi_link_rules.specs.LinkDemands.{runHostCalls, runClientCalls}
-use Rattle.spi_link_rules.specs.LinkDemands.{refusalOf}
+use Rattle.spi_link_rules.specs.LinkDemands.{runHostCalls, runClientCalls, refusalOf}
 use Rattle.spi_clock_rules.specs.Clock.{reportOf}
 use Rattle.spi_board_rules.specs.declared.BoardCall.{BoardCall}
 use Rattle.spi_board_rules.specs.declared.BoardCall.the-variants.{PowerUp, Make, Report, Look}
 use Rattle.spi_board_rules.specs.declared.BoardAnswer.{BoardAnswer}
 use Rattle.spi_board_rules.specs.declared.BoardAnswer.the-variants.{Refused, Powered, Made, Told, Shown}
 use Rattle.spi_board_rules.specs.declared.PairAnswer.{PairAnswer}
-use Rattle.spi_board_rules.specs.declared.PairAnswer.the-variants as pair
 use Rattle.spi_board_rules.specs.Board.{Boarded, Paired, boardNumberOf, boardOf, pairOf, Step, one, two, boardStepped, boardAfter}
 use Rattle.spi_board_rules.specs.BoardExamples.{boardExamples}
+use Rattle.spi_board_rules.specs.declared.PairAnswer.the-variants as pair
 
 -- The number with which the board refuses, 0 if it hands the call on.
 abbrev pub faultIn : BoardAnswer → ℕ

@@ -4,9 +4,9 @@ use Prim.Native.Nat.{ℕ}
 use mathlib.Core.Bool.{Bool, true, false, _&&_}
 use mathlib.Core.List.{List, [], _∷_}
 use lib.Dec.{eqb}
-use lib.ListN.{length, replicate}
-use Rattle.spi_rules.specs.declared.Module.{Module}
-use Rattle.spi_rules.specs.declared.Call.the-variants.{Read, Write}
+use lib.ListN.{replicate}
+use Rattle.spi_types.specs.declared.Module.{Module}
+use Rattle.spi_types.specs.declared.Call.the-variants.{Read, Write}
 use Rattle.spi_rules.specs.Refusals.{saidOf}
 use Rattle.spi_rules.specs.Registers.{con1Value, statValue}
 use Rattle.spi_rules.specs.Calls.{poweredUp}
@@ -17,8 +17,8 @@ use Rattle.spi_board_rules.specs.declared.BoardCall.the-variants.{PowerU
 use Rattle.spi_board_rules.specs.declared.BoardAnswer.{BoardAnswer}
 use Rattle.spi_board_rules.specs.declared.BoardAnswer.the-variants.{Refused, Powered, Made, Told, Shown}
 use Rattle.spi_board_rules.specs.declared.PairAnswer.{PairAnswer}
-use Rattle.spi_board_rules.specs.declared.PairAnswer.the-variants as pair
 use Rattle.spi_board_rules.specs.Board.{boardNumberOf, boardOf, pairOf, Step, one, two, boardAfter}
+use Rattle.spi_board_rules.specs.declared.PairAnswer.the-variants as pair
 
 -- So many modules at power-up, and after some steps.
 abbrev pub fresh : ℕ → List Module

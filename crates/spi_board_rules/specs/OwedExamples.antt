@@ -4,15 +4,14 @@ use mathlib.Core.Bool.{Bool, true, false, _&&_}
 use mathlib.Core.List.{List, [], _∷_, _++_}
 use lib.Dec.{eqb}
 use lib.ListN.{replicate}
-use Rattle.spi_rules.specs.declared.Call.the-variants.{Read, Write, Tick, Pin}
-use Rattle.spi_rules.specs.Calls.{poweredUp}
+use Rattle.spi_types.specs.declared.Call.the-variants.{Tick, Pin}
 use Rattle.spi_board_rules.specs.declared.BoardCall.{BoardCall}
 use Rattle.spi_board_rules.specs.declared.BoardCall.the-variants.{PowerUp, Make}
 use Rattle.spi_board_rules.specs.declared.OwedAnswer.{OwedAnswer}
 use Rattle.spi_board_rules.specs.declared.OwedAnswer.the-variants.{Refused, Owes}
 use Rattle.spi_board_rules.specs.Board.{boardNumberOf, Step, one, two, boardAfter}
 use Rattle.spi_board_rules.specs.BoardExamples.{fresh, write, every, ready}
-use Rattle.spi_board_rules.specs.Owed.{Board, owesOf, owedAfter}
+use Rattle.spi_board_rules.specs.Owed.{owesOf, owedAfter}
 
 -- What the question answers: the words owed, or a refusal.
 abbrev pub tells : OwedAnswer → ℕ → ℕ → Bool

@@ -2,9 +2,9 @@
 // from them is in proofs/.
 use spi_clock_rules::Reported;
 use spi_link_rules::LinkAnswer;
-use spi_rules::Answer;
-use spi_rules::Call;
-use spi_rules::Output;
+use spi_types::Answer;
+use spi_types::Call;
+use spi_types::Output;
 
 // A call of one module of the board: power-up, a call, a clock report for an instruction rate, or a look at its pins.
 pub enum BoardCall {

@@ -1,14 +1,14 @@
 // The two buffers and the state of the shift register. The buffers are rings whose positions go round the depth. A full buffer takes no word and an empty one gives none.
 // Positions and counts that calls cannot reach are answered too: a position is taken round the capacity.
-use spi_rules::CpuRead;
-use spi_rules::CpuWrite;
-use spi_rules::Receive;
-use spi_rules::Shift;
-use spi_rules::SpiRead;
-use spi_rules::SpiWrite;
-use spi_rules::Transmit;
+use spi_types::CpuRead;
+use spi_types::CpuWrite;
+use spi_types::Receive;
+use spi_types::Shift;
+use spi_types::SpiRead;
+use spi_types::SpiWrite;
+use spi_types::Transmit;
 ghost use mathlib.Core.Path.{_≡_};
-ghost use Rattle.spi_rules.specs.Ring.{next};
+ghost use Rattle.ring.specs.Ring.{next};
 ghost use Rattle.spi_rules.specs.Registers.{isFree};
 ghost use Rattle.spi_rules.specs.Buffers.{emptyTransmit, emptyReceive, firstWaiting, firstUnread, written, departed, appended, taken};
 

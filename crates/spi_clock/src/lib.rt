@@ -3,9 +3,9 @@ use spi_clock_rules::Clock;
 use spi_clock_rules::ClockSaid;
 use spi_clock_rules::Rates;
 use spi_clock_rules::Reported;
-use spi_rules::Module;
-use spi_rules::Refusal;
-use spi_rules::Settings;
+use spi_types::Module;
+use spi_types::Refusal;
+use spi_types::Settings;
 ghost use mathlib.Core.Path.{_≡_};
 ghost use Rattle.spi_clock_rules.specs.Clock.{quartered, primaryOf, secondaryOf, dividerOf, ratesOf, clockOf, reportBy, reportOf, saidClock};
 

@@ -2,7 +2,7 @@
 // `internal` with the rate and the bit time, `external` with the float that the clock must stay below, or `none`. A float
 // is printed where it is a whole number, and as `-` where it is not.
 use libc::STDOUT_FILENO;
-use spi_rules::Module;
+use spi_types::Module;
 
 // A module with this CON1, enabled or not.
 fn module(con1: u16, on: bool) -> Module {

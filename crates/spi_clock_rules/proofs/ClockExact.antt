@@ -23,17 +23,17 @@ use lib.Ieee.Fits.{up-pos, down-pos}
 use lib.Ieee.Back.{round-whole, unsigned-back}
 use lib.Ieee.Positive.{positive-of-value}
 use lib.Ieee.Scale.{round-same}
-use Rattle.spi_rules.specs.declared.Module.{Module}
-use Rattle.spi_rules.specs.declared.Settings.{Settings}
+use Rattle.laws.specs.Choice.{if_then_else_}
+use Rattle.laws.proofs.Choices.{so, not-so, not-so-eq}
+use Rattle.spi_types.specs.declared.Module.{Module}
+use Rattle.spi_types.specs.declared.Settings.{Settings}
+use Rattle.spi_rules.specs.Settings.{ownClock}
+use Rattle.spi_rules.specs.Refusals.{numberOf}
 use Rattle.spi_clock_rules.specs.declared.Clock.{Clock}
 use Rattle.spi_clock_rules.specs.declared.Clock.the-variants.{Internal, External, None}
 use Rattle.spi_clock_rules.specs.declared.Reported.the-variants.{Answered}
-use Rattle.spi_rules.specs.Choice.{if_then_else_}
-use Rattle.spi_rules.specs.Settings.{ownClock}
-use Rattle.spi_rules.specs.Refusals.{numberOf}
 use Rattle.spi_clock_rules.specs.Clock.{quartered, primaryOf, secondaryOf, dividerOf, floatOf, ratesOf, clockOf, reportOf, saidRefused, saidInternal, saidExternal, saidNone, saidClock}
 use Rattle.spi_clock_rules.specs.ClockDemands.{tabled}
-use Rattle.spi_rules.proofs.Choices.{so, not-so, not-so-eq}
 
 -- ---- one division of two whole floats
 

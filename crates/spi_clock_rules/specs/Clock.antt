@@ -4,18 +4,18 @@ use mathlib.Core.Bool.{true, false, not}
 use lib.Dec.{eqb}
 use lib.IntN.{pos}
 use lib.Ieee.{Float, fin, binary64, ofInt, div}
-use Rattle.spi_rules.specs.declared.Module.{Module}
-use Rattle.spi_rules.specs.declared.Settings.{Settings}
+use Rattle.laws.specs.Choice.{if_then_else_}
+use Rattle.spi_types.specs.declared.Module.{Module}
+use Rattle.spi_types.specs.declared.Settings.{Settings}
+use Rattle.spi_types.specs.declared.Refusal.the-variants.{NoRate}
+use Rattle.spi_rules.specs.Settings.{ownClock}
+use Rattle.spi_rules.specs.Refusals.{numberOf}
 use Rattle.spi_clock_rules.specs.declared.Rates.{Rates}
 use Rattle.spi_clock_rules.specs.declared.Clock.{Clock}
 use Rattle.spi_clock_rules.specs.declared.Clock.the-variants.{Internal, External, None}
 use Rattle.spi_clock_rules.specs.declared.Reported.{Reported}
 use Rattle.spi_clock_rules.specs.declared.Reported.the-variants.{Refused, Answered}
-use Rattle.spi_rules.specs.declared.Refusal.the-variants.{NoRate}
 use Rattle.spi_clock_rules.specs.declared.ClockSaid.{ClockSaid}
-use Rattle.spi_rules.specs.Choice.{if_then_else_}
-use Rattle.spi_rules.specs.Settings.{ownClock}
-use Rattle.spi_rules.specs.Refusals.{numberOf}
 
 -- A number divided by four, so many times.
 unfoldable pub quartered : ℕ → ℕ → ℕ

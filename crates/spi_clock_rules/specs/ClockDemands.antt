@@ -6,8 +6,8 @@ use mathlib.Core.List.{[], _∷_}
 use mathlib.Core.Path.{_≡_}
 use lib.ListN.{getD}
 use lib.Ieee.{binary64, round}
-use Rattle.spi_rules.specs.declared.Settings.{Settings}
-use Rattle.spi_rules.specs.declared.Module.{Module}
+use Rattle.spi_types.specs.declared.Settings.{Settings}
+use Rattle.spi_types.specs.declared.Module.{Module}
 use Rattle.spi_rules.specs.InBits.{clocksItself}
 use Rattle.spi_clock_rules.specs.declared.Reported.{Reported}
 use Rattle.spi_clock_rules.specs.Clock.{dividerOf, floatOf, nought, reportOf, saidRefused, saidInternal, saidExternal, saidNone, saidClock}

@@ -1,6 +1,6 @@
 // The vocabulary of document 01, "The clock report". Its rules are the definitions in specs/, and what follows from them is
 // in proofs/.
-use spi_rules::Refusal;
+use spi_types::Refusal;
 
 // What a host's own clock gives: bits per second, and seconds per bit.
 pub struct Rates {

@@ -1,8 +1,7 @@
 -- The demands of specs/Demands.antt, all of them.
 --     demands-hold   what the buyer signs for
 -- Assumes nothing.
-use Rattle.spi_demands.specs.Demands.{Demands}
-use Rattle.spi_rules.proofs.DemandsHold.{one-module}
+use Rattle.spi_one_module.proofs.DemandsHold.{one-module}
 use Rattle.spi_link_rules.proofs.LinkDemandsHold.{linked-runs}
 use Rattle.spi_clock_rules.proofs.ClockDemandsHold.{clock-reports}
 use Rattle.spi_script_rules.proofs.ScriptDemandsHold.{scripts-hold}
@@ -10,6 +9,7 @@ use Rattle.spi_trace_rules.proofs.TraceDemandsHold.{traces-hold}
 use Rattle.spi_save_rules.proofs.SaveDemandsHold.{saves-hold}
 use Rattle.spi_board_rules.proofs.BoardDemandsHold.{boards-hold}
 use Rattle.spi_board_rules.proofs.OwedDemandsHold.{totals-hold}
+use Rattle.spi_demands.specs.Demands.{Demands}
 
 pub demands-hold : Demands
 demands-hold =

@@ -8,8 +8,8 @@ use mathlib.Core.Logic.{_⊎_, inl, inr, ⊎-map}
 use mathlib.Core.Path.{_≡_, refl}
 use borrow.Author.Tests.{leb-true}
 use lib.Dec.{leb}
+use Rattle.laws.proofs.Keeps.{and-left, and-right}
 use Rattle.spi_script_rules.specs.Script.{digit, hexDigit, between, fitsPlace}
-use Rattle.spi_rules.proofs.Keeps.{and-left, and-right}
 
 -- A disjunction that is true has a part that is true.
 one-of : (a b : Bool) → (a || b) ≡ true → (a ≡ true) ⊎ (b ≡ true)

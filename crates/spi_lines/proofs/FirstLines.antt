@@ -14,7 +14,7 @@ use native.Mathlib.Omega.{arith}
 use borrow.Author.Tests.{eq-eqb, ne-eqb}
 use lib.ListN.{length, getD, take, drop, drop-of-length-le, length-take, length-drop}
 use lib.Seq.{drop-cons}
-use Rattle.spi_rules.specs.Choice.{if_then_else_}
+use Rattle.laws.specs.Choice.{if_then_else_}
 use Rattle.spi_script_rules.specs.declared.Line.the-variants.{Unreadable}
 use Rattle.spi_script_rules.specs.Script.{lf, fits, writeForm, readForm, tickForm, tickSsForm, pinForm, clearForm, readingOf}
 use Rattle.spi_script_rules.specs.Session.{firstLine}

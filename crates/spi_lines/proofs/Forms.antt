@@ -14,11 +14,11 @@ use mathlib.Core.List.{List, [], _∷_}
 use mathlib.Core.Path.{_≡_, refl}
 use lib.Dec.{eqb}
 use lib.ListN.{length, getD}
+use Rattle.laws.specs.Choice.{if_then_else_}
+use Rattle.laws.proofs.Keeps.{clash, and-left, and-right}
+use Rattle.spi_types.specs.declared.Call.the-variants.{Read, Write, Tick, Pin, Clear}
 use Rattle.spi_script_rules.specs.declared.Line.the-variants.{Unreadable, Asked}
-use Rattle.spi_rules.specs.declared.Call.the-variants.{Read, Write, Tick, Pin, Clear}
-use Rattle.spi_rules.specs.Choice.{if_then_else_}
 use Rattle.spi_script_rules.specs.Script.{Place, digit, hexDigit, level, space, fitsPlace, fits, writeForm, readForm, tickForm, tickSsForm, pinForm, clearForm, digitValue, fourHexValue, levelValue, at, readingOf}
-use Rattle.spi_rules.proofs.Keeps.{clash, and-left, and-right}
 use Rattle.spi_script_rules.proofs.ScriptLines.{not-fits}
 
 pub fits-at : (form : List Place) (line : List ℕ) → fits form line ≡ true → (k : ℕ) → k < length form →

@@ -1,6 +1,6 @@
 // Reading a script: where it ends, where a line ends, and the call that a line asks for.
-use spi_rules::Call;
 use spi_script_rules::Line;
+use spi_types::Call;
 ghost use Prim.Native.Nat.{_+_, _≤_};
 ghost use mathlib.Core.Bool.{true};
 ghost use mathlib.Core.Path.{_≡_};

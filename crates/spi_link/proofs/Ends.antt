@@ -5,9 +5,9 @@ use Prim.Native.Nat.{ℕ}
 use mathlib.Core.Bool.{false}
 use mathlib.Core.List.{List}
 use mathlib.Core.Path.{_≡_, refl}
+use Rattle.laws.proofs.Keeps.{clash}
 use Rattle.spi_link_rules.specs.declared.LinkAnswer.{LinkAnswer}
 use Rattle.spi_link_rules.specs.declared.Linked.{Linked}
-use Rattle.spi_rules.proofs.Keeps.{clash}
 use Rattle.spi_link.specs.Wire.{linkedIn, isRefused, Links}
 
 module _ {l : Linked} {x : LinkAnswer} where

@@ -9,24 +9,24 @@ use mathlib.Core.Bool.{Bool, true, false, not, _&&_, _||_}
 use mathlib.Core.Path.{_≡_, refl, sym, ap, subst, _∙_}
 use native.Mathlib.Numerals.{unary-clauses}
 use borrow.Author.Tests.{not-false}
-use Rattle.spi_rules.specs.declared.Settings.{Settings}
-use Rattle.spi_rules.specs.declared.Engine.{Engine}
-use Rattle.spi_rules.specs.declared.Module.{Module}
-use Rattle.spi_rules.specs.declared.Outcome.{Outcome}
-use Rattle.spi_rules.specs.declared.Answer.the-variants.{NoEdge, Edge}
-use Rattle.spi_rules.specs.declared.Output.the-variants.{Low, High, Undriven}
-use Rattle.spi_link_rules.specs.declared.Run.{Run}
-use Rattle.spi_rules.specs.Choice.{if_then_else_}
+use Rattle.laws.specs.Choice.{if_then_else_}
+use Rattle.laws.proofs.Keeps.{if-true, if-false, clash, and-false, and-both, or-left, or-right}
+use Rattle.laws.proofs.Choices.{by-case}
+use Rattle.spi_types.specs.declared.Settings.{Settings}
+use Rattle.spi_types.specs.declared.Engine.{Engine}
+use Rattle.spi_types.specs.declared.Module.{Module}
+use Rattle.spi_types.specs.declared.Outcome.{Outcome}
+use Rattle.spi_types.specs.declared.Answer.the-variants.{NoEdge, Edge}
+use Rattle.spi_types.specs.declared.Output.the-variants.{Low, High, Undriven}
 use Rattle.spi_rules.specs.Settings.{framed, clockStops, ssenClient, ownClock}
 use Rattle.spi_rules.specs.Registers.{isFree}
 use Rattle.spi_rules.specs.Select.{deselected}
 use Rattle.spi_rules.specs.Edge.{levels, stepped}
 use Rattle.spi_rules.specs.Calls.{answering, tickOf, performOf, sckOf, undriven, sdoOf}
+use Rattle.spi_invariant.proofs.CallsWhen.{own-not-client, tick-is, pin-is, told-elsewhere, unframed-told}
+use Rattle.spi_invariant.proofs.Select.{stepped-select}
+use Rattle.spi_link_rules.specs.declared.Run.{Run}
 use Rattle.spi_link_rules.specs.Link.{levelRead, madeEdge, hostTicked, clientSees, runStops, clientTurn, handedOver, hostTurn, eitherDisabled, wrongRoles}
-use Rattle.spi_rules.proofs.Keeps.{if-true, if-false, clash, and-false, and-both, or-left, or-right}
-use Rattle.spi_rules.proofs.Choices.{by-case}
-use Rattle.spi_rules.proofs.CallsWhen.{own-not-client, tick-is, pin-is, told-elsewhere, unframed-told}
-use Rattle.spi_rules.proofs.OrderSelect.{stepped-select}
 use Rattle.spi_module.specs.Answered.{turned}
 use Rattle.spi_module.proofs.Edges.{own-turn}
 use Rattle.spi_link.specs.Wire.{openLevel, Linkable, Wired}

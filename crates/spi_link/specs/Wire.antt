@@ -3,12 +3,12 @@ use Prim.Native.Nat.{ℕ}
 use mathlib.Core.Bool.{Bool, true, false, not, _&&_}
 use mathlib.Core.List.{List}
 use mathlib.Core.Path.{_≡_}
-use Rattle.spi_rules.specs.declared.Module.{Module}
+use Rattle.spi_types.specs.declared.Module.{Module}
+use Rattle.spi_rules.specs.Settings.{framed, ownClock}
 use Rattle.spi_link_rules.specs.declared.Run.{Run}
 use Rattle.spi_link_rules.specs.declared.LinkAnswer.{LinkAnswer}
 use Rattle.spi_link_rules.specs.declared.LinkAnswer.the-variants.{Refused, Used}
 use Rattle.spi_link_rules.specs.declared.Linked.{Linked}
-use Rattle.spi_rules.specs.Settings.{framed, ownClock}
 use Rattle.spi_memory.specs.Memory.{moduleIn}
 
 -- The level of an SDO that is driven unless DISSDO is set.

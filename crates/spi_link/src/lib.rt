@@ -2,8 +2,8 @@
 // numbers and any limit are answered, and a refused run leaves every number as it was.
 use spi_link_rules::LinkAnswer;
 use spi_link_rules::LinkSaid;
-use spi_rules::Refusal;
-use spi_rules::Settings;
+use spi_types::Refusal;
+use spi_types::Settings;
 ghost use Prim.Native.Nat.{_-_, _≤_};
 ghost use mathlib.Core.Path.{_≡_};
 ghost use Rattle.spi_link_rules.specs.Link.{clientSees, hostTurn, clientTurn, eitherDisabled, wrongRoles, differentModes, linkedOf, linkSaidOf};

@@ -6,25 +6,26 @@ use mathlib.Core.List.{List, [], _∷_, _++_}
 use mathlib.Core.Path.{_≡_, refl, sym, subst, _∙_}
 use native.Mathlib.Omega.{arith}
 use lib.Dec.{lit≤}
-use Rattle.spi_rules.specs.declared.Module.{Module}
-use Rattle.spi_rules.specs.declared.Call.{Call}
-use Rattle.spi_rules.specs.declared.Refusal.{Refusal}
-use Rattle.spi_rules.specs.declared.Refusal.the-variants.{NoSuchRegister, Disabled, Enabled, TransmitFull, ReceiveEmpty, WrongClock, NoRate, UnreadableLine, DifferentModes, TooManyEdges, Undivided, LateSampling, UnselectedCke, Overflowed}
-use Rattle.spi_link_rules.specs.declared.LinkAnswer.{LinkAnswer}
-use Rattle.spi_link_rules.specs.declared.LinkAnswer.the-variants as linked
+use Rattle.spi_types.specs.declared.Module.{Module}
+use Rattle.spi_types.specs.declared.Call.{Call}
+use Rattle.spi_types.specs.declared.Refusal.{Refusal}
+use Rattle.spi_types.specs.declared.Refusal.the-variants.{NoSuchRegister, Disabled, Enabled, TransmitFull, ReceiveEmpty, WrongClock, NoRate, UnreadableLine, DifferentModes, TooManyEdges, Undivided, LateSampling, UnselectedCke, Overflowed}
 use Rattle.spi_rules.specs.Refusals.{numberOf}
 use Rattle.spi_rules.specs.Calls.{afterCalls}
 use Rattle.spi_rules.specs.Watch.{Watched, watchedCall, watchedCalls}
-use Rattle.spi_rules.specs.Demands.{begins, life, owed}
+use Rattle.spi_rules.specs.Lives.{begins, life}
+use Rattle.spi_rules.specs.Demands.{owed}
+use Rattle.spi_order.proofs.Order.{life-holds}
+use Rattle.spi_owed.proofs.Hold.{owed-is-held}
+use Rattle.spi_link_rules.specs.declared.LinkAnswer.{LinkAnswer}
 use Rattle.spi_link_rules.specs.Link.{linkedOf, linkSaidOf}
 use Rattle.spi_link_rules.specs.LinkDemands.{refusalOf, edgesUsed, LinkedRuns}
-use Rattle.spi_rules.proofs.LivesHold.{life-holds}
-use Rattle.spi_rules.proofs.OwedHold.{owed-is-held}
 use Rattle.spi_link_rules.proofs.LinkRuns.{link-when, link-refused-unchanged, link-calls, link-counts, link-within-limit}
 use Rattle.spi_link_rules.proofs.LinkIdle.{owed-most, host-on, link-uses-owed}
 use Rattle.spi_link_rules.proofs.LinkSelect.{link-selected}
 use Rattle.spi_link_rules.proofs.LinkRefusals.{link-refused-exactly}
 use Rattle.spi_link_rules.proofs.LinkExamplesHold.{link-examples-hold}
+use Rattle.spi_link_rules.specs.declared.LinkAnswer.the-variants as linked
 
 -- No refusal has the number 0.
 numbered : (r : Refusal) → 1 ≤ numberOf r

@@ -3,17 +3,18 @@
 -- Assumes nothing.
 use mathlib.Core.Bool.{true}
 use mathlib.Core.Path.{_≡_, refl}
+use Rattle.laws.specs.Choice.{if_then_else_}
+use Rattle.ring.specs.Ring.{next}
+use Rattle.word_order.specs.Bits.{bitOf}
 use Rattle.spi_rules.specs.Bits.{shiftedIn, receivedAfter, shownBit, sdoAfter, progressed}
 use Rattle.spi_rules.specs.Buffers.{emptyTransmit, emptyReceive, firstWaiting, firstUnread, written, departed, appended, taken, overrun}
 use Rattle.spi_rules.specs.Calls.{refuse, answering, poweredUp, wordTaken, readBuf, readOf, turnsOn, turnsOff, statWritten, writeStat, withCon1, withCon2, configured, wordWritten, writeBuf, writeOf, tickOf, pinsOf, clearOf, performOf, interruptOf, sckOf, undriven, sdoOf, ssOf}
-use Rattle.spi_rules.specs.Choice.{if_then_else_}
 use Rattle.spi_rules.specs.Edge.{begun, shifted, advanced, advancedIfBegun, awaitsPulse, underWay, pulseDue, pulseAfter, pulsed, clocked, edged, stepped}
 use Rattle.spi_rules.specs.Finish.{overflowed, wordAppended, isLost, delivered, sentDropped, freed, finished}
 use Rattle.spi_rules.specs.Interrupts.{raises, noted}
 use Rattle.spi_rules.specs.Loading.{wordLeaves, moved, canLoad, loaded, nextTop, sdoAt, rested}
 use Rattle.spi_rules.specs.Refusals.{numberOf}
-use Rattle.spi_rules.specs.Registers.{bitOf, weighed, con1From, con1Value, con2From, con2Value, spitbf, spirbf, srxmpt, srmpt, atMost7, spibec, statValue, statSettings, spirovAfter, statEngine, enabledEngine, disabledEngine}
-use Rattle.spi_rules.specs.Ring.{next}
+use Rattle.spi_rules.specs.Registers.{weighed, con1From, con1Value, con2From, con2Value, spitbf, spirbf, srxmpt, srmpt, atMost7, spibec, statValue, statSettings, spirovAfter, statEngine, enabledEngine, disabledEngine}
 use Rattle.spi_rules.specs.Select.{selectRemembered, aborted, selectSeen}
 use Rattle.spi_link_rules.specs.Link.{levelRead, madeEdge, hostTicked, clientSees, runStops, oneMore, clientTurn, handedOver, hostTurn, runOf, refuseLink, toldOf, linkedOf, linkSaidOf}
 use Rattle.spi_link_rules.specs.LinkExamples.{exampleL, linkExamples}

@@ -13,34 +13,34 @@ use native.Mathlib.Omega.{arith}
 use borrow.Author.Tests.{ltb-true, ltb-false, not-false}
 use lib.Dec.{ltb}
 use lib.ListN.{length}
-use Rattle.spi_rules.specs.declared.Settings.{Settings}
-use Rattle.spi_rules.specs.declared.Module.{Module}
-use Rattle.spi_rules.specs.declared.Outcome.{Outcome}
-use Rattle.spi_rules.specs.declared.Shift.{Shift}
-use Rattle.spi_rules.specs.declared.Shift.the-variants.{Free, Loaded, Begun}
-use Rattle.spi_rules.specs.declared.Answer.the-variants.{NoEdge}
-use Rattle.spi_rules.specs.declared.Call.{Call}
-use Rattle.spi_rules.specs.declared.Call.the-variants.{Tick}
-use Rattle.spi_link_rules.specs.declared.Run.{Run}
-use Rattle.spi_link_rules.specs.declared.LinkAnswer.the-variants as linked
-use Rattle.spi_link_rules.specs.declared.Linked.{Linked}
+use Rattle.laws.proofs.Keeps.{if-keeps, and-false, and-left, and-both, clash, or-left, or-right}
+use Rattle.spi_types.specs.declared.Settings.{Settings}
+use Rattle.spi_types.specs.declared.Module.{Module}
+use Rattle.spi_types.specs.declared.Outcome.{Outcome}
+use Rattle.spi_types.specs.declared.Shift.{Shift}
+use Rattle.spi_types.specs.declared.Shift.the-variants.{Free, Loaded, Begun}
+use Rattle.spi_types.specs.declared.Answer.the-variants.{NoEdge}
+use Rattle.spi_types.specs.declared.Call.{Call}
+use Rattle.spi_types.specs.declared.Call.the-variants.{Tick}
 use Rattle.spi_rules.specs.Settings.{widthOf, depthOf, enhancedDepth, framed, clockStops, ssenClient, ownClock, unframedHost}
 use Rattle.spi_rules.specs.Refusals.{isDone, isEdge}
 use Rattle.spi_rules.specs.Registers.{isFree}
 use Rattle.spi_rules.specs.Calls.{afterCalls, refuse, answering, tickOf, sdoOf, performOf}
-use Rattle.spi_link_rules.specs.Link.{mostEdges, levelRead, madeEdge, hostTicked, clientSees, runStops, oneMore, clientTurn, handedOver, hostTurn, runOf, toldOf, linkedOf}
-use Rattle.spi_link_rules.specs.LinkDemands.{hostCalls, runHostCalls}
 use Rattle.spi_rules.specs.Invariant.{ModuleHolds}
 use Rattle.spi_rules.specs.Words.{unfinished, leftBuffer, waitingIn}
 use Rattle.spi_rules.specs.Demands.{edgesMade, IsIdle}
-use Rattle.spi_rules.proofs.Keeps.{if-keeps, and-false, and-left, and-both, clash, or-left, or-right}
 use Rattle.spi_rules.proofs.Sizes.{width-most}
 use Rattle.spi_rules.proofs.BuffersOrder.{waiting-length}
 use Rattle.spi_rules.proofs.RefusalsUnchanged.{no-edge-unchanged}
-use Rattle.spi_rules.proofs.InvariantHolds.{call-keeps}
-use Rattle.spi_rules.proofs.OwedParts.{givenIn, owedIn, AllUndisturbing}
-use Rattle.spi_rules.proofs.OwedCalls.{calls-pay, calls-leave, none-owed-idle, no-edge-owes-none}
+use Rattle.spi_invariant.proofs.Holds.{call-keeps}
+use Rattle.spi_owed.proofs.Parts.{givenIn, owedIn, AllUndisturbing}
+use Rattle.spi_owed.proofs.Calls.{calls-pay, calls-leave, none-owed-idle, no-edge-owes-none}
+use Rattle.spi_link_rules.specs.declared.Run.{Run}
+use Rattle.spi_link_rules.specs.declared.Linked.{Linked}
+use Rattle.spi_link_rules.specs.Link.{mostEdges, levelRead, madeEdge, hostTicked, clientSees, runStops, oneMore, clientTurn, handedOver, hostTurn, runOf, toldOf, linkedOf}
+use Rattle.spi_link_rules.specs.LinkDemands.{hostCalls, runHostCalls}
 use Rattle.spi_link_rules.proofs.LinkRuns.{Allowed, link-when, link-is, run-host, run-counts, turn-within}
+use Rattle.spi_link_rules.specs.declared.LinkAnswer.the-variants as linked
 
 -- At most one word has left the transmit buffer and is not finished.
 pub one-unfinished : (s : Settings) (sh : Shift) → length (unfinished s sh) ≤ 1

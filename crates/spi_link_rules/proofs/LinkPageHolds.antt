@@ -11,30 +11,31 @@ use mir.Val.{boolByte}
 use borrow.Author.Tests.{eq-eqb}
 use lib.Dec.{eqb}
 use lib.ListN.{length}
-use Rattle.spi_rules.specs.declared.Module.{Module}
-use Rattle.spi_rules.specs.declared.Call.{Call}
-use Rattle.spi_rules.specs.declared.Call.the-variants.{Read, Write, Tick, Pin}
+use Rattle.laws.specs.Choice.{if_then_else_}
+use Rattle.laws.proofs.Keeps.{and-both}
+use Rattle.ring.specs.Ring.{next, contents}
+use Rattle.word_order.specs.Bits.{bitOf}
+use Rattle.word_order.specs.Ledger.{opened}
+use Rattle.spi_types.specs.declared.Module.{Module}
+use Rattle.spi_types.specs.declared.Call.{Call}
+use Rattle.spi_types.specs.declared.Call.the-variants.{Read, Write, Tick, Pin}
 use Rattle.spi_rules.specs.Bits.{shiftedIn, receivedAfter, shownBit, sdoAfter, progressed}
 use Rattle.spi_rules.specs.Buffers.{waiting, unread, emptyTransmit, emptyReceive, firstWaiting, firstUnread, written, departed, appended, taken, overrun}
 use Rattle.spi_rules.specs.Calls.{afterCalls, refuse, answering, poweredUp, wordTaken, readBuf, readOf, turnsOn, turnsOff, statWritten, writeStat, withCon1, withCon2, configured, wordWritten, writeBuf, writeOf, tickOf, pinsOf, clearOf, performOf, interruptOf, sckOf, undriven, sdoOf, ssOf}
-use Rattle.spi_rules.specs.Choice.{if_then_else_}
 use Rattle.spi_rules.specs.Edge.{begun, shifted, advanced, advancedIfBegun, awaitsPulse, underWay, pulseDue, pulseAfter, pulsed, clocked, edged, stepped}
 use Rattle.spi_rules.specs.Finish.{overflowed, wordAppended, isLost, delivered, sentDropped, freed, finished}
 use Rattle.spi_rules.specs.Interrupts.{raises, noted}
 use Rattle.spi_rules.specs.Loading.{wordLeaves, moved, canLoad, loaded, nextTop, sdoAt, rested}
 use Rattle.spi_rules.specs.Refusals.{numberOf, saidOf}
-use Rattle.spi_rules.specs.Registers.{bitOf, weighed, con1From, con1Value, con2From, con2Value, spitbf, spirbf, srxmpt, srmpt, atMost7, spibec, statValue, statSettings, spirovAfter, statEngine, enabledEngine, disabledEngine}
-use Rattle.spi_rules.specs.Ring.{next, contents}
+use Rattle.spi_rules.specs.Registers.{weighed, con1From, con1Value, con2From, con2Value, spitbf, spirbf, srxmpt, srmpt, atMost7, spibec, statValue, statSettings, spirovAfter, statEngine, enabledEngine, disabledEngine}
 use Rattle.spi_rules.specs.Select.{selectRemembered, aborted, selectSeen}
-use Rattle.spi_link_rules.specs.Link.{levelRead, madeEdge, hostTicked, clientSees, runStops, oneMore, clientTurn, handedOver, hostTurn, runOf, refuseLink, toldOf, linkedOf, linkSaidOf}
 use Rattle.spi_rules.specs.Words.{unreadIn, owedWords}
-use Rattle.spi_rules.specs.Ledger.{opened, acceptedNoted}
-use Rattle.spi_rules.specs.Watch.{entered, levelsNoted}
-use Rattle.spi_rules.specs.Demands.{edgesMade, powerUp, begins, life}
-use Rattle.spi_link_rules.specs.LinkDemands.{hostCalls, clientCalls, runHostCalls, runClientCalls, refusalOf, edgesUsed, LinkedRuns}
-use Rattle.spi_link_rules.specs.declared.Linked.{Linked}
-use Rattle.spi_rules.proofs.Keeps.{and-both}
+use Rattle.spi_rules.specs.Demands.{edgesMade}
+use Rattle.spi_rules.specs.Lives.{powerUp, begins, life}
 use Rattle.spi_rules.proofs.Claims.{numbers, sameNumbers, judge-exact}
+use Rattle.spi_link_rules.specs.declared.Linked.{Linked}
+use Rattle.spi_link_rules.specs.Link.{levelRead, madeEdge, hostTicked, clientSees, runStops, oneMore, clientTurn, handedOver, hostTurn, runOf, refuseLink, toldOf, linkedOf, linkSaidOf}
+use Rattle.spi_link_rules.specs.LinkDemands.{hostCalls, clientCalls, runHostCalls, runClientCalls, refusalOf, edgesUsed, LinkedRuns}
 use Rattle.spi_link_rules.proofs.LinkDemandsHold.{life-goes-on}
 
 -- What a module shows: its registers, levels and flag, and its words.
@@ -90,5 +91,5 @@ runs-hold :
     × Runs (ready 32 165 []) (ready 2048 60 []) 16 16
     × Runs (ready 1376 42405 []) (ready 1472 33023 []) 288 32
     × Runs (ready 32 165 (Tick true false ∷ Tick true false ∷ [])) (ready 0 60 (Pin true true false ∷ [])) 5 5
-unfolding shiftedIn receivedAfter shownBit sdoAfter progressed emptyTransmit emptyReceive firstWaiting firstUnread written departed appended taken overrun refuse answering poweredUp wordTaken readBuf readOf turnsOn turnsOff statWritten writeStat withCon1 withCon2 configured wordWritten writeBuf writeOf tickOf pinsOf clearOf performOf interruptOf sckOf undriven sdoOf ssOf if_then_else_ begun shifted advanced advancedIfBegun awaitsPulse underWay pulseDue pulseAfter pulsed clocked edged stepped overflowed wordAppended isLost delivered sentDropped freed finished raises noted wordLeaves moved canLoad loaded nextTop sdoAt rested numberOf bitOf weighed con1From con1Value con2From con2Value spitbf spirbf srxmpt srmpt atMost7 spibec statValue statSettings spirovAfter statEngine enabledEngine disabledEngine next selectRemembered aborted selectSeen levelRead madeEdge hostTicked clientSees runStops oneMore clientTurn handedOver hostTurn runOf refuseLink toldOf linkedOf linkSaidOf hostCalls clientCalls runHostCalls runClientCalls shows judged runs waiting unread contents opened entered levelsNoted acceptedNoted
+unfolding shiftedIn receivedAfter shownBit sdoAfter progressed emptyTransmit emptyReceive firstWaiting firstUnread written departed appended taken overrun refuse answering poweredUp wordTaken readBuf readOf turnsOn turnsOff statWritten writeStat withCon1 withCon2 configured wordWritten writeBuf writeOf tickOf pinsOf clearOf performOf interruptOf sckOf undriven sdoOf ssOf if_then_else_ begun shifted advanced advancedIfBegun awaitsPulse underWay pulseDue pulseAfter pulsed clocked edged stepped overflowed wordAppended isLost delivered sentDropped freed finished raises noted wordLeaves moved canLoad loaded nextTop sdoAt rested numberOf bitOf weighed con1From con1Value con2From con2Value spitbf spirbf srxmpt srmpt atMost7 spibec statValue statSettings spirovAfter statEngine enabledEngine disabledEngine next selectRemembered aborted selectSeen levelRead madeEdge hostTicked clientSees runStops oneMore clientTurn handedOver hostTurn runOf refuseLink toldOf linkedOf linkSaidOf hostCalls clientCalls runHostCalls runClientCalls shows judged runs waiting unread contents opened
 runs-hold = (refl, refl, refl, refl, refl)

@@ -5,11 +5,11 @@ use Prim.Native.Nat.{ℕ}
 use mathlib.Core.Bool.{Bool, true, false, not, _||_, Bool·beq}
 use mathlib.Core.Path.{_≡_, refl, ap, _∙_}
 use lib.Dec.{eqb, ltb}
-use Rattle.spi_rules.specs.declared.Module.{Module}
-use Rattle.spi_rules.specs.Choice.{if_then_else_}
+use Rattle.laws.specs.Choice.{if_then_else_}
+use Rattle.laws.proofs.Keeps.{if-ap}
+use Rattle.spi_types.specs.declared.Module.{Module}
 use Rattle.spi_rules.specs.Refusals.{numberOf}
 use Rattle.spi_rules.specs.RefusalTable.{firstNumber}
-use Rattle.spi_rules.proofs.Keeps.{if-ap}
 use Rattle.spi_link_rules.specs.declared.Linked.{Linked}
 use Rattle.spi_link_rules.specs.Link.{eitherDisabled, wrongRoles, differentModes, refuseLink, toldOf, linkedOf, linkSaidOf}
 use Rattle.spi_link_rules.specs.LinkDemands.{linkRows}

@@ -12,26 +12,26 @@ use mathlib.Core.List.{List, []}
 use mathlib.Core.Path.{_≡_, refl, sym, ap, subst, _∙_}
 use native.Mathlib.Omega.{arith}
 use lib.Dec.{ltb}
-use Rattle.spi_rules.specs.declared.Module.{Module}
-use Rattle.spi_rules.specs.declared.Outcome.{Outcome}
-use Rattle.spi_rules.specs.declared.Refusal.{Refusal}
-use Rattle.spi_rules.specs.declared.Refusal.the-variants.{Disabled, WrongClock, DifferentModes, TooManyEdges}
-use Rattle.spi_rules.specs.declared.Answer.{Answer}
-use Rattle.spi_rules.specs.declared.Answer.the-variants.{Refused, Done, Value, NoEdge, Edge}
-use Rattle.spi_rules.specs.declared.Call.{Call}
-use Rattle.spi_link_rules.specs.declared.Run.{Run}
-use Rattle.spi_link_rules.specs.declared.LinkAnswer.{LinkAnswer}
-use Rattle.spi_link_rules.specs.declared.LinkAnswer.the-variants as linked
-use Rattle.spi_link_rules.specs.declared.Linked.{Linked}
-use Rattle.spi_rules.specs.Choice.{if_then_else_}
+use Rattle.laws.specs.Choice.{if_then_else_}
+use Rattle.laws.proofs.Keeps.{if-keeps, if-false, clash}
+use Rattle.spi_types.specs.declared.Module.{Module}
+use Rattle.spi_types.specs.declared.Outcome.{Outcome}
+use Rattle.spi_types.specs.declared.Refusal.{Refusal}
+use Rattle.spi_types.specs.declared.Refusal.the-variants.{Disabled, WrongClock, DifferentModes, TooManyEdges}
+use Rattle.spi_types.specs.declared.Answer.{Answer}
+use Rattle.spi_types.specs.declared.Answer.the-variants.{Refused, Done, Value, NoEdge, Edge}
+use Rattle.spi_types.specs.declared.Call.{Call}
 use Rattle.spi_rules.specs.Calls.{afterCalls, performOf}
-use Rattle.spi_link_rules.specs.Link.{mostEdges, levelRead, madeEdge, hostTicked, clientSees, runStops, oneMore, clientTurn, handedOver, hostTurn, runOf, eitherDisabled, wrongRoles, differentModes, refuseLink, toldOf, linkedOf}
-use Rattle.spi_link_rules.specs.LinkDemands.{hostCalls, clientCalls, runHostCalls, runClientCalls}
 use Rattle.spi_rules.specs.Invariant.{ModuleHolds}
 use Rattle.spi_rules.specs.Refusals.{saidOf, isEdge}
 use Rattle.spi_rules.specs.Demands.{edgesMade}
-use Rattle.spi_rules.proofs.Keeps.{if-keeps, if-false, clash}
-use Rattle.spi_rules.proofs.InvariantHolds.{calls-keep}
+use Rattle.spi_invariant.proofs.Holds.{calls-keep}
+use Rattle.spi_link_rules.specs.declared.Run.{Run}
+use Rattle.spi_link_rules.specs.declared.LinkAnswer.{LinkAnswer}
+use Rattle.spi_link_rules.specs.declared.Linked.{Linked}
+use Rattle.spi_link_rules.specs.Link.{mostEdges, levelRead, madeEdge, hostTicked, clientSees, runStops, oneMore, clientTurn, handedOver, hostTurn, runOf, eitherDisabled, wrongRoles, differentModes, refuseLink, toldOf, linkedOf}
+use Rattle.spi_link_rules.specs.LinkDemands.{hostCalls, clientCalls, runHostCalls, runClientCalls}
+use Rattle.spi_link_rules.specs.declared.LinkAnswer.the-variants as linked
 
 -- An answer that tells of edges is no refusal.
 abbrev tellsEdges : LinkAnswer → Bool

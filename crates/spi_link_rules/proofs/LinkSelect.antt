@@ -3,21 +3,21 @@
 -- Assumes nothing.
 use Prim.Native.Nat.{ℕ, zero, suc}
 use mathlib.Core.Bool.{Bool, true, false, not, _&&_, _||_}
-use mathlib.Core.Path.{_≡_, refl, ap, _∙_}
+use mathlib.Core.Path.{_≡_, ap, _∙_}
 use borrow.Author.Tests.{not-false}
-use Rattle.spi_rules.specs.declared.Module.{Module}
-use Rattle.spi_rules.specs.declared.Outcome.{Outcome}
-use Rattle.spi_link_rules.specs.declared.Run.{Run}
-use Rattle.spi_link_rules.specs.declared.LinkAnswer.the-variants as linked
-use Rattle.spi_link_rules.specs.declared.Linked.{Linked}
+use Rattle.laws.proofs.Keeps.{if-keeps, or-left, or-right}
+use Rattle.spi_types.specs.declared.Module.{Module}
+use Rattle.spi_types.specs.declared.Outcome.{Outcome}
 use Rattle.spi_rules.specs.Settings.{framed, ownClock}
 use Rattle.spi_rules.specs.Edge.{levels, stepped}
 use Rattle.spi_rules.specs.Calls.{answering, pinsOf, sckOf, sdoOf, performOf}
+use Rattle.spi_invariant.proofs.Select.{stepped-select}
+use Rattle.spi_invariant.proofs.CallsWhen.{pin-is}
+use Rattle.spi_link_rules.specs.declared.Run.{Run}
+use Rattle.spi_link_rules.specs.declared.Linked.{Linked}
 use Rattle.spi_link_rules.specs.Link.{levelRead, madeEdge, hostTicked, clientSees, runStops, oneMore, clientTurn, handedOver, hostTurn, runOf, toldOf, linkedOf}
-use Rattle.spi_rules.proofs.Keeps.{if-keeps, or-left, or-right}
-use Rattle.spi_rules.proofs.OrderSelect.{stepped-select}
-use Rattle.spi_rules.proofs.CallsWhen.{pin-is}
 use Rattle.spi_link_rules.proofs.LinkRuns.{Allowed, link-when, link-is}
+use Rattle.spi_link_rules.specs.declared.LinkAnswer.the-variants as linked
 
 -- An enabled module clocked from its pin, with its select low.
 record Selected (m : Module) : Type 0 where

@@ -2,24 +2,24 @@
 use Prim.Native.Nat.{ℕ, zero, suc, _+_, _*_}
 use mathlib.Core.Bool.{Bool, true, false, not, _||_, Bool·beq}
 use lib.Dec.{eqb, ltb}
-use Rattle.spi_rules.specs.declared.Settings.{Settings}
-use Rattle.spi_rules.specs.declared.Module.{Module}
-use Rattle.spi_rules.specs.declared.Outcome.{Outcome}
-use Rattle.spi_rules.specs.declared.Refusal.{Refusal}
-use Rattle.spi_rules.specs.declared.Refusal.the-variants.{Disabled, WrongClock, DifferentModes, TooManyEdges}
-use Rattle.spi_rules.specs.declared.Answer.{Answer}
-use Rattle.spi_rules.specs.declared.Answer.the-variants.{Refused, Done, Value, NoEdge, Edge}
-use Rattle.spi_rules.specs.declared.Output.{Output}
-use Rattle.spi_rules.specs.declared.Output.the-variants.{Low, High, Undriven}
-use Rattle.spi_link_rules.specs.declared.Run.{Run}
-use Rattle.spi_link_rules.specs.declared.LinkAnswer.{LinkAnswer}
-use Rattle.spi_link_rules.specs.declared.LinkAnswer.the-variants as linked
-use Rattle.spi_link_rules.specs.declared.LinkSaid.{LinkSaid}
-use Rattle.spi_link_rules.specs.declared.Linked.{Linked}
-use Rattle.spi_rules.specs.Choice.{if_then_else_}
+use Rattle.laws.specs.Choice.{if_then_else_}
+use Rattle.spi_types.specs.declared.Settings.{Settings}
+use Rattle.spi_types.specs.declared.Module.{Module}
+use Rattle.spi_types.specs.declared.Outcome.{Outcome}
+use Rattle.spi_types.specs.declared.Refusal.{Refusal}
+use Rattle.spi_types.specs.declared.Refusal.the-variants.{Disabled, WrongClock, DifferentModes, TooManyEdges}
+use Rattle.spi_types.specs.declared.Answer.{Answer}
+use Rattle.spi_types.specs.declared.Answer.the-variants.{Refused, Done, Value, NoEdge, Edge}
+use Rattle.spi_types.specs.declared.Output.{Output}
+use Rattle.spi_types.specs.declared.Output.the-variants.{Low, High, Undriven}
 use Rattle.spi_rules.specs.Settings.{widthOf, enhancedDepth, framed, ownClock}
 use Rattle.spi_rules.specs.Refusals.{numberOf}
 use Rattle.spi_rules.specs.Calls.{tickOf, pinsOf, sckOf, sdoOf}
+use Rattle.spi_link_rules.specs.declared.Run.{Run}
+use Rattle.spi_link_rules.specs.declared.LinkAnswer.{LinkAnswer}
+use Rattle.spi_link_rules.specs.declared.LinkSaid.{LinkSaid}
+use Rattle.spi_link_rules.specs.declared.Linked.{Linked}
+use Rattle.spi_link_rules.specs.declared.LinkAnswer.the-variants as linked
 
 -- The most edges that one host can still owe, and that a run may be asked for: two for each of 16 bits, for every word of
 -- a full buffer and the one in the shift register.

@@ -5,18 +5,19 @@ use mathlib.Core.Bool.{Bool, true, false, not, _||_, Bool·beq}
 use mathlib.Core.List.{List, [], _∷_, _++_}
 use mathlib.Core.Path.{_≡_}
 use lib.Dec.{ltb}
-use Rattle.spi_rules.specs.declared.Module.{Module}
-use Rattle.spi_rules.specs.declared.Outcome.{Outcome}
-use Rattle.spi_rules.specs.declared.Output.{Output}
-use Rattle.spi_rules.specs.declared.Output.the-variants.{Low, High, Undriven}
-use Rattle.spi_rules.specs.declared.Call.{Call}
-use Rattle.spi_rules.specs.declared.Call.the-variants.{Tick, Pin}
-use Rattle.spi_rules.specs.Choice.{if_then_else_}
+use Rattle.laws.specs.Choice.{if_then_else_}
+use Rattle.spi_types.specs.declared.Module.{Module}
+use Rattle.spi_types.specs.declared.Outcome.{Outcome}
+use Rattle.spi_types.specs.declared.Output.{Output}
+use Rattle.spi_types.specs.declared.Output.the-variants.{Low, High, Undriven}
+use Rattle.spi_types.specs.declared.Call.{Call}
+use Rattle.spi_types.specs.declared.Call.the-variants.{Tick, Pin}
 use Rattle.spi_rules.specs.InBits.{clocksItself}
 use Rattle.spi_rules.specs.Refusals.{isEdge}
 use Rattle.spi_rules.specs.RefusalTable.{Row, row, firstNumber}
 use Rattle.spi_rules.specs.Calls.{performOf, sckOf, sdoOf}
-use Rattle.spi_rules.specs.Demands.{Beginning, life, owed, edgesMade, IsIdle}
+use Rattle.spi_rules.specs.Lives.{Beginning, life}
+use Rattle.spi_rules.specs.Demands.{owed, edgesMade, IsIdle}
 use Rattle.spi_link_rules.specs.declared.Linked.{Linked}
 use Rattle.spi_link_rules.specs.Link.{linkedOf, linkSaidOf}
 use Rattle.spi_link_rules.specs.LinkExamples.{exampleL, linkExamples}

@@ -5,9 +5,9 @@ use mathlib.Core.Bool.{Bool, true, false, _&&_}
 use mathlib.Core.List.{List, [], _∷_, _++_}
 use lib.Dec.{eqb}
 use lib.ListN.{replicate}
-use Rattle.spi_rules.specs.declared.Module.{Module}
-use Rattle.spi_rules.specs.declared.Call.the-variants.{Read, Write, Tick}
-use Rattle.spi_rules.specs.declared.Output.the-variants.{Low}
+use Rattle.spi_types.specs.declared.Module.{Module}
+use Rattle.spi_types.specs.declared.Call.the-variants.{Read, Write, Tick}
+use Rattle.spi_types.specs.declared.Output.the-variants.{Low}
 use Rattle.spi_rules.specs.Calls.{poweredUp}
 use Rattle.spi_rules.specs.Examples.{Step, says, shows, ok, value, noEdge, edge, refused, allHold, afterSteps, set-up}
 use Rattle.spi_link_rules.specs.declared.LinkSaid.{LinkSaid}

@@ -1,7 +1,7 @@
 // The vocabulary of document 01, "Two modules on one wire". Its rules are the definitions in specs/, and what follows from
 // them is in proofs/.
-use spi_rules::Module;
-use spi_rules::Refusal;
+use spi_types::Module;
+use spi_types::Refusal;
 
 // What a linked run comes to: the edges that the host made, and both modules after it.
 pub struct Run {

@@ -10,12 +10,12 @@ use mathlib.Core.Path.{_≡_, refl, sym, _∙_, ap}
 use native.Mathlib.Omega.{arith}
 use borrow.Author.Tests.{lt-ltb, ne-eqb}
 use lib.Dec.{eqb, ltb}
-use Rattle.spi_rules.specs.declared.Progress.{Progress}
-use Rattle.spi_rules.specs.declared.Shift.the-variants.{Free, Loaded, Begun}
-use Rattle.spi_rules.specs.Choice.{if_then_else_}
+use Rattle.laws.specs.Choice.{if_then_else_}
+use Rattle.laws.proofs.Keeps.{if-false, clash}
+use Rattle.spi_types.specs.declared.Progress.{Progress}
+use Rattle.spi_types.specs.declared.Shift.the-variants.{Free, Loaded, Begun}
 use Rattle.spi_rules.specs.Registers.{isFree}
 use Rattle.spi_rules.specs.Loading.{isBegun}
-use Rattle.spi_rules.proofs.Keeps.{if-false, clash}
 use Rattle.spi_memory.specs.Memory.{bitIn, placeIn, progressAt, engineIn, wentOn}
 
 free : (a b : Bool) (word : ℕ) (p : Progress) → a ≡ isFree (if a then Free else if b then Loaded word else Begun p)

@@ -9,10 +9,11 @@ use native.Mathlib.Omega.{arith}
 use mir.Val.{boolByte}
 use lib.Arith.{digits-mod}
 use lib.Dec.{eqb}
-use Rattle.spi_rules.specs.declared.Con1.{Con1}
-use Rattle.spi_rules.specs.declared.Con2.{Con2}
-use Rattle.spi_rules.specs.Choice.{if_then_else_}
-use Rattle.spi_rules.specs.Registers.{bitOf, weighed, con1From, con1Value, con2From, con2Value}
+use Rattle.laws.specs.Choice.{if_then_else_}
+use Rattle.word_order.specs.Bits.{bitOf}
+use Rattle.spi_types.specs.declared.Con1.{Con1}
+use Rattle.spi_types.specs.declared.Con2.{Con2}
+use Rattle.spi_rules.specs.Registers.{weighed, con1From, con1Value, con2From, con2Value}
 use Rattle.spi_rules.proofs.Sizes.{bit-most}
 
 -- A bit adds its weight once or not at all.

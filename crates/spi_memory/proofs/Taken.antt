@@ -8,9 +8,9 @@
 use Prim.Native.Nat.{ℕ}
 use mathlib.Core.List.{List}
 use mathlib.Core.Path.{_≡_, refl, _∙_, ap}
-use Rattle.spi_rules.specs.declared.Settings.{Settings}
-use Rattle.spi_rules.specs.declared.Engine.{Engine}
-use Rattle.spi_rules.specs.declared.Module.{Module}
+use Rattle.spi_types.specs.declared.Settings.{Settings}
+use Rattle.spi_types.specs.declared.Engine.{Engine}
+use Rattle.spi_types.specs.declared.Module.{Module}
 use Rattle.spi_memory.specs.Memory.{settingsIn, engineIn, moduleIn, Steps, Sets}
 
 infixl 5 _then_

@@ -6,19 +6,20 @@ use mathlib.Core.List.{List, [], _∷_}
 use mathlib.Core.Path.{_≡_}
 use lib.Dec.{eqb}
 use lib.ListN.{getD}
-use Rattle.spi_rules.specs.declared.Con1.{Con1}
-use Rattle.spi_rules.specs.declared.Settings.{Settings}
-use Rattle.spi_rules.specs.declared.Transmit.{Transmit}
-use Rattle.spi_rules.specs.declared.Receive.{Receive}
-use Rattle.spi_rules.specs.declared.Progress.{Progress}
-use Rattle.spi_rules.specs.declared.Shift.{Shift}
-use Rattle.spi_rules.specs.declared.Pins.{Pins}
-use Rattle.spi_rules.specs.declared.Engine.{Engine}
-use Rattle.spi_rules.specs.declared.Module.{Module}
-use Rattle.spi_rules.specs.declared.Shift.the-variants.{Free, Loaded, Begun}
-use Rattle.spi_rules.specs.Choice.{if_then_else_}
+use Rattle.laws.specs.Choice.{if_then_else_}
+use Rattle.word_order.specs.Bits.{bitOf}
+use Rattle.spi_types.specs.declared.Con1.{Con1}
+use Rattle.spi_types.specs.declared.Settings.{Settings}
+use Rattle.spi_types.specs.declared.Transmit.{Transmit}
+use Rattle.spi_types.specs.declared.Receive.{Receive}
+use Rattle.spi_types.specs.declared.Progress.{Progress}
+use Rattle.spi_types.specs.declared.Shift.{Shift}
+use Rattle.spi_types.specs.declared.Pins.{Pins}
+use Rattle.spi_types.specs.declared.Engine.{Engine}
+use Rattle.spi_types.specs.declared.Module.{Module}
+use Rattle.spi_types.specs.declared.Shift.the-variants.{Free, Loaded, Begun}
 use Rattle.spi_rules.specs.Changes.{withReceive, withShift}
-use Rattle.spi_rules.specs.Registers.{bitOf, con1From, con2From}
+use Rattle.spi_rules.specs.Registers.{con1From, con2From}
 
 -- A bit and a byte in a number.
 unfoldable pub bitIn : ℕ → Bool

@@ -1,28 +1,28 @@
 // A module in memory: 96 numbers of 16 bits that a caller holds. Any numbers are read as some module. A look reads a part,
 // and a store puts a part into memory and leaves all else in it.
-use spi_rules::Con1;
-use spi_rules::Con2;
-use spi_rules::CpuRead;
-use spi_rules::CpuWrite;
-use spi_rules::Engine;
-use spi_rules::Module;
-use spi_rules::Pins;
-use spi_rules::Progress;
-use spi_rules::Receive;
-use spi_rules::Settings;
-use spi_rules::Shift;
-use spi_rules::SpiRead;
-use spi_rules::SpiWrite;
-use spi_rules::Transmit;
+use spi_types::Con1;
+use spi_types::Con2;
+use spi_types::CpuRead;
+use spi_types::CpuWrite;
+use spi_types::Engine;
+use spi_types::Module;
+use spi_types::Pins;
+use spi_types::Progress;
+use spi_types::Receive;
+use spi_types::Settings;
+use spi_types::Shift;
+use spi_types::SpiRead;
+use spi_types::SpiWrite;
+use spi_types::Transmit;
 ghost use Prim.Native.Nat.{_+_, _≤_};
 ghost use mathlib.Core.Bool.{true};
 ghost use mathlib.Core.Path.{_≡_};
 ghost use lib.ListN.{length};
+ghost use Rattle.spi_types.specs.declared.Shift.the-variants.{Free, Loaded, Begun};
 ghost use Rattle.spi_rules.specs.Changes.{withTransmit, withReceive, withShift, withSck, withSs, withSdo, withPulse, withSpirov, withInterrupt};
 ghost use Rattle.spi_rules.specs.Registers.{con1From, con2From, isFree, statSettings};
 ghost use Rattle.spi_rules.specs.Loading.{isBegun};
 ghost use Rattle.spi_rules.specs.Calls.{poweredUp, withCon1, withCon2};
-ghost use Rattle.spi_rules.specs.declared.Shift.the-variants.{Free, Loaded, Begun};
 ghost use Rattle.spi_memory.specs.Memory.{bitIn, byteIn, placeIn, from, wordsAt, progressAt, settingsIn, engineIn, moduleIn, goneOn, withMark, Steps, Sets};
 ghost use Rattle.spi_memory.specs.Writes.{writes, wordsWritten};
 

@@ -8,12 +8,12 @@ use Prim.Native.Nat.{ℕ}
 use mathlib.Core.Bool.{false}
 use mathlib.Core.List.{List}
 use mathlib.Core.Path.{_≡_, refl, _∙_}
-use Rattle.spi_rules.specs.declared.Settings.{Settings}
-use Rattle.spi_rules.specs.declared.Engine.{Engine}
-use Rattle.spi_rules.specs.declared.Outcome.{Outcome}
-use Rattle.spi_rules.specs.declared.Answer.{Answer}
+use Rattle.laws.proofs.Keeps.{clash}
+use Rattle.spi_types.specs.declared.Settings.{Settings}
+use Rattle.spi_types.specs.declared.Engine.{Engine}
+use Rattle.spi_types.specs.declared.Outcome.{Outcome}
+use Rattle.spi_types.specs.declared.Answer.{Answer}
 use Rattle.spi_rules.specs.Calls.{answering}
-use Rattle.spi_rules.proofs.Keeps.{clash}
 use Rattle.spi_memory.specs.Memory.{settingsIn, engineIn, moduleIn, Steps, Sets}
 use Rattle.spi_module.specs.Answered.{outcomeIn, untouching, Answers}
 

@@ -18,13 +18,15 @@
 use Prim.Native.Nat.{ℕ, _+_}
 use mathlib.Core.Bool.{Bool, true, false, not, _&&_, _||_, Bool·beq}
 use mathlib.Core.Path.{_≡_, refl, sym, ap, _∙_}
-use Rattle.spi_rules.specs.declared.Settings.{Settings}
-use Rattle.spi_rules.specs.declared.Progress.{Progress}
-use Rattle.spi_rules.specs.declared.Shift.{Shift}
-use Rattle.spi_rules.specs.declared.Shift.the-variants.{Free, Loaded, Begun}
-use Rattle.spi_rules.specs.declared.Engine.{Engine}
-use Rattle.spi_rules.specs.declared.Module.{Module}
-use Rattle.spi_rules.specs.Choice.{if_then_else_}
+use Rattle.laws.specs.Choice.{if_then_else_}
+use Rattle.laws.proofs.Keeps.{if-keeps, if-ap, if-true, if-false, and-first, or-left, or-right, or-rest, clash, like}
+use Rattle.laws.proofs.Choices.{so, not-so, by-case}
+use Rattle.spi_types.specs.declared.Settings.{Settings}
+use Rattle.spi_types.specs.declared.Progress.{Progress}
+use Rattle.spi_types.specs.declared.Shift.{Shift}
+use Rattle.spi_types.specs.declared.Shift.the-variants.{Free, Loaded, Begun}
+use Rattle.spi_types.specs.declared.Engine.{Engine}
+use Rattle.spi_types.specs.declared.Module.{Module}
 use Rattle.spi_rules.specs.Changes.{withSck, withSdo, withPulse, withShift}
 use Rattle.spi_rules.specs.Settings.{framed, frameClient, ckeOf, ssenClient, ownClock}
 use Rattle.spi_rules.specs.Bits.{samples, shiftedIn, receivedAfter, shownBit, sdoAfter, progressed}
@@ -32,11 +34,9 @@ use Rattle.spi_rules.specs.Loading.{isBegun}
 use Rattle.spi_rules.specs.Select.{deselected, selectRemembered, selectSeen}
 use Rattle.spi_rules.specs.Edge.{begun, awaitsPulse, underWay, shifted, advanced, advancedIfBegun, pulseAfter, pulsed, clocked, edged, levels, stepped}
 use Rattle.spi_rules.specs.Calls.{toldSelect}
-use Rattle.spi_rules.proofs.Keeps.{if-keeps, if-ap, if-true, if-false, and-first, or-left, or-right, or-rest, clash, like}
-use Rattle.spi_rules.proofs.Choices.{so, not-so, by-case}
-use Rattle.spi_rules.proofs.CallsWhen.{told-elsewhere, unframed-told, unpulsed, told-edge, own-edge}
-use Rattle.spi_rules.proofs.InvariantEdge.{selected-sck}
-use Rattle.spi_rules.proofs.OrderSelect.{seen-select}
+use Rattle.spi_invariant.proofs.CallsWhen.{told-elsewhere, unframed-told, unpulsed, told-edge, own-edge}
+use Rattle.spi_invariant.proofs.Edge.{selected-sck}
+use Rattle.spi_invariant.proofs.Select.{seen-select}
 use Rattle.spi_memory.specs.Memory.{wentOn, goneOn}
 use Rattle.spi_module.specs.Answered.{edgeAdvanced, edgeCounted, turned}
 

@@ -1,15 +1,16 @@
 // One SPI module in memory: its calls, each on the parts that it changes. Any numbers are answered. A refused call, and a
 // tick that makes no edge, leave every number as it was.
-use spi_rules::Answer;
-use spi_rules::Call;
-use spi_rules::Output;
-use spi_rules::Progress;
-use spi_rules::Refusal;
-use spi_rules::Settings;
-use spi_rules::Shift;
+use spi_types::Answer;
+use spi_types::Call;
+use spi_types::Output;
+use spi_types::Progress;
+use spi_types::Refusal;
+use spi_types::Settings;
+use spi_types::Shift;
 ghost use mathlib.Core.Bool.{true, false, _||_, Bool·beq};
 ghost use mathlib.Core.Path.{_≡_};
-ghost use Rattle.spi_rules.specs.Choice.{if_then_else_};
+ghost use Rattle.laws.specs.Choice.{if_then_else_};
+ghost use Rattle.spi_types.specs.declared.Shift.the-variants.{Free, Loaded};
 ghost use Rattle.spi_rules.specs.Changes.{withPulse};
 ghost use Rattle.spi_rules.specs.Settings.{framed, frameClient, ckeOf, ssenClient};
 ghost use Rattle.spi_rules.specs.Registers.{con1From, con2From, statValue};
@@ -17,7 +18,6 @@ ghost use Rattle.spi_rules.specs.Loading.{isBegun};
 ghost use Rattle.spi_rules.specs.Select.{deselected, selectRemembered, selectSeen};
 ghost use Rattle.spi_rules.specs.Edge.{fresh, advanced, advancedIfBegun, awaitsPulse, pulseDue, pulseAfter, levels, stepped};
 ghost use Rattle.spi_rules.specs.Calls.{readBuf, readOf, statWritten, writeStat, withCon1, withCon2, configured, writeBuf, writeOf, tickOf, pinsOf, clearOf, performOf, sdoOf, ssOf};
-ghost use Rattle.spi_rules.specs.declared.Shift.the-variants.{Free, Loaded};
 ghost use Rattle.spi_memory.specs.Memory.{settingsIn, engineIn, moduleIn, Steps};
 ghost use Rattle.spi_module.specs.Answered.{Answers, edgeAdvanced, edgeCounted, turned};
 

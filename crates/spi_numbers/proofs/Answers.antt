@@ -8,9 +8,9 @@ use mathlib.Core.List.{List, [], _∷_}
 use mathlib.Core.Path.{_≡_, refl, sym, _∙_, ap}
 use native.Mathlib.Nat.{zero-add}
 use lib.Ieee.{Float}
-use Rattle.spi_rules.specs.declared.Answer.{Answer}
-use Rattle.spi_rules.specs.declared.Outcome.{Outcome}
-use Rattle.spi_rules.proofs.Choices.{so-eq, not-so-eq}
+use Rattle.laws.proofs.Choices.{so-eq, not-so-eq}
+use Rattle.spi_types.specs.declared.Answer.{Answer}
+use Rattle.spi_types.specs.declared.Outcome.{Outcome}
 use Rattle.spi_link_rules.specs.declared.LinkAnswer.{LinkAnswer}
 use Rattle.spi_link_rules.specs.declared.Linked.{Linked}
 use Rattle.spi_clock_rules.specs.declared.ClockSaid.{ClockSaid}

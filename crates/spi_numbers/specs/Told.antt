@@ -5,12 +5,12 @@ use mathlib.Core.List.{List, [], _∷_}
 use mathlib.Core.Path.{_≡_}
 use lib.Dec.{eqb}
 use lib.Ieee.{Float}
-use Rattle.spi_rules.specs.declared.Module.{Module}
-use Rattle.spi_rules.specs.declared.Answer.{Answer}
-use Rattle.spi_rules.specs.declared.Outcome.{Outcome}
-use Rattle.spi_rules.specs.declared.Output.{Output}
-use Rattle.spi_rules.specs.declared.Output.the-variants.{Low, High, Undriven}
-use Rattle.spi_rules.specs.Choice.{if_then_else_}
+use Rattle.laws.specs.Choice.{if_then_else_}
+use Rattle.spi_types.specs.declared.Module.{Module}
+use Rattle.spi_types.specs.declared.Answer.{Answer}
+use Rattle.spi_types.specs.declared.Outcome.{Outcome}
+use Rattle.spi_types.specs.declared.Output.{Output}
+use Rattle.spi_types.specs.declared.Output.the-variants.{Low, High, Undriven}
 use Rattle.spi_rules.specs.Refusals.{saidOf}
 use Rattle.spi_rules.specs.Calls.{interruptOf, sckOf, sdoOf, ssOf}
 use Rattle.spi_link_rules.specs.declared.LinkAnswer.{LinkAnswer}

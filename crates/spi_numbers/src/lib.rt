@@ -1,10 +1,10 @@
 // The calls of modules in memory, each answered by one number.
 use spi_link_rules::LinkAnswer;
-use spi_rules::Answer;
-use spi_rules::Output;
+use spi_types::Answer;
+use spi_types::Output;
 ghost use Prim.Native.Nat.{_≤_};
 ghost use mathlib.Core.Path.{_≡_};
-ghost use Rattle.spi_rules.specs.Choice.{if_then_else_};
+ghost use Rattle.laws.specs.Choice.{if_then_else_};
 ghost use Rattle.spi_rules.specs.Calls.{readOf, writeOf, tickOf, pinsOf, clearOf};
 ghost use Rattle.spi_link_rules.specs.Link.{linkedOf};
 ghost use Rattle.spi_clock_rules.specs.Clock.{reportOf, saidClock};

@@ -3,8 +3,8 @@
 // file may have.
 use libc::STDIN_FILENO;
 use libc::STDOUT_FILENO;
-use spi_rules::Answer;
 use spi_trace_rules::Played;
+use spi_types::Answer;
 
 fn print(text: &[u8]) {
     io::write_all(STDOUT_FILENO, text);

@@ -1,7 +1,7 @@
 // The registers by their bits: what CON1 and CON2 take from a value, and what STAT, CON1 and CON2 show.
-use spi_rules::Con1;
-use spi_rules::Con2;
-use spi_rules::Module;
+use spi_types::Con1;
+use spi_types::Con2;
+use spi_types::Module;
 ghost use mathlib.Core.Path.{_≡_};
 ghost use Prim.Native.Nat.{_≤_};
 ghost use Rattle.spi_rules.specs.Registers.{weighed, con1From, con1Value, con2From, con2Value, atMost7, spibec, srmpt, srxmpt, spitbf, spirbf, statValue};

@@ -9,17 +9,19 @@ use mathlib.Core.List.{List, [], _∷_}
 use mathlib.Core.Path.{_≡_, refl, sym, ap, ap₂, _∙_}
 use borrow.Author.Tests.{eqb-true, eq-eqb}
 use lib.Dec.{eqb}
-use Rattle.spi_rules.specs.declared.Output.{Output}
-use Rattle.spi_rules.specs.declared.Output.the-variants.{Low, High, Undriven}
-use Rattle.spi_rules.specs.declared.Answer.{Answer}
-use Rattle.spi_rules.specs.declared.Answer.the-variants.{Refused, Done, Value, NoEdge, Edge}
-use Rattle.spi_rules.proofs.Keeps.{clash, and-left, and-right, and-both, like}
+use Rattle.laws.proofs.Keeps.{clash, and-left, and-right, and-both, like}
+use Rattle.spi_types.specs.declared.Output.{Output}
+use Rattle.spi_types.specs.declared.Output.the-variants.{Low, High, Undriven}
+use Rattle.spi_types.specs.declared.Answer.{Answer}
+use Rattle.spi_types.specs.declared.Answer.the-variants.{Refused, Done, Value, NoEdge, Edge}
+use Rattle.spi_rules.specs.Flags.{Placed}
 
--- Two levels, numbers, lists of them or outputs that must be equal; an answer that must be this value; and a claim under a condition.
+-- Two levels, numbers, lists of numbers or of placed bits, or outputs that must be equal; an answer that must be this value; and a
+-- claim under a condition.
 pub data Claim : Type 0 where
   level : Bool → Bool → Claim
   number : ℕ → ℕ → Claim
-  levels : List Bool → List Bool → Claim
+  levels : List Placed → List Placed → Claim
   numbers : List ℕ → List ℕ → Claim
   pin : Output → Output → Claim
   told : Answer → ℕ → Claim
@@ -34,11 +36,11 @@ Holds (pin a b) = a ≡ b
 Holds (told a v) = a ≡ Value v
 Holds (provided b k) = b ≡ true → Holds k
 
-abbrev pub sameLevels : List Bool → List Bool → Bool
+abbrev pub sameLevels : List Placed → List Placed → Bool
 sameLevels [] [] = true
 sameLevels [] (b ∷ bs) = false
 sameLevels (a ∷ rest) [] = false
-sameLevels (a ∷ rest) (b ∷ bs) = Bool·beq a b && sameLevels rest bs
+sameLevels (a ∷ rest) (b ∷ bs) = (Bool·beq (a .bit) (b .bit) && eqb (a .place) (b .place)) && sameLevels rest bs
 
 abbrev pub sameNumbers : List ℕ → List ℕ → Bool
 sameNumbers [] [] = true
@@ -72,17 +74,24 @@ level-same : (a b : Bool) → a ≡ b → Bool·beq a b ≡ true
 level-same true b e = ap (Bool·beq true) (sym e)
 level-same false b e = ap (Bool·beq false) (sym e)
 
-levels-judged : (a b : List Bool) → sameLevels a b ≡ true → a ≡ b
+placed-judged : (a b : Placed) → (Bool·beq (a .bit) (b .bit) && eqb (a .place) (b .place)) ≡ true → a ≡ b
+placed-judged a b e =
+    let same : a .bit ≡ b .bit = like (a .bit) (b .bit) (and-left (Bool·beq (a .bit) (b .bit)) _ e) in
+    let there : a .place ≡ b .place = eqb-true (a .place) (b .place) (and-right (Bool·beq (a .bit) (b .bit)) _ e) in
+    λ i. record { bit = same i; place = there i }
+
+levels-judged : (a b : List Placed) → sameLevels a b ≡ true → a ≡ b
 levels-judged [] [] e = refl
 levels-judged [] (b ∷ bs) e = clash false e refl
 levels-judged (a ∷ rest) [] e = clash false e refl
 levels-judged (a ∷ rest) (b ∷ bs) e =
-    ap₂ (λ (x : Bool) (xs : List Bool). x ∷ xs) (like a b (and-left (Bool·beq a b) _ e))
-    (levels-judged rest bs (and-right (Bool·beq a b) _ e))
+    let first : Bool = Bool·beq (a .bit) (b .bit) && eqb (a .place) (b .place) in
+    ap₂ (λ (x : Placed) (xs : List Placed). x ∷ xs) (placed-judged a b (and-left first _ e)) (levels-judged rest bs (and-right first _ e))
 
-levels-same : (a : List Bool) → sameLevels a a ≡ true
+levels-same : (a : List Placed) → sameLevels a a ≡ true
 levels-same [] = refl
-levels-same (a ∷ rest) = and-both (Bool·beq a a) _ (level-same a a refl) (levels-same rest)
+levels-same (a ∷ rest) =
+    and-both _ _ (and-both _ _ (level-same (a .bit) (a .bit) refl) (eq-eqb (a .place) (a .place) refl)) (levels-same rest)
 
 numbers-judged : (a b : List ℕ) → sameNumbers a b ≡ true → a ≡ b
 numbers-judged [] [] e = refl

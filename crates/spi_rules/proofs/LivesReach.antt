@@ -4,8 +4,8 @@
 -- Assumes nothing.
 use mathlib.Core.List.{List, [], _∷_, _++_}
 use mathlib.Core.Path.{_≡_, refl}
-use Rattle.spi_rules.specs.declared.Module.{Module}
-use Rattle.spi_rules.specs.declared.Call.{Call}
+use Rattle.spi_types.specs.declared.Module.{Module}
+use Rattle.spi_types.specs.declared.Call.{Call}
 use Rattle.spi_rules.specs.Calls.{performOf, afterCalls}
 use Rattle.spi_rules.specs.Watch.{Watched, watchedCall, watchedCalls}
 

@@ -1,56 +1,59 @@
 -- The page holds at every call of these lists (proofs/PageRun.antt), each from power-up: a wrong rule that one of them tells apart is
--- seen to be false of the page.
---     unframed-run, full-runs, given-runs, taken-runs   lists without frames, that fill the buffers, and of both ends of a frame
+-- seen to be false of the page. Longer lists run in crates/spi_one_module.
+--     unframed-runs, framed-runs   lists without frames, and of both ends of a frame
+--     marked-run       the last edge of a word at a record made otherwise
 --     hypotheses-met   no hypothesis of the page is empty
 -- Assumes nothing.
-use Prim.Native.Nat.{ℕ, zero, suc, _+_, _*_}
+use Prim.Native.Nat.{ℕ, zero, suc, _+_}
 use mathlib.Core.Bool.{Bool, true, false, not}
 use mathlib.Core.List.{List, [], _∷_, _++_}
 use mathlib.Core.Path.{_≡_, refl}
-use Rattle.spi_rules.specs.declared.Settings.{Settings}
-use Rattle.spi_rules.specs.declared.Call.{Call}
-use Rattle.spi_rules.specs.declared.Call.the-variants.{Read, Write, Tick, Pin, Clear}
+use Rattle.laws.specs.Choice.{if_then_else_}
+use Rattle.ring.specs.Ring.{next, contents}
+use Rattle.word_order.specs.Bits.{bitOf}
+use Rattle.word_order.specs.Ledger.{isQuiet, opened, leftToSend, loses, firstOnWire, counted, closed, given, unsent}
+use Rattle.spi_types.specs.declared.Settings.{Settings}
+use Rattle.spi_types.specs.declared.Call.{Call}
+use Rattle.spi_types.specs.declared.Call.the-variants.{Read, Write, Tick, Pin, Clear}
 use Rattle.spi_rules.specs.Bits.{shiftedIn, receivedAfter, shownBit, sdoAfter, progressed}
 use Rattle.spi_rules.specs.Buffers.{waiting, unread, emptyTransmit, emptyReceive, firstWaiting, firstUnread, written, departed, appended, taken, overrun}
 use Rattle.spi_rules.specs.Calls.{refuse, answering, poweredUp, wordTaken, readBuf, readOf, turnsOn, turnsOff, statWritten, writeStat, withCon1, withCon2, configured, wordWritten, writeBuf, writeOf, tickOf, pinsOf, clearOf, performOf, interruptOf, sckOf, undriven, sdoOf, ssOf}
-use Rattle.spi_rules.specs.Choice.{if_then_else_}
 use Rattle.spi_rules.specs.Edge.{begun, shifted, advanced, advancedIfBegun, awaitsPulse, underWay, pulseDue, pulseAfter, pulsed, clocked, edged, stepped}
 use Rattle.spi_rules.specs.Finish.{overflowed, wordAppended, isLost, delivered, sentDropped, freed, finished}
 use Rattle.spi_rules.specs.Interrupts.{raises, noted}
 use Rattle.spi_rules.specs.Loading.{wordLeaves, moved, canLoad, loaded, nextTop, sdoAt, rested}
 use Rattle.spi_rules.specs.Refusals.{numberOf}
-use Rattle.spi_rules.specs.Registers.{bitOf, weighed, con1From, con1Value, con2From, con2Value, spitbf, spirbf, srxmpt, srmpt, atMost7, spibec, statValue, statSettings, spirovAfter, statEngine, enabledEngine, disabledEngine}
-use Rattle.spi_rules.specs.Ring.{next, contents}
+use Rattle.spi_rules.specs.Registers.{weighed, con1From, con1Value, con2From, con2Value, spitbf, spirbf, srxmpt, srmpt, atMost7, spibec, statValue, statSettings, spirovAfter, statEngine, enabledEngine, disabledEngine}
 use Rattle.spi_rules.specs.Select.{selectRemembered, aborted, selectSeen}
-use Rattle.spi_rules.specs.Ledger.{isQuiet, opened, leftToSend, isDropped, firstOnWire, counted, closed, onWire, given, carried, clockedTo, pulseNoted, edgeNoted, selectNoted, acceptedNoted, readNoted}
-use Rattle.spi_rules.specs.Watch.{levelsNoted, entered}
-use Rattle.spi_rules.specs.Demands.{powerUp, begins, life}
+use Rattle.spi_rules.specs.Lives.{powerUp, begins, life}
 use Rattle.spi_rules.specs.InBits.{stopsBetweenWords, givesPulses, takesPulses}
-use Rattle.spi_rules.specs.Frames.{unsent}
-use Rattle.spi_rules.proofs.PageRun.{unless, judged, seen, made, run}
+use Rattle.spi_rules.proofs.PageRun.{unless, judged, told-of, entered-as, seen-as, made, run, lastEdges}
+use Rattle.spi_types.specs.declared.Module.{Module}
+use Rattle.spi_rules.proofs.Claims.{allJudged}
+use Rattle.spi_rules.specs.Changes.{withReceive}
 
 -- So many times over, and lists behind one another.
-abbrev times : ℕ → List Call → List Call
+abbrev pub times : ℕ → List Call → List Call
 times zero cs = []
 times (suc n) cs = cs ++ times n cs
 
-abbrev one-by-one : List (List Call) → List Call
+abbrev pub one-by-one : List (List Call) → List Call
 one-by-one [] = []
 one-by-one (cs ∷ rest) = cs ++ one-by-one rest
 
 -- CON1 and CON2 written, the module enabled, and words written.
-abbrev enabled : ℕ → ℕ → List Call
+abbrev pub enabled : ℕ → ℕ → List Call
 enabled con1 con2 = Write 1 con1 ∷ Write 2 con2 ∷ Write 0 32832 ∷ []
 
-abbrev words : List ℕ → List Call
+abbrev pub words : List ℕ → List Call
 words [] = []
 words (w ∷ ws) = Write 3 w ∷ words ws
 
 -- So many clocks of ticks, or of pin calls from the idle level 0, with these levels of SDI and SS.
-abbrev ticks : ℕ → Bool → Bool → List Call
+abbrev pub ticks : ℕ → Bool → Bool → List Call
 ticks n sdi ss = times n (Tick sdi ss ∷ Tick sdi ss ∷ [])
 
-abbrev pins : ℕ → Bool → Bool → List Call
+abbrev pub pins : ℕ → Bool → Bool → List Call
 pins n sdi ss = times n (Pin true sdi ss ∷ Pin false sdi ss ∷ [])
 
 -- A host of 8 bits: two words, a third refused, an overflow, reads of an empty buffer, disabled within a word, and enabled again.
@@ -79,13 +82,13 @@ wide =
     ∷ (Read 0 ∷ Read 3 ∷ [])
     ∷ [])
 
--- An idle host with CKP and without CKE.
+-- An idle host with CKP and without CKE: no tick makes an edge until a word is written.
 abbrev idle : List Call
-idle = one-by-one (enabled 96 0 ∷ ticks 1 true true ∷ words (165 ∷ []) ∷ ticks 9 true true ∷ [])
+idle = one-by-one (enabled 96 0 ∷ ticks 1 true true ∷ words (165 ∷ []) ∷ ticks 1 true true ∷ [])
 
 -- A host with DISSCK, clocked while it is idle, then with a word.
 abbrev pinned : List Call
-pinned = one-by-one (enabled 4128 0 ∷ pins 8 true true ∷ (Read 3 ∷ Tick true true ∷ []) ∷ words (195 ∷ []) ∷ pins 9 true true ∷ (Read 3 ∷ []) ∷ [])
+pinned = one-by-one (enabled 4128 0 ∷ pins 8 true true ∷ (Read 3 ∷ Tick true true ∷ []) ∷ words (195 ∷ []) ∷ pins 2 true true ∷ [])
 
 -- A client with SSEN, of 8 bits without CKE and of 16 with it: select high and low, a word taken back, a filler, edges while not selected.
 abbrev selected : List Call
@@ -94,6 +97,7 @@ selected =
     (enabled 128 1
     ∷ pins 1 true true
     ∷ words (165 ∷ 60 ∷ [])
+    ∷ (Pin true true false ∷ Pin true true true ∷ Pin false true true ∷ Pin false true false ∷ [])
     ∷ pins 3 true false
     ∷ (Pin true true false ∷ Pin true true true ∷ Pin false true true ∷ Pin false true false ∷ [])
     ∷ pins 17 false false
@@ -116,49 +120,59 @@ selectedWide =
 abbrev client : List Call
 client = one-by-one (enabled 0 1 ∷ pins 2 true true ∷ words (129 ∷ []) ∷ pins 16 true false ∷ (Read 3 ∷ Read 0 ∷ []) ∷ [])
 
+-- A client with CKP: an edge to the idle level before the first word begins nothing.
 abbrev clientLate : List Call
-clientLate = one-by-one ((Write 1 64 ∷ Write 0 32768 ∷ Pin true false false ∷ Pin false false false ∷ []) ∷ pins 9 true true ∷ words (129 ∷ []) ∷ pins 8 false true ∷ [])
-
--- Enhanced operation filled to its end, an overflow with its mark, by each SISEL.
-abbrev full : ℕ → List Call
-full sisel =
+clientLate =
     one-by-one
-    ((Write 2 1 ∷ Write 1 32 ∷ Write 0 (32768 + 4 * sisel) ∷ [])
-    ∷ words (1 ∷ 2 ∷ 3 ∷ 4 ∷ 5 ∷ 6 ∷ 7 ∷ 8 ∷ 9 ∷ 10 ∷ [])
+    ((Write 1 64 ∷ Write 0 32768 ∷ Pin true false false ∷ Pin false false false ∷ []) ∷ pins 1 true true ∷ words (129 ∷ []) ∷ pins 1 false true ∷ [])
+
+-- SISEL 6, a word passes through the buffer; 7, the eighth waits; 4, one leaves with seven left; 5, a finish with words left; 1, an
+-- append; 2, the sixth; 3, the eighth, and the ninth word is lost; the mark stops reads; disabled and enabled, 5, nothing is left to
+-- send; 0, a read empties it.
+abbrev full : List Call
+full =
+    one-by-one
+    ((Write 2 1 ∷ Write 1 32 ∷ Write 0 32792 ∷ Write 3 1 ∷ Clear ∷ Write 0 32796 ∷ [])
+    ∷ words (2 ∷ 3 ∷ 4 ∷ 5 ∷ 6 ∷ 7 ∷ 8 ∷ 9 ∷ 10 ∷ [])
+    ∷ (Write 0 32784 ∷ Clear ∷ [])
     ∷ ticks 8 true true
-    ∷ (Clear ∷ Write 3 11 ∷ [])
-    ∷ ticks 40 false false
-    ∷ (Clear ∷ Read 3 ∷ [])
+    ∷ (Clear ∷ Write 0 32788 ∷ [])
+    ∷ ticks 8 false true
+    ∷ (Write 0 32772 ∷ [])
+    ∷ ticks 8 true false
+    ∷ (Clear ∷ Write 0 32776 ∷ [])
+    ∷ ticks 24 true false
+    ∷ (Clear ∷ Write 0 32780 ∷ [])
+    ∷ ticks 16 true true
+    ∷ (Clear ∷ [])
+    ∷ ticks 8 true true
+    ∷ (Read 3 ∷ Write 0 32832 ∷ Read 3 ∷ Write 0 64 ∷ Write 0 32852 ∷ Write 3 7 ∷ [])
+    ∷ ticks 8 true true
+    ∷ (Clear ∷ Write 0 32832 ∷ Read 3 ∷ Read 3 ∷ [])
     ∷ [])
 
--- The four pairings of frames: a clock of its own or from the pin, pulses given or taken. FRMDLY is bit 1 and FRMPOL bit 13 of CON2; CKE
--- and SSEN are set in the last, where they count as 0.
+-- The four pairings of frames: a clock of its own or from the pin, pulses given or taken, with either FRMDLY (bit 1 of CON2) and FRMPOL
+-- (bit 13); CKE and SSEN are set in the last, where they count as 0.
 abbrev ownGives : ℕ → List Call
-ownGives con2 = one-by-one (enabled 32 (32768 + con2) ∷ ticks 1 true true ∷ words (165 ∷ 60 ∷ []) ∷ ticks 19 true false ∷ (Write 0 0 ∷ []) ∷ [])
+ownGives con2 = one-by-one (enabled 32 (32768 + con2) ∷ ticks 1 true true ∷ words (165 ∷ []) ∷ ticks 2 true false ∷ (Write 0 0 ∷ []) ∷ [])
 
 abbrev pinGives : ℕ → List Call
-pinGives con2 =
-    one-by-one (enabled 4128 (32768 + con2) ∷ pins 1 true true ∷ words (165 ∷ []) ∷ pins 9 true false ∷ words (60 ∷ []) ∷ pins 3 false true ∷ [])
+pinGives con2 = one-by-one (enabled 4128 (32768 + con2) ∷ pins 1 true true ∷ words (165 ∷ []) ∷ pins 2 true false ∷ [])
 
 abbrev ownTakes : ℕ → Bool → List Call
 ownTakes con2 ss =
-    one-by-one (enabled 32 (49152 + con2) ∷ ticks 1 true (not ss) ∷ words (165 ∷ []) ∷ ticks 9 true ss ∷ ticks 2 true (not ss) ∷ [])
+    one-by-one (enabled 32 (49152 + con2) ∷ ticks 1 true (not ss) ∷ words (165 ∷ []) ∷ ticks 2 true ss ∷ ticks 1 true (not ss) ∷ [])
 
 abbrev pinTakes : ℕ → Bool → List Call
 pinTakes con2 ss =
-    one-by-one
-    (enabled 0 (49152 + con2)
-    ∷ pins 1 true (not ss)
-    ∷ pins 9 true ss
-    ∷ words (165 ∷ [])
-    ∷ pins 8 true (not ss)
-    ∷ pins 1 true ss
-    ∷ pins 3 true (not ss)
-    ∷ (Read 3 ∷ [])
-    ∷ [])
+    one-by-one (enabled 0 (49152 + con2) ∷ pins 1 true (not ss) ∷ pins 2 true ss ∷ words (165 ∷ []) ∷ pins 1 true (not ss) ∷ [])
 
 abbrev heedless : List Call
-heedless = one-by-one (enabled 384 57344 ∷ words (165 ∷ []) ∷ pins 3 true true ∷ pins 7 true false ∷ [])
+heedless = one-by-one (enabled 384 57344 ∷ words (165 ∷ []) ∷ pins 2 true true ∷ pins 1 true false ∷ [])
+
+-- Two words of a frame host, one behind the other.
+abbrev twice : List Call
+twice = one-by-one (enabled 32 32768 ∷ words (165 ∷ 60 ∷ []) ∷ ticks 18 true false ∷ [])
 
 -- Settings that cannot be enabled, registers written while enabled, registers that are not there, and the wrong clock.
 abbrev refused : List Call
@@ -175,25 +189,29 @@ refused =
 abbrev pub Run : List Call → Type 0
 Run cs = run cs (begins powerUp) ≡ true
 
-unframed-run :
-    Run host × Run wide × Run idle × Run pinned × Run selected × Run selectedWide × Run client × Run clientLate × Run refused × Run heedless
-unfolding shiftedIn receivedAfter shownBit sdoAfter progressed emptyTransmit emptyReceive firstWaiting firstUnread written departed appended taken overrun refuse answering poweredUp wordTaken readBuf readOf turnsOn turnsOff statWritten writeStat withCon1 withCon2 configured wordWritten writeBuf writeOf tickOf pinsOf clearOf performOf interruptOf sckOf undriven sdoOf ssOf if_then_else_ begun shifted advanced advancedIfBegun awaitsPulse underWay pulseDue pulseAfter pulsed clocked edged stepped overflowed wordAppended isLost delivered sentDropped freed finished raises noted wordLeaves moved canLoad loaded nextTop sdoAt rested numberOf bitOf weighed con1From con1Value con2From con2Value spitbf spirbf srxmpt srmpt atMost7 spibec statValue statSettings spirovAfter statEngine enabledEngine disabledEngine next selectRemembered aborted selectSeen opened leftToSend isDropped firstOnWire counted closed onWire given carried clockedTo pulseNoted edgeNoted selectNoted acceptedNoted readNoted levelsNoted entered unless judged seen made run waiting unread contents
-unframed-run = (refl, refl, refl, refl, refl, refl, refl, refl, refl, refl)
+unframed-runs :
+    Run host × Run wide × Run idle × Run pinned × Run selected × Run selectedWide × Run client × Run clientLate × Run full × Run refused
+unfolding shiftedIn receivedAfter shownBit sdoAfter progressed emptyTransmit emptyReceive firstWaiting firstUnread written departed appended taken overrun refuse answering poweredUp wordTaken readBuf readOf turnsOn turnsOff statWritten writeStat withCon1 withCon2 configured wordWritten writeBuf writeOf tickOf pinsOf clearOf performOf interruptOf sckOf undriven sdoOf ssOf if_then_else_ begun shifted advanced advancedIfBegun awaitsPulse underWay pulseDue pulseAfter pulsed clocked edged stepped overflowed wordAppended isLost delivered sentDropped freed finished raises noted wordLeaves moved canLoad loaded nextTop sdoAt rested numberOf bitOf weighed con1From con1Value con2From con2Value spitbf spirbf srxmpt srmpt atMost7 spibec statValue statSettings spirovAfter statEngine enabledEngine disabledEngine next selectRemembered aborted selectSeen opened leftToSend loses firstOnWire counted closed given unless judged told-of entered-as seen-as made run waiting unread contents
+unframed-runs = (refl, refl, refl, refl, refl, refl, refl, refl, refl, refl)
 
-full-runs :
-    Run (full 0) × Run (full 1) × Run (full 2) × Run (full 3) × Run (full 4) × Run (full 5) × Run (full 6) × Run (full 7)
-unfolding shiftedIn receivedAfter shownBit sdoAfter progressed emptyTransmit emptyReceive firstWaiting firstUnread written departed appended taken overrun refuse answering poweredUp wordTaken readBuf readOf turnsOn turnsOff statWritten writeStat withCon1 withCon2 configured wordWritten writeBuf writeOf tickOf pinsOf clearOf performOf interruptOf sckOf undriven sdoOf ssOf if_then_else_ begun shifted advanced advancedIfBegun awaitsPulse underWay pulseDue pulseAfter pulsed clocked edged stepped overflowed wordAppended isLost delivered sentDropped freed finished raises noted wordLeaves moved canLoad loaded nextTop sdoAt rested numberOf bitOf weighed con1From con1Value con2From con2Value spitbf spirbf srxmpt srmpt atMost7 spibec statValue statSettings spirovAfter statEngine enabledEngine disabledEngine next selectRemembered aborted selectSeen opened leftToSend isDropped firstOnWire counted closed onWire given carried clockedTo pulseNoted edgeNoted selectNoted acceptedNoted readNoted levelsNoted entered unless judged seen made run waiting unread contents
-full-runs = (refl, refl, refl, refl, refl, refl, refl, refl)
+framed-runs :
+    Run (ownGives 0) × Run (ownGives 2) × Run (ownGives 8192) × Run (ownGives 8194) × Run (pinGives 0) × Run (pinGives 2) × Run (pinGives 8192)
+    × Run (pinGives 8194)
+    × Run (ownTakes 0 false) × Run (ownTakes 2 false) × Run (ownTakes 8192 true) × Run (ownTakes 8194 true) × Run (pinTakes 0 false)
+    × Run (pinTakes 2 false) × Run (pinTakes 8192 true) × Run (pinTakes 8194 true) × Run heedless × Run twice
+unfolding shiftedIn receivedAfter shownBit sdoAfter progressed emptyTransmit emptyReceive firstWaiting firstUnread written departed appended taken overrun refuse answering poweredUp wordTaken readBuf readOf turnsOn turnsOff statWritten writeStat withCon1 withCon2 configured wordWritten writeBuf writeOf tickOf pinsOf clearOf performOf interruptOf sckOf undriven sdoOf ssOf if_then_else_ begun shifted advanced advancedIfBegun awaitsPulse underWay pulseDue pulseAfter pulsed clocked edged stepped overflowed wordAppended isLost delivered sentDropped freed finished raises noted wordLeaves moved canLoad loaded nextTop sdoAt rested numberOf bitOf weighed con1From con1Value con2From con2Value spitbf spirbf srxmpt srmpt atMost7 spibec statValue statSettings spirovAfter statEngine enabledEngine disabledEngine next selectRemembered aborted selectSeen opened leftToSend loses firstOnWire counted closed given unless judged told-of entered-as seen-as made run waiting unread contents
+framed-runs = (refl, refl, refl, refl, refl, refl, refl, refl, refl, refl, refl, refl, refl, refl, refl, refl, refl, refl)
 
-given-runs :
-    Run (ownGives 0) × Run (ownGives 2) × Run (ownGives 8192) × Run (ownGives 8194) × Run (pinGives 0) × Run (pinGives 2) × Run (pinGives 8192) × Run (pinGives 8194)
-unfolding shiftedIn receivedAfter shownBit sdoAfter progressed emptyTransmit emptyReceive firstWaiting firstUnread written departed appended taken overrun refuse answering poweredUp wordTaken readBuf readOf turnsOn turnsOff statWritten writeStat withCon1 withCon2 configured wordWritten writeBuf writeOf tickOf pinsOf clearOf performOf interruptOf sckOf undriven sdoOf ssOf if_then_else_ begun shifted advanced advancedIfBegun awaitsPulse underWay pulseDue pulseAfter pulsed clocked edged stepped overflowed wordAppended isLost delivered sentDropped freed finished raises noted wordLeaves moved canLoad loaded nextTop sdoAt rested numberOf bitOf weighed con1From con1Value con2From con2Value spitbf spirbf srxmpt srmpt atMost7 spibec statValue statSettings spirovAfter statEngine enabledEngine disabledEngine next selectRemembered aborted selectSeen opened leftToSend isDropped firstOnWire counted closed onWire given carried clockedTo pulseNoted edgeNoted selectNoted acceptedNoted readNoted levelsNoted entered unless judged seen made run waiting unread contents
-given-runs = (refl, refl, refl, refl, refl, refl, refl, refl)
+-- A marked buffer with room, which no calls reach, before the last edge of a word: the word is dropped.
+abbrev marked : Module → Module
+marked m = record { settings = m .settings; engine = withReceive (overrun true (m .engine .receive)) (m .engine) }
 
-taken-runs :
-    Run (ownTakes 0 false) × Run (ownTakes 2 false) × Run (ownTakes 8192 true) × Run (ownTakes 8194 true) × Run (pinTakes 0 false) × Run (pinTakes 2 false) × Run (pinTakes 8192 true) × Run (pinTakes 8194 true)
-unfolding shiftedIn receivedAfter shownBit sdoAfter progressed emptyTransmit emptyReceive firstWaiting firstUnread written departed appended taken overrun refuse answering poweredUp wordTaken readBuf readOf turnsOn turnsOff statWritten writeStat withCon1 withCon2 configured wordWritten writeBuf writeOf tickOf pinsOf clearOf performOf interruptOf sckOf undriven sdoOf ssOf if_then_else_ begun shifted advanced advancedIfBegun awaitsPulse underWay pulseDue pulseAfter pulsed clocked edged stepped overflowed wordAppended isLost delivered sentDropped freed finished raises noted wordLeaves moved canLoad loaded nextTop sdoAt rested numberOf bitOf weighed con1From con1Value con2From con2Value spitbf spirbf srxmpt srmpt atMost7 spibec statValue statSettings spirovAfter statEngine enabledEngine disabledEngine next selectRemembered aborted selectSeen opened leftToSend isDropped firstOnWire counted closed onWire given carried clockedTo pulseNoted edgeNoted selectNoted acceptedNoted readNoted levelsNoted entered unless judged seen made run waiting unread contents
-taken-runs = (refl, refl, refl, refl, refl, refl, refl, refl)
+abbrev nearlyDone : Module
+nearlyDone = marked (life powerUp (one-by-one (enabled 32 1 ∷ words (165 ∷ []) ∷ ticks 7 true true ∷ (Tick true true ∷ []) ∷ [])) .now)
+
+marked-run : allJudged (lastEdges nearlyDone (performOf nearlyDone (Tick true true) .after)) ≡ true
+unfolding shiftedIn receivedAfter shownBit sdoAfter progressed emptyTransmit emptyReceive firstWaiting firstUnread written departed appended taken overrun refuse answering poweredUp wordTaken readBuf readOf turnsOn turnsOff statWritten writeStat withCon1 withCon2 configured wordWritten writeBuf writeOf tickOf pinsOf clearOf performOf interruptOf sckOf undriven sdoOf ssOf if_then_else_ begun shifted advanced advancedIfBegun awaitsPulse underWay pulseDue pulseAfter pulsed clocked edged stepped overflowed wordAppended isLost delivered sentDropped freed finished raises noted wordLeaves moved canLoad loaded nextTop sdoAt rested numberOf bitOf weighed con1From con1Value con2From con2Value spitbf spirbf srxmpt srmpt atMost7 spibec statValue statSettings spirovAfter statEngine enabledEngine disabledEngine next selectRemembered aborted selectSeen opened leftToSend loses firstOnWire counted closed given unless judged told-of entered-as seen-as made run waiting unread contents
+marked-run = refl
 
 -- No hypothesis of the page is empty: each is met after these calls.
 abbrev settingsAfter : List Call → Settings
@@ -209,5 +227,5 @@ hypotheses-met :
     × (settingsAfter (enabled 0 0) .spien ≡ true) × (settingsAfter (enabled 0 0) .con1 .msten ≡ false)
     × (settingsAfter (enabled 0 0) .con1 .ssen ≡ false) × (settingsAfter (enabled 0 0) .con2 .frmen ≡ false)
     × (isQuiet (life powerUp (enabled 0 0) .ledger .wire) ≡ true) × (unsent (life powerUp (enabled 0 0) .ledger) ≡ 0)
-unfolding shiftedIn receivedAfter shownBit sdoAfter progressed emptyTransmit emptyReceive firstWaiting firstUnread written departed appended taken overrun refuse answering poweredUp wordTaken readBuf readOf turnsOn turnsOff statWritten writeStat withCon1 withCon2 configured wordWritten writeBuf writeOf tickOf pinsOf clearOf performOf interruptOf sckOf undriven sdoOf ssOf if_then_else_ begun shifted advanced advancedIfBegun awaitsPulse underWay pulseDue pulseAfter pulsed clocked edged stepped overflowed wordAppended isLost delivered sentDropped freed finished raises noted wordLeaves moved canLoad loaded nextTop sdoAt rested numberOf bitOf weighed con1From con1Value con2From con2Value spitbf spirbf srxmpt srmpt atMost7 spibec statValue statSettings spirovAfter statEngine enabledEngine disabledEngine next selectRemembered aborted selectSeen opened leftToSend isDropped firstOnWire counted closed onWire given carried clockedTo pulseNoted edgeNoted selectNoted acceptedNoted readNoted levelsNoted entered unless judged seen made run waiting unread contents
+unfolding shiftedIn receivedAfter shownBit sdoAfter progressed emptyTransmit emptyReceive firstWaiting firstUnread written departed appended taken overrun refuse answering poweredUp wordTaken readBuf readOf turnsOn turnsOff statWritten writeStat withCon1 withCon2 configured wordWritten writeBuf writeOf tickOf pinsOf clearOf performOf interruptOf sckOf undriven sdoOf ssOf if_then_else_ begun shifted advanced advancedIfBegun awaitsPulse underWay pulseDue pulseAfter pulsed clocked edged stepped overflowed wordAppended isLost delivered sentDropped freed finished raises noted wordLeaves moved canLoad loaded nextTop sdoAt rested numberOf bitOf weighed con1From con1Value con2From con2Value spitbf spirbf srxmpt srmpt atMost7 spibec statValue statSettings spirovAfter statEngine enabledEngine disabledEngine next selectRemembered aborted selectSeen opened leftToSend loses firstOnWire counted closed given unless judged told-of entered-as seen-as made run waiting unread contents
 hypotheses-met = (refl, refl, refl, refl, refl, refl, refl, refl, refl, refl, refl, refl)

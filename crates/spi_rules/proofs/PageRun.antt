@@ -1,34 +1,40 @@
 -- The page, run: its own statements as tests at each call of a list, so that a rule which is wrong is seen to be false of them.
 --     answers, reads, changes, pins, order, frames, idles   the statements of specs/Demands.antt and specs/Frames.antt at one call
 --     reads-back, changes-back, pins-back   these give back the page's records
+--     lastEdges   the last edge of a word, of a record that calls reach or not
 --     run         the tests at every call of a list
 --     page-runs   if the page holds, every run is true: a run that is false refutes the page
 -- Assumes nothing.
+use lib.ListN.{length}
+use mir.Val.{boolByte}
 use Prim.Native.Nat.{ℕ, _+_, _*_, _≤_}
 use mathlib.Core.Bool.{Bool, true, false, not, _&&_, _||_, Bool·beq}
 use mathlib.Core.List.{List, [], _∷_, _++_}
 use mathlib.Core.Path.{_≡_, refl, sym, ap, subst, _∙_}
 use native.Mathlib.Omega.{arith}
 use borrow.Author.Tests.{eqb-true, eqb-false, not-true}
-use lib.Dec.{eqb}
-use Rattle.spi_rules.specs.declared.Outcome.{Outcome}
-use Rattle.spi_rules.specs.declared.Answer.{Answer}
-use Rattle.spi_rules.specs.declared.Call.{Call}
-use Rattle.spi_rules.specs.declared.Call.the-variants.{Read, Write, Tick, Pin, Clear}
-use Rattle.spi_rules.specs.Choice.{if_then_else_}
+use lib.Dec.{eqb, ltb}
+use Rattle.laws.specs.Choice.{if_then_else_}
+use Rattle.laws.proofs.Keeps.{by-test, if-true, if-false, and-left, and-right, and-both}
+use Rattle.word_order.specs.Bits.{bitOf}
+use Rattle.word_order.specs.Ledger.{Ledger, isQuiet, edgesGiven, carriesFiller, unsent, sent, kept, lostOf}
+use Rattle.word_order.specs.Machine.{entered}
+use Rattle.spi_types.specs.declared.Outcome.{Outcome}
+use Rattle.spi_types.specs.declared.Answer.{Answer}
+use Rattle.spi_types.specs.declared.Call.{Call}
+use Rattle.spi_types.specs.declared.Call.the-variants.{Read, Write, Tick, Pin, Clear}
 use Rattle.spi_rules.specs.InBits.{wordBits, stopsBetweenWords, givesPulses, takesPulses}
 use Rattle.spi_rules.specs.Refusals.{saidOf, isDone}
-use Rattle.spi_rules.specs.Registers.{bitOf}
 use Rattle.spi_rules.specs.Words.{unreadIn, owedWords}
 use Rattle.spi_rules.specs.Calls.{performOf, interruptOf, sckOf, sdoOf, ssOf}
 use Rattle.spi_rules.specs.RefusalTable.{rows, firstNumber, asks, writes, isClear}
-use Rattle.spi_rules.specs.Ledger.{spelled, sent, undropped, hasLost, isQuiet}
-use Rattle.spi_rules.specs.Watch.{Watched, watchedCall, watchedCalls, entered, showsPulse}
-use Rattle.spi_rules.specs.Flags.{bits, statNamed, statPlaces, statBits, con1Named, con1Places, con2Named, con2Places, con2Bits, seesLost, seesRaised, sdoShown, pinShown, selectShown}
-use Rattle.spi_rules.specs.Frames.{edgesGiven, unsent, carriesFiller, pulseExpected, ssTold, FrameHostCall, FrameClientCall}
-use Rattle.spi_rules.specs.Demands.{among, kindsFor, owed, sendsFiller, Answered, Beginning, begins, life, ReadsShow, CallChanges, PinsShow, WordOrder, Fillers, FallsIdle, FramesHold, OneModule}
-use Rattle.spi_rules.proofs.Keeps.{by-test, if-true, if-false, and-left, and-right, and-both}
+use Rattle.spi_rules.specs.Watch.{Watched, watchedCall, watchedCalls, Sight, entryOf, memoryAfter, terms, showsPulse}
+use Rattle.spi_rules.specs.Lives.{Beginning, begins, life}
+use Rattle.spi_rules.specs.Flags.{numberIn, writtenTo, statKept, con1Bits, con2Bits, statBits, seen, raised, sdoShown, pinShown, selectShown}
+use Rattle.spi_rules.specs.Frames.{pulseExpected, ssTold, FrameHostCall, FrameClientCall}
+use Rattle.spi_rules.specs.Demands.{among, kindsFor, owed, sendsFiller, Answered, ReadsShow, CallChanges, PinsShow, WordOrder, Fillers, FallsIdle, FramesHold, OneModule, LastEdge, drops}
 use Rattle.spi_rules.proofs.Claims.{Claim, level, number, levels, numbers, pin, told, provided, AllHold, none, _also_, allJudged, all-judged}
+use Rattle.spi_types.specs.declared.Module.{Module}
 
 -- A watched module x, a call c with its outcome o, and the watched module y after it. They are handed on as arguments, so that each
 -- is computed once in a run.
@@ -45,12 +51,15 @@ module _ (x : Watched) (c : Call) (o : Outcome) (y : Watched) where
 
   abbrev changes : List Claim
   changes =
-      levels (statNamed (y .now .settings)) (if did 0 then bits statPlaces (asks c .value) else statNamed (x .now .settings))
-      ∷ levels (con1Named (y .now .settings .con1)) (if did 1 then bits con1Places (asks c .value) else con1Named (x .now .settings .con1))
-      ∷ levels (con2Named (y .now .settings .con2)) (if did 2 then bits con2Places (asks c .value) else con2Named (x .now .settings .con2))
-      ∷ level (interruptOf (y .now)) (not (isClear c) && (interruptOf (x .now) || seesRaised x y))
+      levels (statKept (y .now .settings))
+      (if did 0 then writtenTo (asks c .value) (statKept (x .now .settings)) else statKept (x .now .settings))
+      ∷ levels (con1Bits (y .now .settings .con1))
+      (if did 1 then writtenTo (asks c .value) (con1Bits (x .now .settings .con1)) else con1Bits (x .now .settings .con1))
+      ∷ levels (con2Bits (y .now .settings .con2))
+      (if did 2 then writtenTo (asks c .value) (con2Bits (x .now .settings .con2)) else con2Bits (x .now .settings .con2))
+      ∷ level (interruptOf (y .now)) (not (isClear c) && (interruptOf (x .now) || raised (x .now .settings) (seen x y)))
       ∷ level (y .now .engine .spirov)
-      (if did 0 then x .now .engine .spirov && bitOf (asks c .value) 6 else x .now .engine .spirov || seesLost x y)
+      (if did 0 then x .now .engine .spirov && bitOf (asks c .value) 6 else x .now .engine .spirov || seen x y .lost)
       ∷ level (y .now .engine .pins .sdo) (sdoShown x y)
       ∷ provided (not (y .now .settings .spien)) (level (sckOf (y .now)) (sckOf (x .now)))
       ∷ provided (not (y .now .settings .spien)) (level (y .now .engine .pins .ss) (x .now .engine .pins .ss))
@@ -100,10 +109,10 @@ module _ (x : Watched) (c : Call) (o : Outcome) (y : Watched) where
 
   abbrev clientFrames : List Claim
   clientFrames =
-      level began ((edge && not idle) && x .ledger .pulse)
+      level began ((edge && not idle) && x .memory .pulse)
       ∷ provided (y .now .settings .spien)
-      (level (y .ledger .pulse)
-      (if edge then idle && (Bool·beq (ssTold c) (x .now .settings .con2 .frmpol) && isQuiet (y .ledger .wire)) else x .ledger .pulse))
+      (level (y .memory .pulse)
+      (if edge then idle && (Bool·beq (ssTold c) (x .now .settings .con2 .frmpol) && isQuiet (y .ledger .wire)) else x .memory .pulse))
       ∷ provided began (level (carriesFiller (y .ledger .wire)) (eqb (unsent (x .ledger)) 0))
       ∷ []
 
@@ -111,23 +120,23 @@ module _ (x : Watched) (c : Call) (o : Outcome) (y : Watched) where
 module _ (y : Watched) where
   abbrev reads : List Claim
   reads =
-      told (performOf (y .now) (Read 0) .answer) (spelled 0 (statBits y))
-      ∷ told (performOf (y .now) (Read 1) .answer) (spelled 0 (con1Named (y .now .settings .con1)))
-      ∷ told (performOf (y .now) (Read 2) .answer) (spelled 0 (con2Bits (y .now .settings .con2)))
+      told (performOf (y .now) (Read 0) .answer) (numberIn (statBits y))
+      ∷ told (performOf (y .now) (Read 1) .answer) (numberIn (con1Bits (y .now .settings .con1)))
+      ∷ told (performOf (y .now) (Read 2) .answer) (numberIn (con2Bits (y .now .settings .con2)))
       ∷ []
 
   abbrev pins : List Claim
   pins =
       pin (sdoOf (y .now)) (pinShown y)
       ∷ pin (ssOf (y .now)) (selectShown y)
-      ∷ provided (y .now .settings .spien) (level (sckOf (y .now)) (y .ledger .sck))
+      ∷ provided (y .now .settings .spien) (level (sckOf (y .now)) (y .memory .sck))
       ∷ []
 
   abbrev order : List Claim
   order =
       numbers (y .ledger .accepted) (sent (y .ledger) ++ owedWords (y .now))
-      ∷ numbers (undropped (y .ledger)) (y .ledger .read ++ unreadIn (y .now))
-      ∷ level (y .now .engine .receive .marked) (y .now .settings .con2 .spiben && hasLost (y .ledger))
+      ∷ numbers (kept (y .ledger)) (y .ledger .read ++ unreadIn (y .now))
+      ∷ level (y .now .engine .receive .marked) (y .now .settings .con2 .spiben && ltb 0 (lostOf (y .ledger)))
       ∷ provided (y .now .engine .receive .marked) (number (saidOf (performOf (y .now) (Read 3) .answer) .number) 16)
       ∷ level (sendsFiller (y .now .engine .shift)) (carriesFiller (y .ledger .wire))
       ∷ provided (sendsFiller (y .now .engine .shift)) (level (y .now .engine .pins .sdo) false)
@@ -209,6 +218,17 @@ idles-said x (Tick sdi ss) f =
 idles-said x (Pin sck sdi ss) f = none
 idles-said x Clear f = none
 
+-- The last edge of a word, of any record.
+abbrev pub lastEdges : Module → Module → List Claim
+lastEdges m after =
+    number (length (unreadIn after)) (length (unreadIn m) + boolByte (not (drops m)))
+    ∷ level (after .engine .spirov) (m .engine .spirov || drops m)
+    ∷ level (after .engine .receive .marked) (m .engine .receive .marked || (drops m && m .settings .con2 .spiben))
+    ∷ []
+
+pub last-said : (m after : Module) → LastEdge m after → AllHold (lastEdges m after)
+last-said m after h = h .unread also h .spirov also h .mark also none
+
 -- All that the page says at a call. A framed module that is enabled has the claims of frames besides.
 unfoldable pub unless : Bool → List Claim → Bool
 unless b ks = not b || allJudged ks
@@ -231,14 +251,23 @@ unfolding unless
 unless-said true ks h = all-judged (h refl)
 unless-said false ks h = refl
 
--- The tests at every call of a list.
-unfoldable pub seen : Watched → Call → (Watched → Bool) → Outcome → Watched → Bool
-seen x c rest o y = judged x c o y && rest y
+-- The tests at every call of a list. What is seen of a call and its ledger are handed on as arguments too.
+unfoldable pub told-of : Watched → Call → (Watched → Bool) → Outcome → Watched → Bool
+told-of x c rest o y = judged x c o y && rest y
+
+unfoldable pub entered-as : Watched → Call → (Watched → Bool) → Outcome → Sight → Ledger → Bool
+entered-as x c rest o v l =
+    told-of x c rest o (record { now = o .after; memory = memoryAfter (x .memory) v (not (isQuiet (l .wire))) c; ledger = l })
+
+unfoldable pub seen-as : Watched → Call → (Watched → Bool) → Outcome → Sight → Bool
+seen-as x c rest o v =
+    entered-as x c rest o v
+    (entered (terms (x .now .settings)) (entryOf (x .memory) v (not (isQuiet (x .ledger .wire))) (edgesGiven (x .ledger .wire)) c) (x .ledger))
 
 unfoldable pub made : Watched → Call → (Watched → Bool) → Outcome → Bool
 made x c rest o =
-    seen x c rest o
-    (record { now = o .after; ledger = entered (x .now .settings) (x .now .engine .pins .sdo) (showsPulse (o .after)) c (o .answer) (x .ledger) })
+    seen-as x c rest o
+    (record { settings = x .now .settings; sdo = x .now .engine .pins .sdo; answer = o .answer; shown = showsPulse (o .after) })
 
 unfoldable pub run : List Call → Watched → Bool
 run [] x = true
@@ -295,7 +324,7 @@ run-true : (x : Watched) →
     ((cs : List Call) (c : Call) →
     judged (watchedCalls x cs) c (performOf (watchedCalls x cs .now) c) (watchedCall (watchedCalls x cs) c) ≡ true) →
     (cs : List Call) → run cs x ≡ true
-unfolding run made seen
+unfolding run made seen-as entered-as told-of
 run-true x h [] = refl
 run-true x h (c ∷ cs) = and-both _ _ (h [] c) (run-true (watchedCall x c) (λ ds d. h (c ∷ ds) d) cs)
 

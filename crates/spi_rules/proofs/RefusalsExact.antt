@@ -11,21 +11,21 @@ use mathlib.Core.Path.{_≡_, refl, ap, _∙_}
 use native.Mathlib.Omega.{arith}
 use borrow.Author.Tests.{lt-ltb}
 use lib.Dec.{eqb, ltb, leb}
-use Rattle.spi_rules.specs.declared.Module.{Module}
-use Rattle.spi_rules.specs.declared.Outcome.{Outcome}
-use Rattle.spi_rules.specs.declared.Refusal.{Refusal}
-use Rattle.spi_rules.specs.declared.Refusal.the-variants.{NoSuchRegister, Disabled, Enabled, TransmitFull, ReceiveEmpty, WrongClock, NoRate, UnreadableLine, DifferentModes, TooManyEdges, Undivided, LateSampling, UnselectedCke, Overflowed}
-use Rattle.spi_rules.specs.declared.Call.{Call}
-use Rattle.spi_rules.specs.declared.Call.the-variants.{Read, Write, Tick, Pin, Clear}
-use Rattle.spi_rules.specs.Choice.{if_then_else_}
+use Rattle.laws.specs.Choice.{if_then_else_}
+use Rattle.laws.proofs.Keeps.{if-keeps}
+use Rattle.word_order.specs.Bits.{bitOf}
+use Rattle.spi_types.specs.declared.Module.{Module}
+use Rattle.spi_types.specs.declared.Outcome.{Outcome}
+use Rattle.spi_types.specs.declared.Refusal.{Refusal}
+use Rattle.spi_types.specs.declared.Refusal.the-variants.{NoSuchRegister, Disabled, Enabled, TransmitFull, ReceiveEmpty, WrongClock, NoRate, UnreadableLine, DifferentModes, TooManyEdges, Undivided, LateSampling, UnselectedCke, Overflowed}
+use Rattle.spi_types.specs.declared.Call.{Call}
+use Rattle.spi_types.specs.declared.Call.the-variants.{Read, Write, Tick, Pin, Clear}
 use Rattle.spi_rules.specs.Settings.{depthOf, clockStops, ownClock}
 use Rattle.spi_rules.specs.Refusals.{numberOf, saidOf, undivided, lateSampling, unselectedCke, causes, badSettings, firstGiven}
-use Rattle.spi_rules.specs.Registers.{bitOf, isFree, spitbf}
+use Rattle.spi_rules.specs.Registers.{isFree, spitbf}
 use Rattle.spi_rules.specs.Buffers.{full, empty}
 use Rattle.spi_rules.specs.Calls.{refuse, answering, turnsOn, readBuf, readOf, writeStat, configured, writeBuf, writeOf, tickOf, pinsOf, clearOf, performOf}
 use Rattle.spi_rules.specs.RefusalTable.{firstNumber, rows}
-use Rattle.spi_rules.proofs.Keeps.{if-keeps}
-use Rattle.spi_rules.proofs.Parts.{restat}
 use Rattle.spi_rules.proofs.BuffersOrder.{waiting-length, unread-length}
 
 -- The refusal number that an outcome tells.
@@ -42,7 +42,11 @@ refused-by m r false c o k same h = rw same (h refl)
 -- A call is refused exactly by its row if it is so in every module that is enabled and in every one that is not.
 by-spien : (c : Call) →
     ((on : Bool) (m : Module) →
-    let x : Module = record { settings = restat (m .settings) on (m .settings .spisidl) (m .settings .sisel); engine = m .engine } in
+    let x : Module = record {
+      settings =
+          record { spien = on; spisidl = m .settings .spisidl; sisel = m .settings .sisel; con1 = m .settings .con1; con2 = m .settings .con2 };
+      engine = m .engine;
+    } in
     told (performOf x c) ≡ firstNumber (rows x c)) →
     (m : Module) → told (performOf m c) ≡ firstNumber (rows m c)
 by-spien c h m = h (m .settings .spien) m

@@ -2,81 +2,90 @@
 --     call-fits   an answer that is no refusal is of the call's kind, and only a register write that is done changes
 --                 settings, to the bits of its value
 -- Assumes nothing.
-use Prim.Native.Nat.{ℕ, _/_, _%_}
+use Prim.Native.Nat.{zero, suc, ℕ, _/_, _%_, _<_, _+_, suc}
 use mathlib.Core.Bool.{Bool, true, false, _&&_}
-use mathlib.Core.List.{List, [], _∷_, _++_}
+use mathlib.Core.List.{List, [], _∷_}
 use mathlib.Core.Path.{_≡_, refl, sym, ap, ap₂, _∙_}
 use native.Mathlib.Omega.{arith}
 use borrow.Author.Tests.{eqb-true, ne-eqb}
 use lib.Dec.{eqb}
-use Rattle.spi_rules.specs.declared.Settings.{Settings}
-use Rattle.spi_rules.specs.declared.Module.{Module}
-use Rattle.spi_rules.specs.declared.Outcome.{Outcome}
-use Rattle.spi_rules.specs.declared.Answer.{Answer}
-use Rattle.spi_rules.specs.declared.Answer.the-variants.{Refused, Done, Value, NoEdge, Edge}
-use Rattle.spi_rules.specs.declared.Call.{Call}
-use Rattle.spi_rules.specs.declared.Call.the-variants.{Read, Write, Tick, Pin, Clear}
-use Rattle.spi_rules.specs.declared.Refusal.{Refusal}
-use Rattle.spi_rules.specs.Choice.{if_then_else_}
+use Rattle.laws.specs.Choice.{if_then_else_}
+use Rattle.laws.proofs.Keeps.{if-keeps, if-true, if-false}
+use Rattle.word_order.specs.Bits.{bitOf}
+use Rattle.spi_types.specs.declared.Settings.{Settings}
+use Rattle.spi_types.specs.declared.Module.{Module}
+use Rattle.spi_types.specs.declared.Outcome.{Outcome}
+use Rattle.spi_types.specs.declared.Answer.{Answer}
+use Rattle.spi_types.specs.declared.Answer.the-variants.{Refused, Done, Value, NoEdge, Edge}
+use Rattle.spi_types.specs.declared.Call.{Call}
+use Rattle.spi_types.specs.declared.Call.the-variants.{Read, Write, Tick, Pin, Clear}
+use Rattle.spi_types.specs.declared.Refusal.{Refusal}
+use Rattle.spi_types.specs.declared.Con1.{Con1}
+use Rattle.spi_types.specs.declared.Con2.{Con2}
 use Rattle.spi_rules.specs.Refusals.{saidOf, isDone}
-use Rattle.spi_rules.specs.Registers.{bitOf, con1From, con2From, statSettings}
+use Rattle.spi_rules.specs.Registers.{con1From, con2From, statSettings}
 use Rattle.spi_rules.specs.Calls.{performOf, refuse, answering, readBuf, readOf, writeStat, withCon1, withCon2, configured, writeBuf, writeOf, tickOf, pinsOf, clearOf}
 use Rattle.spi_rules.specs.RefusalTable.{asks, writes}
-use Rattle.spi_rules.specs.Flags.{bits, statNamed, statPlaces, con1Named, con1Places, con2Named, con2Places}
+use Rattle.spi_rules.specs.Flags.{statKept, con1Bits, con2Bits, Placed, writtenTo, bit}
 use Rattle.spi_rules.specs.Demands.{kindsFor, among}
-use Rattle.spi_rules.proofs.Keeps.{if-keeps, if-true, if-false}
 
 -- The bits of a number that was cut out of another.
-bits-cut : (v : ℕ) → bits (2 ∷ 1 ∷ 0 ∷ []) (v / 4 % 8) ≡ bits (4 ∷ 3 ∷ 2 ∷ []) v
+cut-bit : (v k : ℕ) → k < 3 → bitOf (v / 4 % 8) k ≡ bitOf v (k + 2)
 unfolding bitOf
-bits-cut v =
-    let a : v / 4 % 8 / 4 % 2 ≡ v / 16 % 2 = omega arith in
-    let b : v / 4 % 8 / 2 % 2 ≡ v / 8 % 2 = omega arith in
-    let c : v / 4 % 8 / 1 % 2 ≡ v / 4 % 2 = omega arith in
-    ap₂ (λ (x y : ℕ). eqb x 1 ∷ eqb y 1 ∷ eqb (v / 4 % 8 / 1 % 2) 1 ∷ []) a b
-    ∙ ap (λ (x : ℕ). eqb (v / 16 % 2) 1 ∷ eqb (v / 8 % 2) 1 ∷ eqb x 1 ∷ []) c
+cut-bit v zero h = let e : v / 4 % 8 / 1 % 2 ≡ v / 4 % 2 = omega arith in ap (λ (x : ℕ). eqb x 1) e
+cut-bit v (suc zero) h = let e : v / 4 % 8 / 2 % 2 ≡ v / 8 % 2 = omega arith in ap (λ (x : ℕ). eqb x 1) e
+cut-bit v (suc (suc zero)) h = let e : v / 4 % 8 / 4 % 2 ≡ v / 16 % 2 = omega arith in ap (λ (x : ℕ). eqb x 1) e
+cut-bit v (suc (suc (suc k))) h = absurd (omega (arith, h))
 
-bits-low : (v : ℕ) → bits (1 ∷ 0 ∷ []) (v % 4) ≡ bits (1 ∷ 0 ∷ []) v
+low-bit : (v k : ℕ) → k < 2 → bitOf (v % 4) k ≡ bitOf v k
 unfolding bitOf
-bits-low v =
-    let a : v % 4 / 2 % 2 ≡ v / 2 % 2 = omega arith in
-    let b : v % 4 / 1 % 2 ≡ v / 1 % 2 = omega arith in
-    ap₂ (λ (x y : ℕ). eqb x 1 ∷ eqb y 1 ∷ []) a b
+low-bit v zero h = let e : v % 4 / 1 % 2 ≡ v / 1 % 2 = omega arith in ap (λ (x : ℕ). eqb x 1) e
+low-bit v (suc zero) h = let e : v % 4 / 2 % 2 ≡ v / 2 % 2 = omega arith in ap (λ (x : ℕ). eqb x 1) e
+low-bit v (suc (suc k)) h = absurd (omega (arith, h))
+
+-- SISEL and SPRE stand at the places 4 to 2.
+three-placed : (a b c a' b' c' : Bool) (rest rest' : List Placed) → a ≡ a' → b ≡ b' → c ≡ c' → rest ≡ rest' →
+    (bit 4 a ∷ bit 3 b ∷ bit 2 c ∷ rest) ≡ bit 4 a' ∷ bit 3 b' ∷ bit 2 c' ∷ rest'
+three-placed a b c a' b' c' rest rest' ea eb ec er =
+    λ i. bit 4 (ea i) ∷ bit 3 (eb i) ∷ bit 2 (ec i) ∷ er i
 
 -- A done write leaves the bits of its value.
-stat-bits : (v : ℕ) (s : Settings) → statNamed (statSettings v s) ≡ bits statPlaces v
+stat-bits : (v : ℕ) (s t : Settings) → statKept (statSettings v s) ≡ writtenTo v (statKept t)
 unfolding statSettings
-stat-bits v s = ap (λ (q : List Bool). bitOf v 15 ∷ bitOf v 13 ∷ q) (bits-cut v)
+stat-bits v s t =
+    ap (λ (q : List Placed). bit 15 (bitOf v 15) ∷ bit 13 (bitOf v 13) ∷ q)
+    (three-placed _ _ _ _ _ _ [] [] (cut-bit v 2 (omega arith)) (cut-bit v 1 (omega arith)) (cut-bit v 0 (omega arith)) refl)
 
-con1-bits : (v : ℕ) → con1Named (con1From v) ≡ bits con1Places v
+con1-bits : (v : ℕ) (c : Con1) → con1Bits (con1From v) ≡ writtenTo v (con1Bits c)
 unfolding con1From
-con1-bits v =
-    ap₂
-    (λ (p q : List Bool).
-    bitOf v 12
-    ∷ bitOf v 11
-    ∷ bitOf v 10
-    ∷ bitOf v 9
-    ∷ bitOf v 8
-    ∷ bitOf v 7
-    ∷ bitOf v 6
-    ∷ bitOf v 5
-    ∷ p ++ q)
-    (bits-cut v) (bits-low v)
+con1-bits v c =
+    ap
+    (λ (q : List Placed).
+    bit 12 (bitOf v 12)
+    ∷ bit 11 (bitOf v 11)
+    ∷ bit 10 (bitOf v 10)
+    ∷ bit 9 (bitOf v 9)
+    ∷ bit 8 (bitOf v 8)
+    ∷ bit 7 (bitOf v 7)
+    ∷ bit 6 (bitOf v 6)
+    ∷ bit 5 (bitOf v 5)
+    ∷ q)
+    (three-placed _ _ _ _ _ _ _ _ (cut-bit v 2 (omega arith)) (cut-bit v 1 (omega arith)) (cut-bit v 0 (omega arith))
+    (ap₂ (λ (x y : Bool). bit 1 x ∷ bit 0 y ∷ []) (low-bit v 1 (omega arith)) (low-bit v 0 (omega arith))))
 
-con2-bits : (v : ℕ) → con2Named (con2From v) ≡ bits con2Places v
+con2-bits : (v : ℕ) (c : Con2) → con2Bits (con2From v) ≡ writtenTo v (con2Bits c)
 unfolding con2From
-con2-bits v = refl
+con2-bits v c = refl
 
 -- An outcome that answers a call in kind and leaves the settings as written.
 pub record Fitting (s : Settings) (c : Call) (o : Outcome) : Type 0 where
   pub kind : among (saidOf (o .answer) .kind) (0 ∷ kindsFor c) ≡ true
-  pub stat : statNamed (o .after .settings)
-      ≡ (if isDone (o .answer) && writes 0 c then bits statPlaces (asks c .value) else statNamed s)
-  pub con1 : con1Named (o .after .settings .con1)
-      ≡ (if isDone (o .answer) && writes 1 c then bits con1Places (asks c .value) else con1Named (s .con1))
-  pub con2 : con2Named (o .after .settings .con2)
-      ≡ (if isDone (o .answer) && writes 2 c then bits con2Places (asks c .value) else con2Named (s .con2))
+  pub stat : statKept (o .after .settings)
+      ≡ (if isDone (o .answer) && writes 0 c then writtenTo (asks c .value) (statKept s) else statKept s)
+  pub con1 : con1Bits (o .after .settings .con1)
+      ≡ (if isDone (o .answer) && writes 1 c then writtenTo (asks c .value) (con1Bits (s .con1)) else con1Bits (s .con1))
+  pub con2 : con2Bits (o .after .settings .con2)
+      ≡ (if isDone (o .answer) && writes 2 c then writtenTo (asks c .value) (con2Bits (s .con2)) else con2Bits (s .con2))
 
 -- One register is not another.
 not-another : (register a b : ℕ) → eqb register a ≡ true → (a ≡ b → ⊥) → eqb register b ≡ false
@@ -93,9 +102,9 @@ module _ (m : Module) where
   same-fits c a after same kind stat con1 con2 =
       record {
         kind = kind;
-        stat = ap statNamed same ∙ sym (if-false (isDone a && writes 0 c) _ _ stat);
-        con1 = ap (λ (s : Settings). con1Named (s .con1)) same ∙ sym (if-false (isDone a && writes 1 c) _ _ con1);
-        con2 = ap (λ (s : Settings). con2Named (s .con2)) same ∙ sym (if-false (isDone a && writes 2 c) _ _ con2);
+        stat = ap statKept same ∙ sym (if-false (isDone a && writes 0 c) _ _ stat);
+        con1 = ap (λ (s : Settings). con1Bits (s .con1)) same ∙ sym (if-false (isDone a && writes 1 c) _ _ con1);
+        con2 = ap (λ (s : Settings). con2Bits (s .con2)) same ∙ sym (if-false (isDone a && writes 2 c) _ _ con2);
       }
 
   -- A refusal fits any call.
@@ -135,7 +144,7 @@ module _ (m : Module) where
       (λ e.
       record {
         kind = refl;
-        stat = stat-bits v s ∙ sym (if-true (eqb register 0) _ _ e0);
+        stat = stat-bits v s s ∙ sym (if-true (eqb register 0) _ _ e0);
         con1 = sym (if-false (eqb register 1) _ _ (not-another register 0 1 e0 (λ z. omega (arith, z))));
         con2 = sym (if-false (eqb register 2) _ _ (not-another register 0 2 e0 (λ z. omega (arith, z))));
       }))
@@ -147,7 +156,7 @@ module _ (m : Module) where
       record {
         kind = refl;
         stat = sym (if-false (eqb register 0) _ _ e0);
-        con1 = con1-bits v ∙ sym (if-true (eqb register 1) _ _ e1);
+        con1 = con1-bits v (s .con1) ∙ sym (if-true (eqb register 1) _ _ e1);
         con2 = sym (if-false (eqb register 2) _ _ (not-another register 1 2 e1 (λ z. omega (arith, z))));
       }))
       (λ e1.
@@ -159,7 +168,7 @@ module _ (m : Module) where
         kind = refl;
         stat = sym (if-false (eqb register 0) _ _ e0);
         con1 = sym (if-false (eqb register 1) _ _ e1);
-        con2 = con2-bits v ∙ sym (if-true (eqb register 2) _ _ e2);
+        con2 = con2-bits v (s .con2) ∙ sym (if-true (eqb register 2) _ _ e2);
       }))
       (λ e2.
       if-keeps P _ _ _ (λ e. refusal-fits (Write register v) _)

@@ -6,23 +6,26 @@ use Prim.Native.Nat.{ℕ}
 use mathlib.Core.Bool.{Bool, not, _&&_}
 use mathlib.Core.Path.{_≡_, refl}
 use lib.Dec.{eqb, ltb}
-use Rattle.spi_rules.specs.declared.Settings.{Settings}
-use Rattle.spi_rules.specs.declared.Module.{Module}
-use Rattle.spi_rules.specs.declared.Outcome.{Outcome}
-use Rattle.spi_rules.specs.declared.Refusal.{Refusal}
-use Rattle.spi_rules.specs.declared.Refusal.the-variants.{NoSuchRegister, Disabled, Enabled, TransmitFull, ReceiveEmpty, WrongClock, Overflowed}
-use Rattle.spi_rules.specs.declared.Answer.{Answer}
-use Rattle.spi_rules.specs.declared.Answer.the-variants.{Refused, Done, Value, NoEdge, Edge}
-use Rattle.spi_rules.specs.declared.Call.{Call}
-use Rattle.spi_rules.specs.declared.Call.the-variants.{Read, Write, Tick, Pin, Clear}
-use Rattle.spi_rules.specs.Choice.{if_then_else_}
+use Rattle.laws.specs.Choice.{if_then_else_}
+use Rattle.laws.proofs.Keeps.{if-keeps}
+use Rattle.spi_types.specs.declared.Settings.{Settings}
+use Rattle.spi_types.specs.declared.Module.{Module}
+use Rattle.spi_types.specs.declared.Outcome.{Outcome}
+use Rattle.spi_types.specs.declared.Refusal.{Refusal}
+use Rattle.spi_types.specs.declared.Refusal.the-variants.{NoSuchRegister, Disabled, Enabled, TransmitFull, ReceiveEmpty, WrongClock, Overflowed}
+use Rattle.spi_types.specs.declared.Answer.{Answer}
+use Rattle.spi_types.specs.declared.Answer.the-variants.{Refused, Done, Value, NoEdge, Edge}
+use Rattle.spi_types.specs.declared.Call.{Call}
+use Rattle.spi_types.specs.declared.Call.the-variants.{Read, Write, Tick, Pin, Clear}
 use Rattle.spi_rules.specs.Settings.{clockStops, ownClock}
 use Rattle.spi_rules.specs.Refusals.{causes, badSettings, firstGiven}
 use Rattle.spi_rules.specs.Registers.{isFree, spitbf}
 use Rattle.spi_rules.specs.Buffers.{empty}
 use Rattle.spi_rules.specs.Calls.{refuse, answering, turnsOn, readBuf, readOf, writeStat, configured, writeBuf, writeOf, tickOf, pinsOf, clearOf, performOf}
-use Rattle.spi_rules.proofs.Keeps.{if-keeps}
-use Rattle.spi_rules.proofs.Parts.{Unmoved}
+
+-- An outcome after which a refusal, or no edge, leaves the module as it was.
+abbrev pub Unmoved : Module → Outcome → Type 0
+Unmoved m o = ((r : Refusal) → o .answer ≡ Refused r → o .after ≡ m) × (o .answer ≡ NoEdge → o .after ≡ m)
 
 -- The module is as it was, whatever is answered.
 same-unmoved : (m : Module) (a : Answer) → Unmoved m (record { answer = a; after = m })

@@ -15,11 +15,12 @@ use native.Mathlib.Omega.{arith}
 use mir.Val.{boolByte}
 use lib.Dec.{eqb, lit<, lit≤}
 use lib.Pow.{pow-mono}
-use Rattle.spi_rules.specs.declared.Settings.{Settings}
-use Rattle.spi_rules.specs.Ring.{capacity}
+use Rattle.laws.proofs.Keeps.{if-keeps}
+use Rattle.word_order.specs.Bits.{bitOf}
+use Rattle.spi_types.specs.declared.Settings.{Settings}
+use Rattle.spi_rules.specs.Buffers.{capacity}
 use Rattle.spi_rules.specs.Settings.{widthOf, depthOf, enhancedDepth}
-use Rattle.spi_rules.specs.Registers.{bitOf, lowBits}
-use Rattle.spi_rules.proofs.Keeps.{if-keeps}
+use Rattle.spi_rules.specs.Registers.{lowBits}
 
 -- A word has at least one bit.
 pub width-least : (s : Settings) → 1 ≤ widthOf s

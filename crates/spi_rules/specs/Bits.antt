@@ -3,11 +3,11 @@ use Prim.Native.Nat.{ℕ, _+_, _*_, _-_, _/_, _%_}
 use mathlib.Core.Bool.{Bool, Bool·beq}
 use mir.Val.{boolByte}
 use lib.Dec.{eqb}
-use Rattle.spi_rules.specs.declared.Settings.{Settings}
-use Rattle.spi_rules.specs.declared.Progress.{Progress}
-use Rattle.spi_rules.specs.Choice.{if_then_else_}
+use Rattle.laws.specs.Choice.{if_then_else_}
+use Rattle.word_order.specs.Bits.{bitOf}
+use Rattle.spi_types.specs.declared.Settings.{Settings}
+use Rattle.spi_types.specs.declared.Progress.{Progress}
 use Rattle.spi_rules.specs.Settings.{widthOf, ckeOf}
-use Rattle.spi_rules.specs.Registers.{bitOf}
 
 -- An edge samples SDI or changes SDO. CKE 0 samples on even edges, CKE 1 on odd ones.
 abbrev pub samples : Bool → ℕ → Bool

@@ -1,13 +1,21 @@
 -- Document 01, "Registers" and "Loading": the two buffers over the ring.
-use Prim.Native.Nat.{ℕ, _+_, _-_}
+use Prim.Native.Nat.{ℕ, _+_, _-_, _%_}
 use mathlib.Core.Bool.{Bool, false, _||_}
 use mathlib.Core.List.{List}
 use lib.Dec.{leb, eqb}
 use lib.ListN.{getD, set, replicate}
-use Rattle.spi_rules.specs.declared.Transmit.{Transmit}
-use Rattle.spi_rules.specs.declared.Receive.{Receive}
-use Rattle.spi_rules.specs.Ring.{capacity, cell, next, contents}
-use Rattle.spi_rules.specs.Choice.{if_then_else_}
+use Rattle.laws.specs.Choice.{if_then_else_}
+use Rattle.ring.specs.Ring.{next, contents}
+use Rattle.spi_types.specs.declared.Transmit.{Transmit}
+use Rattle.spi_types.specs.declared.Receive.{Receive}
+
+-- The cells of each buffer, used or not: what the fields `words` hold.
+abbrev pub capacity : ℕ
+capacity = 8
+
+-- The cell of a position. A position that calls cannot reach is taken round the capacity, so that it names a cell too.
+abbrev pub cell : ℕ → ℕ
+cell at = at % capacity
 
 -- A buffer is full when it holds its depth, and empty when it holds nothing.
 abbrev pub full : ℕ → ℕ → Bool

@@ -4,28 +4,29 @@ use Prim.Native.Nat.{ℕ}
 use mathlib.Core.Bool.{Bool, false, not, _&&_, _||_, Bool·beq}
 use mathlib.Core.List.{List, [], _∷_}
 use lib.Dec.{eqb, ltb}
-use Rattle.spi_rules.specs.declared.Con1.{Con1}
-use Rattle.spi_rules.specs.declared.Con2.{Con2}
-use Rattle.spi_rules.specs.declared.Settings.{Settings}
-use Rattle.spi_rules.specs.declared.Engine.{Engine}
-use Rattle.spi_rules.specs.declared.Module.{Module}
-use Rattle.spi_rules.specs.declared.Pins.{Pins}
-use Rattle.spi_rules.specs.declared.Outcome.{Outcome}
-use Rattle.spi_rules.specs.declared.Shift.the-variants.{Free}
-use Rattle.spi_rules.specs.declared.Event.the-variants.{Taken, Written}
-use Rattle.spi_rules.specs.declared.Refusal.{Refusal}
-use Rattle.spi_rules.specs.declared.Refusal.the-variants.{NoSuchRegister, Disabled, Enabled, TransmitFull, ReceiveEmpty, WrongClock, Overflowed}
-use Rattle.spi_rules.specs.declared.Answer.{Answer}
-use Rattle.spi_rules.specs.declared.Answer.the-variants.{Refused, Done, Value, NoEdge, Edge}
-use Rattle.spi_rules.specs.declared.Call.{Call}
-use Rattle.spi_rules.specs.declared.Call.the-variants.{Read, Write, Tick, Pin, Clear}
-use Rattle.spi_rules.specs.declared.Output.{Output}
-use Rattle.spi_rules.specs.declared.Output.the-variants.{Low, High, Undriven}
-use Rattle.spi_rules.specs.Choice.{if_then_else_}
+use Rattle.laws.specs.Choice.{if_then_else_}
+use Rattle.word_order.specs.Bits.{bitOf}
+use Rattle.spi_types.specs.declared.Con1.{Con1}
+use Rattle.spi_types.specs.declared.Con2.{Con2}
+use Rattle.spi_types.specs.declared.Settings.{Settings}
+use Rattle.spi_types.specs.declared.Engine.{Engine}
+use Rattle.spi_types.specs.declared.Module.{Module}
+use Rattle.spi_types.specs.declared.Pins.{Pins}
+use Rattle.spi_types.specs.declared.Outcome.{Outcome}
+use Rattle.spi_types.specs.declared.Shift.the-variants.{Free}
+use Rattle.spi_types.specs.declared.Event.the-variants.{Taken, Written}
+use Rattle.spi_types.specs.declared.Refusal.{Refusal}
+use Rattle.spi_types.specs.declared.Refusal.the-variants.{NoSuchRegister, Disabled, Enabled, TransmitFull, ReceiveEmpty, WrongClock, Overflowed}
+use Rattle.spi_types.specs.declared.Answer.{Answer}
+use Rattle.spi_types.specs.declared.Answer.the-variants.{Refused, Done, Value, NoEdge, Edge}
+use Rattle.spi_types.specs.declared.Call.{Call}
+use Rattle.spi_types.specs.declared.Call.the-variants.{Read, Write, Tick, Pin, Clear}
+use Rattle.spi_types.specs.declared.Output.{Output}
+use Rattle.spi_types.specs.declared.Output.the-variants.{Low, High, Undriven}
 use Rattle.spi_rules.specs.Changes.{withTransmit, withReceive, withInterrupt}
 use Rattle.spi_rules.specs.Settings.{depthOf, frameHost, frameClient, clockStops, ownClock}
 use Rattle.spi_rules.specs.Refusals.{causes, badSettings, firstGiven}
-use Rattle.spi_rules.specs.Registers.{con1From, con1Value, con2From, con2Value, bitOf, isFree, statValue, statSettings, statEngine, enabledEngine, disabledEngine, lowBits, spitbf}
+use Rattle.spi_rules.specs.Registers.{con1From, con1Value, con2From, con2Value, isFree, statValue, statSettings, statEngine, enabledEngine, disabledEngine, lowBits, spitbf}
 use Rattle.spi_rules.specs.Buffers.{empty, emptyTransmit, emptyReceive, firstUnread, taken, written}
 use Rattle.spi_rules.specs.Interrupts.{noted}
 use Rattle.spi_rules.specs.Loading.{loaded, rested}

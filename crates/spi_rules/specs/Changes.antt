@@ -1,10 +1,10 @@
 -- An engine with one of its parts changed, and all else as it was.
 use mathlib.Core.Bool.{Bool}
-use Rattle.spi_rules.specs.declared.Transmit.{Transmit}
-use Rattle.spi_rules.specs.declared.Receive.{Receive}
-use Rattle.spi_rules.specs.declared.Shift.{Shift}
-use Rattle.spi_rules.specs.declared.Pins.{Pins}
-use Rattle.spi_rules.specs.declared.Engine.{Engine}
+use Rattle.spi_types.specs.declared.Transmit.{Transmit}
+use Rattle.spi_types.specs.declared.Receive.{Receive}
+use Rattle.spi_types.specs.declared.Shift.{Shift}
+use Rattle.spi_types.specs.declared.Pins.{Pins}
+use Rattle.spi_types.specs.declared.Engine.{Engine}
 
 abbrev pub withTransmit : Transmit → Engine → Engine
 withTransmit t n =

@@ -2,36 +2,36 @@
 -- value, ticks, pin calls and clears, each refused or not. The record OneModule at the end holds every statement, and
 -- proofs/DemandsHold.antt proves it. The step is performOf of specs/Calls.antt, one line for each call. Linked runs, the
 -- clock report and scripts have pages of their own; crates/spi_demands gathers them.
-use Prim.Native.Nat.{ℕ, zero, suc, _+_, _*_, _-_, _≤_}
+use Prim.Native.Nat.{ℕ, _+_, _*_, _-_, _≤_}
 use mathlib.Core.Bool.{Bool, true, false, not, _&&_, _||_, Bool·beq}
-use mathlib.Core.List.{List, [], _∷_, _++_}
+use mathlib.Core.List.{List, [], _∷_, _++_, map}
 use mathlib.Core.Path.{_≡_}
 use mir.Val.{boolByte}
-use lib.Dec.{eqb, leb}
+use lib.Dec.{eqb, ltb, leb}
 use lib.ListN.{length}
-use Rattle.spi_rules.specs.declared.Settings.{Settings}
-use Rattle.spi_rules.specs.declared.Module.{Module}
-use Rattle.spi_rules.specs.declared.Outcome.{Outcome}
-use Rattle.spi_rules.specs.declared.Progress.{Progress}
-use Rattle.spi_rules.specs.declared.Shift.{Shift}
-use Rattle.spi_rules.specs.declared.Shift.the-variants.{Free, Loaded, Begun}
-use Rattle.spi_rules.specs.declared.Refusal.{Refusal}
-use Rattle.spi_rules.specs.declared.Answer.the-variants.{Refused, Value, NoEdge, Edge}
-use Rattle.spi_rules.specs.declared.Call.{Call}
-use Rattle.spi_rules.specs.declared.Call.the-variants.{Read, Write, Tick, Pin, Clear}
-use Rattle.spi_rules.specs.Choice.{if_then_else_}
+use Rattle.laws.specs.Choice.{if_then_else_}
+use Rattle.word_order.specs.Bits.{bitOf, spelled}
+use Rattle.word_order.specs.Ledger.{isQuiet, Passed, sent, kept, lostOf, edgesGiven, carriesFiller, unsent}
+use Rattle.spi_types.specs.declared.Module.{Module}
+use Rattle.spi_types.specs.declared.Outcome.{Outcome}
+use Rattle.spi_types.specs.declared.Progress.{Progress}
+use Rattle.spi_types.specs.declared.Shift.{Shift}
+use Rattle.spi_types.specs.declared.Shift.the-variants.{Free, Loaded, Begun}
+use Rattle.spi_types.specs.declared.Refusal.{Refusal}
+use Rattle.spi_types.specs.declared.Answer.the-variants.{Refused, Value, NoEdge, Edge}
+use Rattle.spi_types.specs.declared.Call.{Call}
+use Rattle.spi_types.specs.declared.Call.the-variants.{Read, Write, Tick, Pin, Clear}
 use Rattle.spi_rules.specs.Refusals.{numberOf, saidOf, isDone}
 use Rattle.spi_rules.specs.Examples.{examples, furtherExamples, frameExamples, markExamples}
-use Rattle.spi_rules.specs.InBits.{wordBits, room, oddSampled, clocksItself, stopsBetweenWords, heedsSelect, givesPulses, takesPulses}
-use Rattle.spi_rules.specs.Registers.{bitOf}
+use Rattle.spi_rules.specs.InBits.{wordBits, room, clocksItself, stopsBetweenWords, heedsSelect, givesPulses, takesPulses}
 use Rattle.spi_rules.specs.Words.{waitingIn, unreadIn, owedWords}
 use Rattle.spi_rules.specs.Calls.{poweredUp, performOf, interruptOf, sckOf, sdoOf, ssOf}
-use Rattle.spi_rules.specs.Invariant.{Reached, sampled}
-use Rattle.spi_rules.specs.RefusalTable.{firstNumber, asks, writes, isClear, rows}
-use Rattle.spi_rules.specs.Ledger.{Ledger, Wire, quiet, busy, isQuiet, Passed, spelled, sent, undropped, hasLost, opened}
+use Rattle.spi_rules.specs.Invariant.{Reached}
 use Rattle.spi_rules.specs.Watch.{Watched, watchedCall, watchedCalls, showsPulse}
-use Rattle.spi_rules.specs.Flags.{bits, statNamed, statPlaces, statBits, con1Named, con1Places, con2Named, con2Places, con2Bits, seesAccepted, seesLost, seesRaised, sdoShown, pinShown, selectShown}
-use Rattle.spi_rules.specs.Frames.{edgesGiven, unsent, carriesFiller, FramedCall, FrameHostCall, FrameClientCall, FollowsOn}
+use Rattle.spi_rules.specs.Lives.{Beginning, life}
+use Rattle.spi_rules.specs.Flags.{numberIn, writtenTo, statKept, con1Bits, con2Bits, statBits, seen, raised, sdoShown, pinShown, selectShown}
+use Rattle.spi_rules.specs.Frames.{FramedCall, FrameHostCall, FrameClientCall, FollowsOn}
+use Rattle.spi_rules.specs.RefusalTable.{firstNumber, asks, writes, isClear, rows}
 
 -- Demand 1. Every call is answered and ends, for any value in any state: performOf is a total function, and the gate
 -- proves that the code of each call ends with what it says.
@@ -61,7 +61,7 @@ pub record Answered : Type 0 where
 
 -- The figures that this page reckons with: what the bits of a number are, and what number bits spell, highest first.
 pub record Figures : Type 0 where
-  pub bit : bits (15 ∷ 14 ∷ 13 ∷ 12 ∷ 11 ∷ 10 ∷ 9 ∷ 8 ∷ 7 ∷ 6 ∷ 5 ∷ 4 ∷ 3 ∷ 2 ∷ 1 ∷ 0 ∷ []) 40015
+  pub bit : map (bitOf 40015) (15 ∷ 14 ∷ 13 ∷ 12 ∷ 11 ∷ 10 ∷ 9 ∷ 8 ∷ 7 ∷ 6 ∷ 5 ∷ 4 ∷ 3 ∷ 2 ∷ 1 ∷ 0 ∷ [])
       ≡ (true ∷ false ∷ false ∷ true ∷ true ∷ true ∷ false ∷ false ∷ false ∷ true ∷ false ∷ false ∷ true ∷ true ∷ true ∷ true ∷ [])
   pub spells : spelled 0 (true ∷ false ∷ false ∷ true ∷ true ∷ []) ≡ 19
 
@@ -75,69 +75,15 @@ pub record AllZero (m : Module) : Type 0 where
   pub ss : m .engine .pins .ss ≡ false
   pub sdo : m .engine .pins .sdo ≡ false
 
--- Where a module is watched from: power-up, or the middle of its life, for any enabled module that has the invariant of
--- specs/Invariant.antt. The ledger then opens with what the module holds.
-
--- The highest bits of a word of the given width, highest first.
-abbrev pub topBits : ℕ → ℕ → ℕ → List Bool
-topBits width zero word = []
-topBits width (suc count) word = topBits width count word ++ (bitOf word (width - 1 - count) ∷ [])
-
-abbrev pub wireOf : Settings → Shift → Wire
-wireOf s Free = quiet
-wireOf s (Loaded word) = quiet
-wireOf s (Begun p) =
-    let bits : ℕ = sampled (oddSampled s) (p .edges) in
-    busy
-    (record {
-      filler = p .filler;
-      edges = p .edges;
-      shown = topBits (wordBits s) bits (p .word);
-      seen = topBits bits bits (p .received);
-    })
-
-abbrev pub allUnmarked : List ℕ → List Passed
-allUnmarked [] = []
-allUnmarked (word ∷ words) = record { word = word; marked = false } ∷ allUnmarked words
-
--- A marked buffer has lost a word, whichever it was.
-abbrev pub lostWord : Passed
-lostWord = record { word = 0; marked = true }
-
-abbrev pub resumed : Module → Ledger
-resumed m =
-    record {
-      accepted = owedWords m;
-      departures = [];
-      arrivals = allUnmarked (unreadIn m) ++ (if m .engine .receive .marked then lostWord ∷ [] else []);
-      read = [];
-      wire = wireOf (m .settings) (m .engine .shift);
-      sck = m .engine .pins .sck;
-      ss = m .engine .pins .ss;
-      pulse = m .engine .pins .pulse;
-    }
-
-pub data Beginning : Type 0 where
-  powerUp : Beginning
-  midLife : (m : Module) → Reached m → m .settings .spien ≡ true → Beginning
-
-abbrev pub begins : Beginning → Watched
-begins powerUp = record { now = poweredUp; ledger = opened false }
-begins (midLife m holds enabled) = record { now = m; ledger = resumed m }
-
--- A watched module after some calls.
-abbrev pub life : Beginning → List Call → Watched
-life b cs = watchedCalls (begins b) cs
-
 -- Demand 2. Every register value, pin level, flag and interrupt after every call is what document 01's rules say: the rules
 -- are the definitions of this folder, docs/TRACE.md sets each beside the paper, and the contract of each call is an
 -- equation with one of them. They are run on the paper's examples, and come to this after any calls.
 
--- What reads show: the numbers that the bits spell.
+-- What reads show: the numbers that the bits make at their places.
 pub record ReadsShow (x : Watched) : Type 0 where
-  pub stat : performOf (x .now) (Read 0) .answer ≡ Value (spelled 0 (statBits x))
-  pub con1 : performOf (x .now) (Read 1) .answer ≡ Value (spelled 0 (con1Named (x .now .settings .con1)))
-  pub con2 : performOf (x .now) (Read 2) .answer ≡ Value (spelled 0 (con2Bits (x .now .settings .con2)))
+  pub stat : performOf (x .now) (Read 0) .answer ≡ Value (numberIn (statBits x))
+  pub con1 : performOf (x .now) (Read 1) .answer ≡ Value (numberIn (con1Bits (x .now .settings .con1)))
+  pub con2 : performOf (x .now) (Read 2) .answer ≡ Value (numberIn (con2Bits (x .now .settings .con2)))
 
 -- A done write of this register.
 abbrev pub wrote : ℕ → Watched → Call → Bool
@@ -147,39 +93,39 @@ wrote register x c = isDone (performOf (x .now) c .answer) && writes register c
 -- conditions, and only the clear call takes it down. SPIROV is set exactly by a loss and cleared exactly by a done STAT
 -- write with a 0 in bit 6. The levels of a module that is disabled stay as disabling found them.
 pub record CallChanges (x : Watched) (c : Call) : Type 0 where
-  pub stat : statNamed (watchedCall x c .now .settings)
-      ≡ (if wrote 0 x c then bits statPlaces (asks c .value) else statNamed (x .now .settings))
-  pub con1 : con1Named (watchedCall x c .now .settings .con1)
-      ≡ (if wrote 1 x c then bits con1Places (asks c .value) else con1Named (x .now .settings .con1))
-  pub con2 : con2Named (watchedCall x c .now .settings .con2)
-      ≡ (if wrote 2 x c then bits con2Places (asks c .value) else con2Named (x .now .settings .con2))
+  pub stat : statKept (watchedCall x c .now .settings)
+      ≡ (if wrote 0 x c then writtenTo (asks c .value) (statKept (x .now .settings)) else statKept (x .now .settings))
+  pub con1 : con1Bits (watchedCall x c .now .settings .con1)
+      ≡ (if wrote 1 x c then writtenTo (asks c .value) (con1Bits (x .now .settings .con1)) else con1Bits (x .now .settings .con1))
+  pub con2 : con2Bits (watchedCall x c .now .settings .con2)
+      ≡ (if wrote 2 x c then writtenTo (asks c .value) (con2Bits (x .now .settings .con2)) else con2Bits (x .now .settings .con2))
   pub flag : interruptOf (watchedCall x c .now)
-      ≡ (not (isClear c) && (interruptOf (x .now) || seesRaised x (watchedCall x c)))
+      ≡ (not (isClear c) && (interruptOf (x .now) || raised (x .now .settings) (seen x (watchedCall x c))))
   pub spirov : watchedCall x c .now .engine .spirov
       ≡ (if wrote 0 x c then x .now .engine .spirov && bitOf (asks c .value) 6
-      else x .now .engine .spirov || seesLost x (watchedCall x c))
+      else x .now .engine .spirov || seen x (watchedCall x c) .lost)
   pub sdo : watchedCall x c .now .engine .pins .sdo ≡ sdoShown x (watchedCall x c)
   pub sck : watchedCall x c .now .settings .spien ≡ false → sckOf (watchedCall x c .now) ≡ sckOf (x .now)
   pub ss : watchedCall x c .now .settings .spien ≡ false → watchedCall x c .now .engine .pins .ss ≡ x .now .engine .pins .ss
 
--- The pins as others see them: SDO and SS with their levels or undriven, and the clock where the ledger has it.
+-- The pins as others see them: SDO and SS with their levels or undriven, and the clock where the watcher remembers it.
 pub record PinsShow (x : Watched) : Type 0 where
   pub sdo : sdoOf (x .now) ≡ pinShown x
   pub ss : ssOf (x .now) ≡ selectShown x
-  pub sck : x .now .settings .spien ≡ true → sckOf (x .now) ≡ x .ledger .sck
+  pub sck : x .now .settings .spien ≡ true → sckOf (x .now) ≡ x .memory .sck
 
--- Demand 3. Word order of a module that is enabled now: the accepted words are those fully sent, then the one that left the
--- transmit buffer and is not finished, then those waiting. The received words less the dropped are those read, then those
+-- Demand 3. Word order of a module that is enabled now, an instance of the law of crates/word_order: the accepted words are those fully
+-- sent, then the one that left the transmit buffer and is not finished, then those waiting. The received words less the dropped are those read, then those
 -- waiting, so that the k-th word read is the k-th received and undropped one, and a read with none waiting is refused with
 -- 6. A finished word is dropped exactly if the buffer is full or marked; SPIROV is set at that step (CallChanges). The mark
 -- stands exactly if a word was lost in enhanced operation since the module was last enabled, and while it stands no read
 -- gives a word (document 02, Four).
 pub record WordOrder (x : Watched) : Type 0 where
   pub sending : x .ledger .accepted ≡ sent (x .ledger) ++ owedWords (x .now)
-  pub receiving : undropped (x .ledger) ≡ x .ledger .read ++ unreadIn (x .now)
+  pub receiving : kept (x .ledger) ≡ x .ledger .read ++ unreadIn (x .now)
   pub dropped : (c : Call) (a : Passed) → watchedCall x c .ledger .arrivals ≡ x .ledger .arrivals ++ (a ∷ []) →
       a .marked ≡ (leb (room (x .now .settings)) (length (unreadIn (x .now))) || x .now .engine .receive .marked)
-  pub mark : x .now .engine .receive .marked ≡ (x .now .settings .con2 .spiben && hasLost (x .ledger))
+  pub mark : x .now .engine .receive .marked ≡ (x .now .settings .con2 .spiben && ltb 0 (lostOf (x .ledger)))
   pub stale : x .now .engine .receive .marked ≡ true → saidOf (performOf (x .now) (Read 3) .answer) .number ≡ 16
 
 -- Fillers. The module sends one exactly while the ledger has one on the wire, and SDO is low then. A client without SSEN and without
@@ -226,7 +172,7 @@ owed x =
 -- Calls that leave the module enabled and accept no word.
 pub record Undisturbed (x : Watched) (c : Call) : Type 0 where
   pub enabled : watchedCall x c .now .settings .spien ≡ true
-  pub noWord : seesAccepted x (watchedCall x c) ≡ false
+  pub noWord : seen x (watchedCall x c) .accepted ≡ false
 
 abbrev pub AllUndisturbed : Watched → List Call → Type 0
 AllUndisturbed x [] = Unit {0}

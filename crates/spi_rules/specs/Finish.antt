@@ -1,11 +1,11 @@
 -- Document 01, "Finish, at edge 2w, in this order".
 use Prim.Native.Nat.{ℕ}
 use mathlib.Core.Bool.{Bool, true, not, _&&_, _||_}
-use Rattle.spi_rules.specs.declared.Settings.{Settings}
-use Rattle.spi_rules.specs.declared.Engine.{Engine}
-use Rattle.spi_rules.specs.declared.Shift.the-variants.{Free}
-use Rattle.spi_rules.specs.declared.Event.the-variants.{Appended, Finished}
-use Rattle.spi_rules.specs.Choice.{if_then_else_}
+use Rattle.laws.specs.Choice.{if_then_else_}
+use Rattle.spi_types.specs.declared.Settings.{Settings}
+use Rattle.spi_types.specs.declared.Engine.{Engine}
+use Rattle.spi_types.specs.declared.Shift.the-variants.{Free}
+use Rattle.spi_types.specs.declared.Event.the-variants.{Appended, Finished}
 use Rattle.spi_rules.specs.Changes.{withReceive, withShift, withSpirov}
 use Rattle.spi_rules.specs.Settings.{depthOf, ssenClient}
 use Rattle.spi_rules.specs.Buffers.{full, appended, overrun}

@@ -1,27 +1,18 @@
 -- Document 02, Three: what comes of frames, said of the SS pin, the calls and the ledger.
-use Prim.Native.Nat.{ℕ, _+_, _*_, _-_, _≤_}
+use Prim.Native.Nat.{_+_, _*_, _≤_}
 use mathlib.Core.Bool.{Bool, true, false, not, _&&_, _||_, Bool·beq}
 use mathlib.Core.List.{List, [], _∷_}
 use mathlib.Core.Path.{_≡_}
 use lib.Dec.{eqb, leb}
-use lib.ListN.{length}
-use Rattle.spi_rules.specs.declared.Settings.{Settings}
-use Rattle.spi_rules.specs.declared.Answer.the-variants.{Edge}
-use Rattle.spi_rules.specs.declared.Call.{Call}
-use Rattle.spi_rules.specs.declared.Call.the-variants.{Read, Write, Tick, Pin, Clear}
-use Rattle.spi_rules.specs.Choice.{if_then_else_}
+use Rattle.laws.specs.Choice.{if_then_else_}
+use Rattle.word_order.specs.Ledger.{Ledger, isQuiet, edgesGiven, carriesFiller, unsent}
+use Rattle.spi_types.specs.declared.Settings.{Settings}
+use Rattle.spi_types.specs.declared.Answer.the-variants.{Edge}
+use Rattle.spi_types.specs.declared.Call.{Call}
+use Rattle.spi_types.specs.declared.Call.the-variants.{Read, Write, Tick, Pin, Clear}
 use Rattle.spi_rules.specs.InBits.{wordBits, clocksItself}
 use Rattle.spi_rules.specs.Calls.{performOf, sckOf}
-use Rattle.spi_rules.specs.Ledger.{Ledger, Wire, quiet, busy, isQuiet, sent}
 use Rattle.spi_rules.specs.Watch.{Watched, watchedCall, watchedCalls, showsPulse}
-
--- The edges given to the word on the wire, and the words accepted and not sent.
-abbrev pub edgesGiven : Wire → ℕ
-edgesGiven quiet = 0
-edgesGiven (busy w) = w .edges
-
-abbrev pub unsent : Ledger → ℕ
-unsent l = length (l .accepted) - length (sent l)
 
 -- A call made an edge: the module was enabled before it and is after it, and its clock moved. The edge is a sample edge if it
 -- went to the idle level CKP, else a transmit edge.
@@ -39,11 +30,6 @@ transmitEdge x c = edgeMade x c && not (toIdle x c)
 -- A word or a filler began: nothing was on the wire, and something is.
 abbrev pub wordBegins : Watched → Call → Bool
 wordBegins x c = isQuiet (x .ledger .wire) && not (isQuiet (watchedCall x c .ledger .wire))
-
--- A filler is on the wire.
-abbrev pub carriesFiller : Wire → Bool
-carriesFiller quiet = false
-carriesFiller (busy w) = w .filler
 
 -- The SS pin starts a pulse with a call, or ends one.
 abbrev pub startsPulse : Watched → Call → Bool
@@ -94,12 +80,12 @@ ssTold Clear = false
 -- sample edge was told SS active, with no word under way after it. It is a word if one is left to send at that edge, else a
 -- filler.
 pub record FrameClientCall (x : Watched) (c : Call) : Type 0 where
-  pub begins : wordBegins x c ≡ (transmitEdge x c && x .ledger .pulse)
+  pub begins : wordBegins x c ≡ (transmitEdge x c && x .memory .pulse)
   pub stands : watchedCall x c .now .settings .spien ≡ true →
-      watchedCall x c .ledger .pulse
+      watchedCall x c .memory .pulse
       ≡ (if edgeMade x c
       then toIdle x c && (Bool·beq (ssTold c) (x .now .settings .con2 .frmpol) && isQuiet (watchedCall x c .ledger .wire))
-      else x .ledger .pulse)
+      else x .memory .pulse)
   pub fills : wordBegins x c ≡ true → carriesFiller (watchedCall x c .ledger .wire) ≡ eqb (unsent (x .ledger)) 0
 
 -- Calls that leave the module enabled and make no edge.
@@ -108,22 +94,16 @@ Still x [] = Unit {0}
 Still x (c ∷ cs) =
     (watchedCall x c .now .settings .spien ≡ true) × (edgeMade x c ≡ false) × Still (watchedCall x c) cs
 
+-- The next edge behind x is made by the call c at y: calls that make none lead there.
+pub data NextEdge (x : Watched) : Watched → Call → Type 0 where
+  next : (cs : List Call) (c : Call) → Still x cs → edgeMade (watchedCalls x cs) c ≡ true → NextEdge x (watchedCalls x cs) c
+
 -- Words of a frame host follow each other without a gap. FRMDLY 0: c makes edge 2w-1 with a further word to send, d edge 2w, and
 -- e begins that word. FRMDLY 1: c makes edge 2w, a word is there before d makes the next edge, and d begins it.
 pub record FollowsOn (x : Watched) : Type 0 where
-  pub before : x .now .settings .con2 .frmdly ≡ false → (c d e : Call) (cs ds : List Call) →
-      edgesGiven (x .ledger .wire) + 2 ≡ 2 * wordBits (x .now .settings) →
-      edgeMade x c ≡ true →
-      2 ≤ unsent (x .ledger) →
-      Still (watchedCall x c) cs →
-      edgeMade (watchedCalls (watchedCall x c) cs) d ≡ true →
-      Still (watchedCall (watchedCalls (watchedCall x c) cs) d) ds →
-      edgeMade (watchedCalls (watchedCall (watchedCalls (watchedCall x c) cs) d) ds) e ≡ true →
-      wordBegins (watchedCalls (watchedCall (watchedCalls (watchedCall x c) cs) d) ds) e ≡ true
-  pub with : x .now .settings .con2 .frmdly ≡ true → (c d : Call) (cs : List Call) →
-      edgesGiven (x .ledger .wire) + 1 ≡ 2 * wordBits (x .now .settings) →
-      edgeMade x c ≡ true →
-      Still (watchedCall x c) cs →
-      1 ≤ unsent (watchedCalls (watchedCall x c) cs .ledger) →
-      edgeMade (watchedCalls (watchedCall x c) cs) d ≡ true →
-      wordBegins (watchedCalls (watchedCall x c) cs) d ≡ true
+  pub before : x .now .settings .con2 .frmdly ≡ false → edgesGiven (x .ledger .wire) + 2 ≡ 2 * wordBits (x .now .settings) →
+      2 ≤ unsent (x .ledger) → (c : Call) → edgeMade x c ≡ true → (y z : Watched) (d e : Call) → NextEdge (watchedCall x c) y d →
+      NextEdge (watchedCall y d) z e → wordBegins z e ≡ true
+  pub with : x .now .settings .con2 .frmdly ≡ true → edgesGiven (x .ledger .wire) + 1 ≡ 2 * wordBits (x .now .settings) →
+      (c : Call) → edgeMade x c ≡ true → (y : Watched) (d : Call) → NextEdge (watchedCall x c) y d → 1 ≤ unsent (y .ledger) →
+      wordBegins y d ≡ true

@@ -3,9 +3,9 @@
 use Prim.Native.Nat.{ℕ, _%_}
 use mathlib.Core.Bool.{Bool, not, _&&_, _||_, Bool·beq}
 use lib.Dec.{eqb}
-use Rattle.spi_rules.specs.declared.Con1.{Con1}
-use Rattle.spi_rules.specs.declared.Settings.{Settings}
-use Rattle.spi_rules.specs.Choice.{if_then_else_}
+use Rattle.laws.specs.Choice.{if_then_else_}
+use Rattle.spi_types.specs.declared.Con1.{Con1}
+use Rattle.spi_types.specs.declared.Settings.{Settings}
 
 -- A word has 16 bits with MODE16, else 8.
 abbrev pub wordBits : Settings → ℕ

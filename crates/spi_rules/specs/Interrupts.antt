@@ -3,11 +3,11 @@
 use Prim.Native.Nat.{ℕ, _+_, _*_, _/_}
 use mathlib.Core.Bool.{Bool, true, false, _||_, _&&_}
 use lib.Dec.{eqb, leb}
-use Rattle.spi_rules.specs.declared.Settings.{Settings}
-use Rattle.spi_rules.specs.declared.Engine.{Engine}
-use Rattle.spi_rules.specs.declared.Event.{Event}
-use Rattle.spi_rules.specs.declared.Event.the-variants.{Taken, Appended, Left, Finished, Written}
-use Rattle.spi_rules.specs.Choice.{if_then_else_}
+use Rattle.laws.specs.Choice.{if_then_else_}
+use Rattle.spi_types.specs.declared.Settings.{Settings}
+use Rattle.spi_types.specs.declared.Engine.{Engine}
+use Rattle.spi_types.specs.declared.Event.{Event}
+use Rattle.spi_types.specs.declared.Event.the-variants.{Taken, Appended, Left, Finished, Written}
 use Rattle.spi_rules.specs.Changes.{withInterrupt}
 use Rattle.spi_rules.specs.Settings.{depthOf}
 

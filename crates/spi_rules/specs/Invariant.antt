@@ -2,20 +2,19 @@
 -- call keeps it; proofs/InvariantUses.antt has a theorem for each clause.
 use Prim.Native.Nat.{ℕ, _+_, _*_, _-_, _/_, _%_, _^_, _≤_, _<_}
 use mathlib.Core.Bool.{Bool, true, false, Bool·beq}
-use mathlib.Core.List.{List}
 use mathlib.Core.Path.{_≡_}
 use lib.Dec.{eqb}
-use lib.ListN.{length, getD}
-use Rattle.spi_rules.specs.declared.Settings.{Settings}
-use Rattle.spi_rules.specs.declared.Engine.{Engine}
-use Rattle.spi_rules.specs.declared.Module.{Module}
-use Rattle.spi_rules.specs.declared.Progress.{Progress}
-use Rattle.spi_rules.specs.declared.Shift.{Shift}
-use Rattle.spi_rules.specs.declared.Shift.the-variants.{Free, Loaded, Begun}
-use Rattle.spi_rules.specs.Choice.{if_then_else_}
-use Rattle.spi_rules.specs.Ring.{after}
+use lib.ListN.{length}
+use Rattle.laws.specs.Choice.{if_then_else_}
+use Rattle.ring.specs.Ring.{RingHolds, CellsHold}
+use Rattle.word_order.specs.Bits.{bitOf}
+use Rattle.spi_types.specs.declared.Settings.{Settings}
+use Rattle.spi_types.specs.declared.Engine.{Engine}
+use Rattle.spi_types.specs.declared.Module.{Module}
+use Rattle.spi_types.specs.declared.Progress.{Progress}
+use Rattle.spi_types.specs.declared.Shift.{Shift}
+use Rattle.spi_types.specs.declared.Shift.the-variants.{Free, Loaded, Begun}
 use Rattle.spi_rules.specs.InBits.{wordBits, room, oddSampled, stopsBetweenWords, heedsSelect, givesPulses, takesPulses, sendsNoFiller, cannotEnable}
-use Rattle.spi_rules.specs.Registers.{bitOf}
 use Rattle.spi_rules.specs.Buffers.{emptyTransmit, emptyReceive, firstWaiting}
 use Rattle.spi_rules.specs.Loading.{nextTop, isBegun}
 
@@ -25,16 +24,6 @@ pub record SettingsHold (s : Settings) : Type 0 where
   pub spre : s .con1 .spre < 8
   pub ppre : s .con1 .ppre < 4
   pub allowed : s .spien ≡ true → cannotEnable s ≡ false
-
--- A ring turns within its depth: both positions and the count are in range, and the two positions lie the count apart.
-pub record RingHolds (depth write read count : ℕ) : Type 0 where
-  pub within : read < depth
-  pub fits : count ≤ depth
-  pub apart : write ≡ after depth read count
-
--- Every cell holds a word of width w.
-abbrev pub CellsHold : ℕ → List ℕ → Type 0
-CellsHold w cells = (i : ℕ) → getD cells i 0 < 2 ^ w
 
 -- Bits sampled by the edges given so far.
 unfoldable pub sampled : Bool → ℕ → ℕ

@@ -1,8 +1,6 @@
 -- Document 01's rules of one module as definitions that compute, a file for each topic. Read them in this order: each
 -- stands on those before it. The demands come first for a buyer: Demands, then what it mentions.
-pub mod Choice
 pub mod Changes
-pub mod Ring
 pub mod Settings
 pub mod Buffers
 pub mod Registers
@@ -19,8 +17,9 @@ pub mod Words
 pub mod Invariant
 pub mod Examples
 pub mod RefusalTable
-pub mod Ledger
+pub mod Pulses
 pub mod Watch
+pub mod Lives
 pub mod Flags
 pub mod Frames
 pub mod Demands

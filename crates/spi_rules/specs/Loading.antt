@@ -1,16 +1,17 @@
 -- Document 01, "Loading", with the SDO level that CKE 1 shows between words ("Bits").
 use Prim.Native.Nat.{_-_}
 use mathlib.Core.Bool.{Bool, true, false, not, _&&_}
-use Rattle.spi_rules.specs.declared.Settings.{Settings}
-use Rattle.spi_rules.specs.declared.Engine.{Engine}
-use Rattle.spi_rules.specs.declared.Transmit.{Transmit}
-use Rattle.spi_rules.specs.declared.Shift.{Shift}
-use Rattle.spi_rules.specs.declared.Shift.the-variants.{Free, Loaded, Begun}
-use Rattle.spi_rules.specs.declared.Event.the-variants.{Left}
-use Rattle.spi_rules.specs.Choice.{if_then_else_}
+use Rattle.laws.specs.Choice.{if_then_else_}
+use Rattle.word_order.specs.Bits.{bitOf}
+use Rattle.spi_types.specs.declared.Settings.{Settings}
+use Rattle.spi_types.specs.declared.Engine.{Engine}
+use Rattle.spi_types.specs.declared.Transmit.{Transmit}
+use Rattle.spi_types.specs.declared.Shift.{Shift}
+use Rattle.spi_types.specs.declared.Shift.the-variants.{Free, Loaded, Begun}
+use Rattle.spi_types.specs.declared.Event.the-variants.{Left}
 use Rattle.spi_rules.specs.Changes.{withTransmit, withShift, withSdo}
 use Rattle.spi_rules.specs.Settings.{widthOf, depthOf, ssenClient, ckeOf}
-use Rattle.spi_rules.specs.Registers.{bitOf, isFree}
+use Rattle.spi_rules.specs.Registers.{isFree}
 use Rattle.spi_rules.specs.Buffers.{empty, firstWaiting, departed}
 use Rattle.spi_rules.specs.Interrupts.{noted}
 

@@ -3,13 +3,13 @@ use Prim.Native.Nat.{ℕ}
 use mathlib.Core.Bool.{Bool, false, not, _&&_, _||_}
 use mathlib.Core.List.{List, [], _∷_}
 use lib.Dec.{eqb}
-use Rattle.spi_rules.specs.declared.Settings.{Settings}
-use Rattle.spi_rules.specs.declared.Refusal.{Refusal}
-use Rattle.spi_rules.specs.declared.Refusal.the-variants.{NoSuchRegister, Disabled, Enabled, TransmitFull, ReceiveEmpty, WrongClock, NoRate, UnreadableLine, DifferentModes, TooManyEdges, Undivided, LateSampling, UnselectedCke, Overflowed}
-use Rattle.spi_rules.specs.declared.Answer.{Answer}
-use Rattle.spi_rules.specs.declared.Answer.the-variants.{Refused, Done, Value, NoEdge, Edge}
-use Rattle.spi_rules.specs.declared.Said.{Said}
-use Rattle.spi_rules.specs.Choice.{if_then_else_}
+use Rattle.laws.specs.Choice.{if_then_else_}
+use Rattle.spi_types.specs.declared.Settings.{Settings}
+use Rattle.spi_types.specs.declared.Refusal.{Refusal}
+use Rattle.spi_types.specs.declared.Refusal.the-variants.{NoSuchRegister, Disabled, Enabled, TransmitFull, ReceiveEmpty, WrongClock, NoRate, UnreadableLine, DifferentModes, TooManyEdges, Undivided, LateSampling, UnselectedCke, Overflowed}
+use Rattle.spi_types.specs.declared.Answer.{Answer}
+use Rattle.spi_types.specs.declared.Answer.the-variants.{Refused, Done, Value, NoEdge, Edge}
+use Rattle.spi_types.specs.declared.Said.{Said}
 use Rattle.spi_rules.specs.Settings.{framed, ownClock}
 
 -- The table's number for each refusal. This is the one place that writes them.

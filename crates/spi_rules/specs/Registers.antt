@@ -1,22 +1,19 @@
 -- Document 01, "Registers": the bits, what reads show, and what writes take.
 use Prim.Native.Nat.{ℕ, _+_, _*_, _/_, _%_, _^_}
 use mathlib.Core.Bool.{Bool, true, false, _&&_}
-use lib.Dec.{eqb, ltb}
-use Rattle.spi_rules.specs.declared.Con1.{Con1}
-use Rattle.spi_rules.specs.declared.Con2.{Con2}
-use Rattle.spi_rules.specs.declared.Settings.{Settings}
-use Rattle.spi_rules.specs.declared.Engine.{Engine}
-use Rattle.spi_rules.specs.declared.Module.{Module}
-use Rattle.spi_rules.specs.declared.Shift.{Shift}
-use Rattle.spi_rules.specs.declared.Shift.the-variants.{Free, Loaded, Begun}
-use Rattle.spi_rules.specs.Choice.{if_then_else_}
+use lib.Dec.{ltb}
+use Rattle.laws.specs.Choice.{if_then_else_}
+use Rattle.word_order.specs.Bits.{bitOf}
+use Rattle.spi_types.specs.declared.Con1.{Con1}
+use Rattle.spi_types.specs.declared.Con2.{Con2}
+use Rattle.spi_types.specs.declared.Settings.{Settings}
+use Rattle.spi_types.specs.declared.Engine.{Engine}
+use Rattle.spi_types.specs.declared.Module.{Module}
+use Rattle.spi_types.specs.declared.Shift.{Shift}
+use Rattle.spi_types.specs.declared.Shift.the-variants.{Free, Loaded, Begun}
 use Rattle.spi_rules.specs.Changes.{withTransmit, withReceive, withShift, withPins, withSpirov}
 use Rattle.spi_rules.specs.Settings.{widthOf, depthOf}
 use Rattle.spi_rules.specs.Buffers.{full, empty, emptyTransmit, emptyReceive}
-
--- Bit i of a number.
-unfoldable pub bitOf : ℕ → ℕ → Bool
-bitOf v i = eqb (v / 2 ^ i % 2) 1
 
 -- What a bit of the given weight adds to a register's value.
 unfoldable pub weighed : Bool → ℕ → ℕ

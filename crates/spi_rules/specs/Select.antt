@@ -1,9 +1,9 @@
 -- Document 01, "Abort", and the select level in "One edge at a time".
 use mathlib.Core.Bool.{Bool, _&&_}
-use Rattle.spi_rules.specs.declared.Settings.{Settings}
-use Rattle.spi_rules.specs.declared.Engine.{Engine}
-use Rattle.spi_rules.specs.declared.Shift.the-variants.{Free}
-use Rattle.spi_rules.specs.Choice.{if_then_else_}
+use Rattle.laws.specs.Choice.{if_then_else_}
+use Rattle.spi_types.specs.declared.Settings.{Settings}
+use Rattle.spi_types.specs.declared.Engine.{Engine}
+use Rattle.spi_types.specs.declared.Shift.the-variants.{Free}
 use Rattle.spi_rules.specs.Changes.{withShift, withSs}
 use Rattle.spi_rules.specs.Settings.{ssenClient}
 use Rattle.spi_rules.specs.Loading.{isBegun, rested}

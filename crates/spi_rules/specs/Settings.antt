@@ -1,8 +1,8 @@
 -- Document 01, "Registers" and "One edge at a time": what the settings decide.
 use Prim.Native.Nat.{ℕ}
 use mathlib.Core.Bool.{Bool, not, _&&_}
-use Rattle.spi_rules.specs.declared.Settings.{Settings}
-use Rattle.spi_rules.specs.Choice.{if_then_else_}
+use Rattle.laws.specs.Choice.{if_then_else_}
+use Rattle.spi_types.specs.declared.Settings.{Settings}
 
 -- Width w: 16 with MODE16, else 8.
 abbrev pub widthOf : Settings → ℕ

@@ -1,40 +1,51 @@
--- How this module is watched: what its ledger must know of it, and what each call and its answer tell.
-use Prim.Native.Nat.{_*_, _%_, _^_}
-use mathlib.Core.Bool.{Bool, false, not, _&&_, _||_, Bool·beq}
-use mathlib.Core.List.{List, [], _∷_}
+-- How this module is watched: what the law of word order (crates/word_order) must know of it, and what each call and its answer tell.
+use Prim.Native.Nat.{ℕ, _*_, _%_, _^_}
+use mathlib.Core.Bool.{Bool, true, false, not, _&&_, _||_, Bool·beq}
+use mathlib.Core.List.{List, [], _∷_, _++_}
 use lib.Dec.{eqb}
-use Rattle.spi_rules.specs.declared.Settings.{Settings}
-use Rattle.spi_rules.specs.declared.Module.{Module}
-use Rattle.spi_rules.specs.declared.Answer.{Answer}
-use Rattle.spi_rules.specs.declared.Output.{Output}
-use Rattle.spi_rules.specs.declared.Output.the-variants.{Low, High, Undriven}
-use Rattle.spi_rules.specs.declared.Call.{Call}
-use Rattle.spi_rules.specs.declared.Call.the-variants.{Read, Write, Tick, Pin, Clear}
-use Rattle.spi_rules.specs.Choice.{if_then_else_}
-use Rattle.spi_rules.specs.InBits.{wordBits, room, sampledAt, heedsSelect, givesPulses, takesPulses, sendsNoFiller}
+use Rattle.laws.specs.Choice.{if_then_else_}
+use Rattle.word_order.specs.Bits.{bitOf}
+use Rattle.word_order.specs.Ledger.{Terms, dropsNew, Op, accepts, reads, begins, clocks, forgets}
+use Rattle.word_order.specs.Port.{Way, idle, sends, Port}
+use Rattle.word_order.specs.Machine.{Entry, opens, notes, Watching}
+use Rattle.spi_types.specs.declared.Settings.{Settings}
+use Rattle.spi_types.specs.declared.Module.{Module}
+use Rattle.spi_types.specs.declared.Shift.{Shift}
+use Rattle.spi_types.specs.declared.Shift.the-variants.{Free, Loaded, Begun}
+use Rattle.spi_types.specs.declared.Answer.{Answer}
+use Rattle.spi_types.specs.declared.Output.{Output}
+use Rattle.spi_types.specs.declared.Output.the-variants.{Low, High, Undriven}
+use Rattle.spi_types.specs.declared.Call.{Call}
+use Rattle.spi_types.specs.declared.Call.the-variants.{Read, Write, Tick, Pin, Clear}
+use Rattle.spi_rules.specs.InBits.{wordBits, room, sampledAt, heedsSelect, takesPulses, sendsNoFiller}
+use Rattle.spi_rules.specs.Pulses.{startedBy, stands}
+use Rattle.spi_rules.specs.Words.{unreadIn, owedWords}
 use Rattle.spi_rules.specs.Refusals.{saidOf, isDone, isValue, isEdge}
-use Rattle.spi_rules.specs.Registers.{bitOf}
-use Rattle.spi_rules.specs.Edge.{Levels}
 use Rattle.spi_rules.specs.Calls.{performOf, ssOf}
-use Rattle.spi_rules.specs.Ledger.{Terms, Ledger, opened, selectNoted, edgeNoted, acceptedNoted, readNoted}
+use Rattle.word_order.specs.Machine as law
 
--- In enhanced operation a loss ends reception (document 02, Four). A word takes 2w edges and begins at one that is not to the level CKP; an unframed host and a frame host send no fillers; an
--- SSEN client is deaf while its select is high. A framed module begins nothing without a pulse: a frame host with FRMDLY 1
--- with the pulse that it shows after the edge, the others with the one that stood before it.
 abbrev pub terms : Settings → Terms
 terms s =
     record {
+      width = wordBits s;
       depth = room s;
-      marks = s .con2 .spiben;
+      -- a received word that finds the buffer full is dropped; in enhanced operation that ends reception (document 02, Four)
+      policy = dropsNew (s .con2 .spiben);
       samples = sampledAt s;
+      -- a word takes 2w edges
       last = 2 * wordBits s;
-      idle = λ sck. Bool·beq sck (s .con1 .ckp);
       silent = sendsNoFiller s;
-      deaf = λ ss. heedsSelect s && ss;
-      starts = λ stood shown. not (s .con2 .frmen) || (if givesPulses s && s .con2 .frmdly then shown else stood);
-      gives = givesPulses s;
-      active = λ ss. takesPulses s && Bool·beq ss (s .con2 .frmpol);
     }
+
+-- Its words. The word under way is the begun one.
+abbrev pub wayOf : Shift → Way
+wayOf Free = idle
+wayOf (Loaded word) = idle
+wayOf (Begun p) = sends (record { filler = p .filler; word = p .word; edges = p .edges; received = p .received })
+
+abbrev pub portIn : Module → Port
+portIn m =
+    record { owed = owedWords m; way = wayOf (m .engine .shift); unread = unreadIn m; marked = m .engine .receive .marked }
 
 -- A pin that is driven at this level.
 abbrev pub isLevel : Bool → Output → Bool
@@ -46,46 +57,118 @@ isLevel level Undriven = false
 abbrev pub showsPulse : Module → Bool
 showsPulse m = isLevel (m .settings .con2 .frmpol) (ssOf m)
 
--- The levels SCK, SDI and SS are shown: select first, and an SCK level unlike the remembered one is an edge. `sdo` is the
--- level that SDO has or would have as the call is made, and `shown` says whether SS shows a pulse after it.
-unfoldable pub levelsNoted : Terms → Bool → Bool → Levels → Ledger → Ledger
-levelsNoted t sdo shown x l =
-    if Bool·beq (x .sck) (l .sck) then selectNoted t (x .ss) l
-    else edgeNoted t sdo shown (x .sck) (x .sdi) (selectNoted t (x .ss) l)
+-- What shows as a call is made: the settings, the level that SDO has or would have, the answer, and whether SS shows a pulse after it.
+pub record Sight : Type 0 where
+  pub settings : Settings
+  pub sdo : Bool
+  pub answer : Answer
+  pub shown : Bool
 
--- What the watcher writes down for each call, by its answer; for a refused one nothing.
-unfoldable pub entered : Settings → Bool → Bool → Call → Answer → Ledger → Ledger
--- a BUF read told a word
-entered s sdo shown (Read register) a l = if isValue a && eqb register 3 then readNoted (saidOf a .value) l else l
--- a BUF write was done: the accepted word is the w bits that it kept; a STAT write that turns SPIEN on opens the ledger
-entered s sdo shown (Write register v) a l =
-    if isDone a && eqb register 3 then acceptedNoted (v % 2 ^ wordBits s) l
-    else if isDone a && (eqb register 0 && (not (s .spien) && bitOf v 15)) then opened (s .con1 .ckp)
-    else l
--- a tick made an edge: the clock went to its other level; select is what a frame client was told, and else as it was
-entered s sdo shown (Tick sdi ss) a l =
-    if isEdge a
-    then levelsNoted (terms s) sdo shown (record { sck = not (l .sck); sdi = sdi; ss = if takesPulses s then ss else l .ss }) l
-    else l
--- a pin call showed its levels
-entered s sdo shown (Pin sck sdi ss) a l = if isDone a then levelsNoted (terms s) sdo shown (record { sck = sck; sdi = sdi; ss = ss }) l else l
-entered s sdo shown Clear a l = l
-
--- A module and its ledger, and both after one call and after a list of calls.
-pub record Watched : Type 0 where
-  pub now : Module
-  pub ledger : Ledger
-
-abbrev pub watchedCall : Watched → Call → Watched
-watchedCall x c =
+abbrev pub sightOf : Module → Call → Sight
+sightOf m c =
     record {
-      now = performOf (x .now) c .after;
-      ledger =
-          entered (x .now .settings) (x .now .engine .pins .sdo) (showsPulse (performOf (x .now) c .after)) c
-          (performOf (x .now) c .answer)
-          (x .ledger);
+      settings = m .settings;
+      sdo = m .engine .pins .sdo;
+      answer = performOf m c .answer;
+      shown = showsPulse (performOf m c .after);
     }
 
+-- What the watcher remembers: the levels of the clock and of select, and whether a pulse stands.
+pub record Memory : Type 0 where
+  pub sck : Bool
+  pub ss : Bool
+  pub pulse : Bool
+
+-- The module was enabled: the clock is at its idle level, select is high and no pulse stands.
+abbrev pub atEnabling : Settings → Memory
+atEnabling s = record { sck = s .con1 .ckp; ss = true; pulse = false }
+
+-- An SSEN client is deaf while its select is high: a word under way is forgotten, and edges only update the remembered level.
+abbrev pub deaf : Settings → Bool → Bool
+deaf s ss = heedsSelect s && ss
+
+-- An edge to the level `sck`: one that is not to the idle level may begin a word.
+abbrev pub mayBegin : Settings → Memory → Bool → Bool → Bool
+mayBegin s x shown sck = not (Bool·beq sck (s .con1 .ckp)) && startedBy s (x .pulse) shown
+
+abbrev pub edgeOps : Sight → Memory → Bool → Bool → List Op
+edgeOps v x sck sdi =
+    (if mayBegin (v .settings) x (v .shown) sck then begins ∷ [] else []) ++ (clocks (v .sdo) sdi ∷ [])
+
+-- The levels SCK, SDI and SS are shown: select first, and an SCK level unlike the remembered one is an edge.
+abbrev pub levelOps : Sight → Memory → Bool → Bool → Bool → List Op
+levelOps v x sck sdi ss =
+    if deaf (v .settings) ss then forgets ∷ []
+    else if Bool·beq sck (x .sck) then []
+    else edgeOps v x sck sdi
+
+abbrev pub levelsKept : Sight → Memory → Bool → Bool → Bool → Memory
+levelsKept v x busy sck ss =
+    record {
+      sck = sck;
+      ss = ss;
+      pulse =
+          if deaf (v .settings) ss || Bool·beq sck (x .sck) then x .pulse
+          else stands (v .settings) (v .shown) sck ss (not busy);
+    }
+
+-- The select level that a tick tells: a frame client's, and else the one that is remembered.
+abbrev pub ssOfTick : Sight → Memory → Bool → Bool
+ssOfTick v x ss = if takesPulses (v .settings) then ss else x .ss
+
+-- A STAT write that turns SPIEN on.
+abbrev pub enabledBy : Sight → ℕ → ℕ → Bool
+enabledBy v register value = isDone (v .answer) && (eqb register 0 && (not (v .settings .spien) && bitOf value 15))
+
+-- What the watcher writes down for each call, by its answer; for a refused one nothing.
+abbrev pub entryOf : Memory → Sight → Bool → ℕ → Call → Entry
+-- a BUF read told a word
+entryOf x v busy edges (Read register) =
+    if isValue (v .answer) && eqb register 3 then notes (reads (saidOf (v .answer) .value) ∷ []) else notes []
+-- a BUF write was done: the accepted word is the w bits that it kept
+entryOf x v busy edges (Write register value) =
+    if isDone (v .answer) && eqb register 3 then notes (accepts (value % 2 ^ wordBits (v .settings)) ∷ [])
+    else if enabledBy v register value then opens
+    else notes []
+-- a tick made an edge: the clock went to its other level
+entryOf x v busy edges (Tick sdi ss) =
+    if isEdge (v .answer) then notes (levelOps v x (not (x .sck)) sdi (ssOfTick v x ss)) else notes []
+-- a pin call showed its levels
+entryOf x v busy edges (Pin sck sdi ss) = if isDone (v .answer) then notes (levelOps v x sck sdi ss) else notes []
+entryOf x v busy edges Clear = notes []
+
+-- What the watcher remembers after it, with a word on the wire then or none.
+abbrev pub memoryAfter : Memory → Sight → Bool → Call → Memory
+memoryAfter x v busy (Read register) = x
+memoryAfter x v busy (Write register value) = if enabledBy v register value then atEnabling (v .settings) else x
+memoryAfter x v busy (Tick sdi ss) =
+    if isEdge (v .answer) then levelsKept v x busy (not (x .sck)) (ssOfTick v x ss) else x
+memoryAfter x v busy (Pin sck sdi ss) = if isDone (v .answer) then levelsKept v x busy sck ss else x
+memoryAfter x v busy Clear = x
+
+-- The module and its watcher. Its word order counts while it is enabled.
+abbrev pub ours : Watching
+ours =
+    record {
+      State = Module;
+      Call = Call;
+      step = λ m c. performOf m c .after;
+      on = λ m. m .settings .spien;
+      terms = λ m. terms (m .settings);
+      port = portIn;
+      Sight = Sight;
+      sight = sightOf;
+      Memory = Memory;
+      remembers = memoryAfter;
+      entry = entryOf;
+    }
+
+-- A module, what its watcher remembers, and its ledger; these after one call and after a list of calls.
+abbrev pub Watched : Type 0
+Watched = law.Watched ours
+
+abbrev pub watchedCall : Watched → Call → Watched
+watchedCall x c = law.watchedCall ours x c
+
 abbrev pub watchedCalls : Watched → List Call → Watched
-watchedCalls x [] = x
-watchedCalls x (c ∷ cs) = watchedCalls (watchedCall x c) cs
+watchedCalls x cs = law.watchedCalls ours x cs

@@ -11,12 +11,13 @@ use borrow.Author.Tests.{leb-true}
 use lib.Dec.{leb, ltb}
 use lib.ListN.{length, take, drop, length-append, length-drop}
 use lib.Seq.{take-at, drop-at}
-use Rattle.spi_rules.specs.declared.Module.{Module}
-use Rattle.spi_rules.specs.declared.Call.{Call}
-use Rattle.spi_rules.specs.Choice.{if_then_else_}
+use Rattle.laws.specs.Choice.{if_then_else_}
+use Rattle.laws.proofs.Keeps.{if-true, if-false, and-left, and-right, by-test}
+use Rattle.spi_types.specs.declared.Module.{Module}
+use Rattle.spi_types.specs.declared.Call.{Call}
 use Rattle.spi_rules.specs.RefusalTable.{row, firstNumber}
 use Rattle.spi_rules.specs.Calls.{poweredUp, afterCalls}
-use Rattle.spi_rules.proofs.Keeps.{if-true, if-false, and-left, and-right, by-test}
+use Rattle.spi_rules.specs.Examples.{paperExamples}
 use Rattle.spi_script_rules.specs.Script.{readFrom, linesOf, scriptCalls, scriptEnd}
 use Rattle.spi_trace_rules.specs.declared.Played.the-variants.{Made}
 use Rattle.spi_trace_rules.specs.Trace.{sectionCount, fileCalls, playedOf, isMade, playedModule}

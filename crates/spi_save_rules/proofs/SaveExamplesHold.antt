@@ -3,7 +3,7 @@
 -- Assumes nothing.
 use mathlib.Core.Bool.{true}
 use mathlib.Core.Path.{_≡_, refl}
-use Rattle.spi_rules.specs.Choice.{if_then_else_}
+use Rattle.laws.specs.Choice.{if_then_else_}
 use Rattle.spi_script_rules.specs.Script.{bytes, mostBytes, readFrom, longer, linesOf, between, fitsPlace, fits as hasForm, writeForm, readForm, tickForm, tickSsForm, pinForm, clearForm, digitValue, hexValue, fourHexValue, levelValue, readingOf}
 use Rattle.spi_save_rules.specs.Save.{keeps, keptOf, keptFrom, keptCalls, wires, recordOf, recordsOf, fileOf, savedFile, fits, savedOf, bufferAfter, savedNumberOf, savedLengthOf}
 use Rattle.spi_save_rules.specs.SaveExamples.{saveExamples}

@@ -14,10 +14,10 @@ use borrow.Author.Tests.{le-ltb}
 use lib.Dec.{leb, ltb}
 use lib.ListN.{length, length-append}
 use lib.Seq.{take-at}
-use Rattle.spi_rules.specs.declared.Call.{Call}
-use Rattle.spi_rules.specs.declared.Call.the-variants.{Read, Write, Tick, Pin, Clear}
-use Rattle.spi_rules.specs.Choice.{if_then_else_}
-use Rattle.spi_rules.proofs.Keeps.{if-false, and-left, and-right, and-both}
+use Rattle.laws.specs.Choice.{if_then_else_}
+use Rattle.laws.proofs.Keeps.{if-false, and-left, and-right, and-both}
+use Rattle.spi_types.specs.declared.Call.{Call}
+use Rattle.spi_types.specs.declared.Call.the-variants.{Read, Write, Tick, Pin, Clear}
 use Rattle.spi_trace_rules.specs.declared.Entry.{Entry}
 use Rattle.spi_trace_rules.specs.declared.Played.the-variants.{Made}
 use Rattle.spi_trace_rules.specs.Trace.{byteAt, halfAt, wordAt, sectionCount, tableEnd, startOf, sizeOf, contentsRight, bodyOf, entriesIn, recordsOf as entriesOf, isPlay, wireIn, levelOf, rightRecord, allRight, allBelow, recordsRight, callOf, callsBy, callsOf, countBy, countOf, fileCalls, fileCount, playedOf}

@@ -9,14 +9,14 @@ use mathlib.Core.List.{List, [], _∷_, _++_}
 use mathlib.Core.Path.{_≡_, refl, sym, ap, _∙_}
 use borrow.Author.Tests.{ltb-true, ltb-false, lt-ltb, leb-false, le-leb, lt-leb}
 use lib.Dec.{leb, ltb}
-use Rattle.spi_rules.specs.declared.Module.{Module}
-use Rattle.spi_rules.specs.declared.Call.{Call}
-use Rattle.spi_rules.specs.declared.Outcome.{Outcome}
-use Rattle.spi_rules.specs.declared.Call.the-variants.{Read, Write, Tick, Pin, Clear}
-use Rattle.spi_rules.specs.Choice.{if_then_else_}
+use Rattle.laws.specs.Choice.{if_then_else_}
+use Rattle.laws.proofs.Keeps.{if-keeps, if-true, by-test, and-both, clash}
+use Rattle.spi_types.specs.declared.Module.{Module}
+use Rattle.spi_types.specs.declared.Call.{Call}
+use Rattle.spi_types.specs.declared.Outcome.{Outcome}
+use Rattle.spi_types.specs.declared.Call.the-variants.{Read, Write, Tick, Pin, Clear}
 use Rattle.spi_rules.specs.RefusalTable.{asks}
 use Rattle.spi_rules.specs.Calls.{refuse, readOf, writeOf, performOf, afterCalls}
-use Rattle.spi_rules.proofs.Keeps.{if-keeps, if-true, by-test, and-both, clash}
 use Rattle.spi_script_rules.specs.declared.Line.{Line}
 use Rattle.spi_script_rules.specs.declared.Line.the-variants.{Unreadable, Asked}
 use Rattle.spi_script_rules.specs.Script.{readingOf, asked, callsOf}

@@ -18,8 +18,8 @@ use borrow.Author.Tests.{le-leb, lt-leb}
 use lib.Dec.{leb}
 use lib.ListN.{length, take, drop, length-append, set}
 use lib.Seq.{sets, sets-eq}
-use Rattle.spi_rules.specs.declared.Call.{Call}
-use Rattle.spi_rules.proofs.Keeps.{if-true, if-false, and-both, and-false, and-first}
+use Rattle.laws.proofs.Keeps.{if-true, if-false, and-both, and-false, and-first}
+use Rattle.spi_types.specs.declared.Call.{Call}
 use Rattle.spi_script_rules.specs.declared.Line.{Line}
 use Rattle.spi_script_rules.specs.Script.{mostBytes, readFrom, linesOf, readingOf}
 use Rattle.spi_script_rules.specs.Session.{firstLine}

@@ -15,9 +15,9 @@ use native.Mathlib.Omega.{arith}
 use borrow.Author.Tests.{leb-true}
 use lib.ListN.{length, drop, drop-of-length-le, length-append, length-drop}
 use lib.Seq.{drop-drop}
-use Rattle.spi_rules.specs.declared.Call.{Call}
-use Rattle.spi_rules.specs.declared.Call.the-variants.{Read, Write}
-use Rattle.spi_rules.proofs.Keeps.{if-keeps, if-true, if-false}
+use Rattle.laws.proofs.Keeps.{if-keeps, if-true, if-false}
+use Rattle.spi_types.specs.declared.Call.{Call}
+use Rattle.spi_types.specs.declared.Call.the-variants.{Read, Write}
 use Rattle.spi_script_rules.specs.declared.Line.{Line}
 use Rattle.spi_script_rules.specs.declared.Line.the-variants.{Unreadable, Asked}
 use Rattle.spi_script_rules.specs.Script.{linesOf, readingOf}

@@ -1,14 +1,14 @@
 // Saves a script session as a trace file of one section: the lines that are kept are counted, and if the file fits, it is written
 // at the start of a lent buffer.
-use spi_rules::Call;
 use spi_save_rules::Saved;
 use spi_script_rules::Line;
+use spi_types::Call;
 ghost use Prim.Native.Nat.{_+_, _*_, _≤_, _<_};
 ghost use mathlib.Core.Bool.{true};
 ghost use mathlib.Core.List.{[], _∷_, _++_};
 ghost use mathlib.Core.Path.{_≡_};
 ghost use lib.ListN.{length};
-ghost use Rattle.spi_rules.specs.Choice.{if_then_else_};
+ghost use Rattle.laws.specs.Choice.{if_then_else_};
 ghost use Rattle.spi_script_rules.specs.Script.{linesOf};
 ghost use Rattle.spi_script_rules.specs.Texts.{Written};
 ghost use Rattle.spi_trace_rules.specs.TraceBytes.{half, word, entry};

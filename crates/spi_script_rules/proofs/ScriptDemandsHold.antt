@@ -2,6 +2,7 @@
 --     scripts-hold   what the buyer signs for, of the script program
 -- Assumes nothing.
 use mathlib.Core.Path.{sym, _∙_}
+use Rattle.spi_rules.specs.Examples.{paperExamples}
 use Rattle.spi_script_rules.specs.ScriptDemands.{Scripts}
 use Rattle.spi_script_rules.proofs.ScriptLines.{reads-all, reads-no-more, too-long}
 use Rattle.spi_script_rules.proofs.ScriptSizes.{piece-fits}

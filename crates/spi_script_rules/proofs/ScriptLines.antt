@@ -20,11 +20,11 @@ use borrow.Author.Tests.{not-true}
 use lib.Dec.{eqb}
 use lib.ListN.{length, take, drop, length-take}
 use lib.Seq.{take-all, take-at}
+use Rattle.laws.specs.Choice.{if_then_else_}
+use Rattle.laws.proofs.Keeps.{if-keeps, if-false, and-false, and-left, and-right}
 use Rattle.spi_script_rules.specs.declared.Line.the-variants.{Unreadable}
-use Rattle.spi_rules.specs.Choice.{if_then_else_}
 use Rattle.spi_script_rules.specs.Script.{lf, mostBytes, readFrom, longer, linesOf, Place, fitsPlace, fits, writeForm, readForm, tickForm, tickSsForm, pinForm, clearForm, readingOf}
 use Rattle.spi_script_rules.specs.Session.{firstLine}
-use Rattle.spi_rules.proofs.Keeps.{if-keeps, if-false, and-false, and-left, and-right}
 
 -- What is read.
 

@@ -14,23 +14,23 @@ use native.Mathlib.Omega.{arith}
 use borrow.Author.Tests.{ltb-false}
 use lib.Dec.{leb, ltb}
 use lib.ListN.{length, length-append}
-use Rattle.spi_rules.specs.declared.Module.{Module}
-use Rattle.spi_script_rules.specs.declared.Session.{Session}
-use Rattle.spi_rules.specs.declared.Refusal.{Refusal}
-use Rattle.spi_rules.specs.declared.Refusal.the-variants.{NoSuchRegister, Disabled, Enabled, TransmitFull, ReceiveEmpty, WrongClock, NoRate, UnreadableLine, DifferentModes, TooManyEdges, Undivided, LateSampling, UnselectedCke, Overflowed}
-use Rattle.spi_rules.specs.declared.Answer.{Answer}
-use Rattle.spi_rules.specs.declared.Answer.the-variants.{Refused, Done, Value, NoEdge, Edge}
-use Rattle.spi_rules.specs.declared.Call.{Call}
-use Rattle.spi_rules.specs.declared.Call.the-variants.{Read, Write, Tick, Pin, Clear}
-use Rattle.spi_rules.specs.declared.Output.{Output}
-use Rattle.spi_rules.specs.declared.Output.the-variants.{Low, High, Undriven}
-use Rattle.spi_script_rules.specs.declared.Line.{Line}
-use Rattle.spi_script_rules.specs.declared.Line.the-variants.{Unreadable, Asked}
+use Rattle.laws.proofs.Keeps.{if-keeps, or-right}
+use Rattle.spi_types.specs.declared.Module.{Module}
+use Rattle.spi_types.specs.declared.Refusal.{Refusal}
+use Rattle.spi_types.specs.declared.Refusal.the-variants.{NoSuchRegister, Disabled, Enabled, TransmitFull, ReceiveEmpty, WrongClock, NoRate, UnreadableLine, DifferentModes, TooManyEdges, Undivided, LateSampling, UnselectedCke, Overflowed}
+use Rattle.spi_types.specs.declared.Answer.{Answer}
+use Rattle.spi_types.specs.declared.Answer.the-variants.{Refused, Done, Value, NoEdge, Edge}
+use Rattle.spi_types.specs.declared.Call.{Call}
+use Rattle.spi_types.specs.declared.Call.the-variants.{Read, Write, Tick, Pin, Clear}
+use Rattle.spi_types.specs.declared.Output.{Output}
+use Rattle.spi_types.specs.declared.Output.the-variants.{Low, High, Undriven}
 use Rattle.spi_rules.specs.Refusals.{numberOf}
 use Rattle.spi_rules.specs.Calls.{ssOf}
+use Rattle.spi_script_rules.specs.declared.Session.{Session}
+use Rattle.spi_script_rules.specs.declared.Line.{Line}
+use Rattle.spi_script_rules.specs.declared.Line.the-variants.{Unreadable, Asked}
 use Rattle.spi_script_rules.specs.Script.{bytes, mostBytes, readFrom, readingOf, decimalIn, decimalOf, fourHexOf, refusedText, okText, ssText, pinText, edgeText, doneText, answerText, lineText, answerLine}
 use Rattle.spi_script_rules.specs.Session.{ended, lineOf, linePlayed, answers, pieceLines, pieceText}
-use Rattle.spi_rules.proofs.Keeps.{if-keeps, or-right}
 
 -- A number below 10 ^ p has no more than p digits.
 pub decimal-length : (places p n : ℕ) → n < 10 ^ p → 0 < p → length (decimalIn places n) ≤ p

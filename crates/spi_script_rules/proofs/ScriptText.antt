@@ -15,22 +15,22 @@ use native.Mathlib.Omega.{arith}
 use borrow.Author.Tests.{ne-eqb}
 use lib.Dec.{eqb, ltb}
 use lib.ListN.{length, take, getD}
-use Rattle.spi_rules.specs.declared.Module.{Module}
-use Rattle.spi_rules.specs.declared.Refusal.{Refusal}
-use Rattle.spi_rules.specs.declared.Refusal.the-variants.{UnreadableLine}
-use Rattle.spi_rules.specs.declared.Answer.{Answer}
-use Rattle.spi_rules.specs.declared.Answer.the-variants.{Refused, Done, Value, NoEdge, Edge}
-use Rattle.spi_rules.specs.declared.Call.{Call}
-use Rattle.spi_rules.specs.declared.Call.the-variants.{Read, Write, Tick, Pin, Clear}
-use Rattle.spi_rules.specs.declared.Output.{Output}
-use Rattle.spi_rules.specs.declared.Output.the-variants.{Low, High, Undriven}
-use Rattle.spi_script_rules.specs.declared.Line.{Line}
-use Rattle.spi_script_rules.specs.declared.Line.the-variants.{Unreadable, Asked}
-use Rattle.spi_rules.specs.Choice.{if_then_else_}
+use Rattle.laws.specs.Choice.{if_then_else_}
+use Rattle.laws.proofs.Keeps.{if-keeps, by-test}
+use Rattle.spi_types.specs.declared.Module.{Module}
+use Rattle.spi_types.specs.declared.Refusal.{Refusal}
+use Rattle.spi_types.specs.declared.Refusal.the-variants.{UnreadableLine}
+use Rattle.spi_types.specs.declared.Answer.{Answer}
+use Rattle.spi_types.specs.declared.Answer.the-variants.{Refused, Done, Value, NoEdge, Edge}
+use Rattle.spi_types.specs.declared.Call.{Call}
+use Rattle.spi_types.specs.declared.Call.the-variants.{Read, Write, Tick, Pin, Clear}
+use Rattle.spi_types.specs.declared.Output.{Output}
+use Rattle.spi_types.specs.declared.Output.the-variants.{Low, High, Undriven}
 use Rattle.spi_rules.specs.Refusals.{numberOf}
 use Rattle.spi_rules.specs.Calls.{poweredUp, afterCalls, interruptOf, sckOf, sdoOf, ssOf}
+use Rattle.spi_script_rules.specs.declared.Line.{Line}
+use Rattle.spi_script_rules.specs.declared.Line.the-variants.{Unreadable, Asked}
 use Rattle.spi_script_rules.specs.Script.{bytes, lf, space, readFrom, linesOf, readingOf, decimalIn, decimalOf, hexOf, fourHexOf, levelOf, sdoLetter, refusedText, okText, ssText, pinText, edgeText, doneText, answerText, lineText, lineAfter, answerLine, answersFrom, asked, callsOf, scriptOutput}
-use Rattle.spi_rules.proofs.Keeps.{if-keeps, by-test}
 use Rattle.spi_script_rules.proofs.ScriptLines.{NoLf, no-lf, no-lf-append, lines-end}
 
 -- No LF in an answer.

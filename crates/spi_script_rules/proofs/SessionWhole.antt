@@ -20,12 +20,12 @@ use borrow.Author.Tests.{leb-true, leb-false, ltb-true}
 use lib.Dec.{leb}
 use lib.ListN.{length, drop, length-drop, drop-of-length-le}
 use lib.Seq.{drop-drop}
-use Rattle.spi_script_rules.specs.declared.Session.{Session}
-use Rattle.spi_rules.specs.Choice.{if_then_else_}
+use Rattle.laws.specs.Choice.{if_then_else_}
+use Rattle.laws.proofs.Keeps.{if-true, or-left, or-rest, by-test}
 use Rattle.spi_rules.specs.Calls.{poweredUp, afterCalls}
+use Rattle.spi_script_rules.specs.declared.Session.{Session}
 use Rattle.spi_script_rules.specs.Script.{mostBytes, readFrom, linesOf, readingOf, answerLine, answersFrom, callsOf, scriptOutput, scriptCalls}
 use Rattle.spi_script_rules.specs.Session.{started, bytesLeft, ended, lineOf, linePlayed, played, answers, pieceLines, pieceAfter, pieceText, pieces, piecesText}
-use Rattle.spi_rules.proofs.Keeps.{if-true, or-left, or-rest, by-test}
 use Rattle.spi_script_rules.proofs.ScriptLines.{reads-at-most, lines-begin, lines-at-most}
 use Rattle.spi_script_rules.proofs.ScriptText.{call-of-line}
 

@@ -5,9 +5,9 @@ use mathlib.Core.Bool.{Bool, _||_}
 use mathlib.Core.List.{List, [], _∷_, _++_}
 use lib.Dec.{eqb, leb, ltb}
 use lib.ListN.{length, drop}
-use Rattle.spi_script_rules.specs.declared.Session.{Session}
-use Rattle.spi_rules.specs.Choice.{if_then_else_}
+use Rattle.laws.specs.Choice.{if_then_else_}
 use Rattle.spi_rules.specs.Calls.{poweredUp}
+use Rattle.spi_script_rules.specs.declared.Session.{Session}
 use Rattle.spi_script_rules.specs.Script.{lf, mostBytes, readFrom, readingOf, lineAfter, answerLine}
 
 -- A script starts with a module at power-up.

@@ -1,7 +1,7 @@
 // The vocabulary of document 01, "The script program". Its rules are the definitions in specs/, and what follows from them
 // is in proofs/.
-use spi_rules::Call;
-use spi_rules::Module;
+use spi_types::Call;
+use spi_types::Module;
 
 // A line of a script: it cannot be read, or it asks for a call.
 pub enum Line {

@@ -16,16 +16,16 @@ use borrow.Author.Tests.{le-leb, lt-leb, lt-ltb, le-ltb}
 use lib.Dec.{leb}
 use lib.ListN.{length, take, drop, length-take, length-drop, length-append}
 use lib.Seq.{take-take}
-use Rattle.spi_rules.specs.declared.Module.{Module}
+use Rattle.laws.proofs.Keeps.{if-false}
+use Rattle.spi_types.specs.declared.Module.{Module}
 use Rattle.spi_script_rules.specs.declared.Line.{Line}
 use Rattle.spi_script_rules.specs.declared.Session.{Session}
 use Rattle.spi_script_rules.specs.Script.{mostBytes, readFrom, readingOf, lineAfter, answerLine}
 use Rattle.spi_script_rules.specs.Session.{firstLine, bytesLeft, ended, lineOf, linePlayed, played, answers, pieceLines, pieceAfter, pieceText}
-use Rattle.spi_rules.proofs.Keeps.{if-false}
+use Rattle.spi_script_rules.specs.Texts.{put, Written}
 use Rattle.spi_script_rules.proofs.ScriptLines.{read-part}
 use Rattle.spi_script_rules.proofs.ScriptSizes.{answers-fit, piece-fits}
 use Rattle.spi_script_rules.proofs.SessionWhole.{ended-answers, played-add, answers-add}
-use Rattle.spi_script_rules.specs.Texts.{put, Written}
 use Rattle.spi_script_rules.proofs.Texts.{put-then, written-case, put-length}
 
 or-true : (a : Bool) → (a || true) ≡ true

@@ -16,18 +16,18 @@ use native.Mathlib.Nat.{pow-suc, div-lt-iff-lt-mul}
 use borrow.Author.Tests.{ltb-false, le-ltb, lt-ltb}
 use lib.Dec.{ltb}
 use lib.ListN.{length, length-append}
-use Rattle.spi_script_rules.specs.Script.{decimalIn, decimalOf, answerText, lineText}
-use Rattle.spi_rules.specs.declared.Module.{Module}
-use Rattle.spi_rules.specs.declared.Outcome.{Outcome}
-use Rattle.spi_rules.specs.declared.Answer.{Answer}
-use Rattle.spi_rules.specs.declared.Call.{Call}
-use Rattle.spi_script_rules.specs.declared.Line.the-variants.{Asked}
-use Rattle.spi_rules.specs.declared.Refusal.{Refusal}
+use Rattle.laws.proofs.Keeps.{if-both, if-true, if-false}
+use Rattle.spi_types.specs.declared.Module.{Module}
+use Rattle.spi_types.specs.declared.Outcome.{Outcome}
+use Rattle.spi_types.specs.declared.Answer.{Answer}
+use Rattle.spi_types.specs.declared.Call.{Call}
+use Rattle.spi_types.specs.declared.Refusal.{Refusal}
 use Rattle.spi_rules.specs.Calls.{performOf}
 use Rattle.spi_rules.specs.Refusals.{numberOf}
-use Rattle.spi_script_rules.proofs.ScriptSizes.{number-below, decimal-length, answer-length}
-use Rattle.spi_rules.proofs.Keeps.{if-both, if-true, if-false}
+use Rattle.spi_script_rules.specs.declared.Line.the-variants.{Asked}
+use Rattle.spi_script_rules.specs.Script.{decimalIn, decimalOf, answerText, lineText}
 use Rattle.spi_script_rules.specs.Texts.{Written}
+use Rattle.spi_script_rules.proofs.ScriptSizes.{number-below, decimal-length, answer-length}
 use Rattle.spi_script_rules.proofs.Texts.{written-case}
 
 tenth-below : (p n : ℕ) → n < 10 ^ suc p → n / 10 < 10 ^ p

@@ -1,20 +1,20 @@
 // Playing a script on a module in memory: each line is read, asked of the module and answered, piece by piece into a lent
 // buffer.
-use spi_rules::Answer;
-use spi_rules::Call;
-use spi_rules::Output;
-use spi_rules::Refusal;
 use spi_script_rules::Bookmark;
 use spi_script_rules::Line;
 use spi_script_rules::Piece;
+use spi_types::Answer;
+use spi_types::Call;
+use spi_types::Output;
+use spi_types::Refusal;
 ghost use Prim.Native.Nat.{_+_, _%_, _≤_, _<_};
 ghost use mathlib.Core.Path.{_≡_};
 ghost use mathlib.Core.List.{[], _∷_};
 ghost use lib.ListN.{length};
 ghost use Rattle.spi_script_rules.specs.Script.{decimalOf, hexOf, fourHexOf, levelOf, sdoLetter, refusedText, okText, ssText, pinText, edgeText, doneText, answerText, lineAfter, answerLine, readFrom};
 ghost use Rattle.spi_script_rules.specs.Session.{started, played, answers, pieceAfter, pieceText};
-ghost use Rattle.spi_memory.specs.Memory.{moduleIn};
 ghost use Rattle.spi_script_rules.specs.Texts.{Written};
+ghost use Rattle.spi_memory.specs.Memory.{moduleIn};
 ghost use Rattle.spi_session.specs.SessionIn.{sessionIn};
 
 // A script starts with a module at power-up.

@@ -1,8 +1,8 @@
 // What the settings decide by themselves: width, depth, role, why it cannot be enabled, and which events raise the
 // interrupt flag.
-use spi_rules::Event;
-use spi_rules::Refusal;
-use spi_rules::Settings;
+use spi_types::Event;
+use spi_types::Refusal;
+use spi_types::Settings;
 ghost use mathlib.Core.Path.{_≡_};
 ghost use Rattle.spi_rules.specs.Settings.{widthOf, depthOf, framed, frameHost, frameClient, ckeOf, silent, ssenClient, ownClock};
 ghost use Rattle.spi_rules.specs.Refusals.{undivided, lateSampling, unselectedCke, causes, badSettings, firstGiven};

@@ -15,12 +15,11 @@ use native.Mathlib.Omega.{arith}
 use borrow.Author.Tests.{ltb-true}
 use lib.Dec.{ltb}
 use lib.ListN.{length, getD}
-use Rattle.spi_rules.specs.declared.Module.{Module}
-use Rattle.spi_rules.specs.declared.Call.{Call}
+use Rattle.laws.proofs.Choices.{so, not-so}
+use Rattle.laws.proofs.Keeps.{if-true, if-false, by-test, clash, and-left, and-right}
+use Rattle.spi_types.specs.declared.Module.{Module}
+use Rattle.spi_types.specs.declared.Call.{Call}
 use Rattle.spi_rules.specs.Calls.{poweredUp, performOf, afterCalls}
-use Rattle.spi_rules.proofs.Choices.{so, not-so}
-use Rattle.spi_memory.specs.Memory.{moduleIn}
-use Rattle.spi_rules.proofs.Keeps.{if-true, if-false, by-test, clash, and-left, and-right}
 use Rattle.spi_trace_rules.specs.declared.Entry.{Entry}
 use Rattle.spi_trace_rules.specs.declared.Fault.{Fault}
 use Rattle.spi_trace_rules.specs.declared.Played.{Played}
@@ -32,6 +31,7 @@ use Rattle.spi_trace_files.specs.Places.{entryAt, entriesAt}
 use Rattle.spi_trace_files.specs.Idle.{idle, landingOf, PassedFrom}
 use Rattle.spi_trace_files.proofs.Records.{entries-more, entries-none, section-at, section-places, record-right}
 use Rattle.spi_trace_files.proofs.Idle.{landing-step, Lands, lands, passing}
+use Rattle.spi_memory.specs.Memory.{moduleIn}
 use Rattle.spi_trace.specs.Playing.{entryCalls, Plays}
 
 -- Calls one behind the other.

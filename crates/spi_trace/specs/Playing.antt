@@ -3,12 +3,12 @@ use Prim.Native.Nat.{ℕ}
 use mathlib.Core.Bool.{false}
 use mathlib.Core.List.{List, [], _∷_}
 use mathlib.Core.Path.{_≡_}
-use Rattle.spi_rules.specs.declared.Call.{Call}
-use Rattle.spi_rules.specs.Choice.{if_then_else_}
-use Rattle.spi_memory.specs.Memory.{moduleIn}
+use Rattle.laws.specs.Choice.{if_then_else_}
+use Rattle.spi_types.specs.declared.Call.{Call}
 use Rattle.spi_trace_rules.specs.declared.Entry.{Entry}
 use Rattle.spi_trace_rules.specs.declared.Played.{Played}
 use Rattle.spi_trace_rules.specs.Trace.{isPlay, callOf, times, callsOf, playedOf, isMade, playedModule}
+use Rattle.spi_memory.specs.Memory.{moduleIn}
 
 -- The calls of one record, with so many levels left for the section that it may play.
 unfoldable pub entryCalls : List ℕ → ℕ → Entry → List Call

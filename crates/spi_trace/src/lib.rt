@@ -6,9 +6,9 @@ ghost use Prim.Native.Nat.{_<_};
 ghost use mathlib.Core.Bool.{true};
 ghost use mathlib.Core.Path.{_≡_};
 ghost use Rattle.spi_rules.specs.Calls.{performOf, afterCalls};
-ghost use Rattle.spi_memory.specs.Memory.{moduleIn};
 ghost use Rattle.spi_trace_rules.specs.Trace.{sectionCount, tableEnd, contentsRight, recordsRight, isPlay, callOf, callsOf, faultNumberOf};
 ghost use Rattle.spi_trace_files.specs.Idle.{PassedFrom};
+ghost use Rattle.spi_memory.specs.Memory.{moduleIn};
 ghost use Rattle.spi_trace.specs.Playing.{entryCalls, Plays};
 
 // Makes the call of a record that plays no section.

@@ -10,7 +10,7 @@ use mathlib.Core.Path.{_≡_, ap, _∙_}
 use borrow.Author.Tests.{ne-eqb, le-leb, lt-leb}
 use lib.Dec.{eqb, leb}
 use lib.ListN.{length}
-use Rattle.spi_rules.proofs.Keeps.{and-first, and-false}
+use Rattle.laws.proofs.Keeps.{and-first, and-false}
 use Rattle.spi_trace_rules.specs.Trace.{sectionCount, tableEnd, startOf, sizeOf, placeOf, gapless, inFours, endsFile, tableRight, contentsRight}
 use Rattle.spi_trace_rules.proofs.TraceBelow.{below-fails}
 use Rattle.spi_trace_files.specs.Places.{laid}

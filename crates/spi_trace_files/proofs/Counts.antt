@@ -14,14 +14,14 @@ use borrow.Author.Tests.{leb-true, leb-false, le-leb, eq-eqb, eqb-true, eqb-fals
 use lib.Dec.{leb, eqb}
 use lib.ListN.{getD, set, length-set, replicate, length-replicate}
 use lib.Seq.{getD-set-same, getD-set-other}
-use Rattle.spi_rules.proofs.Keeps.{if-true, if-false, by-test, and-both}
+use Rattle.laws.proofs.Keeps.{if-true, if-false, by-test, and-both}
 use Rattle.spi_trace_rules.specs.declared.Entry.{Entry}
 use Rattle.spi_trace_rules.specs.Trace.{levelOf, sectionCount, contentsRight, recordsOf, isPlay, playsAny, recordsRight, countBy, countOf}
 use Rattle.spi_trace_rules.proofs.TraceContents.{contents-laid}
 use Rattle.spi_trace_rules.proofs.TraceLevels.{PlaysUp, plays-up, level-least, stable, counts-same}
 use Rattle.spi_trace_files.specs.Places.{entryAt, entriesAt}
-use Rattle.spi_trace_files.proofs.Records.{entries-more, entries-none}
 use Rattle.spi_trace_files.specs.Passes.{capped, weightBy, CountsFrom}
+use Rattle.spi_trace_files.proofs.Records.{entries-more, entries-none}
 
 -- A number up to the cap, and one beyond it.
 pub capped-low : (n : ℕ) → n ≤ 65536 → capped n ≡ n

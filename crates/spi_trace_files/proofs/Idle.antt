@@ -13,9 +13,9 @@ use borrow.Author.Tests.{eqb-true, eqb-false}
 use lib.Dec.{eqb}
 use lib.ListN.{length, getD, set, length-set}
 use lib.Seq.{getD-set-same, getD-set-other}
-use Rattle.spi_rules.specs.declared.Call.{Call}
-use Rattle.spi_rules.specs.Choice.{if_then_else_}
-use Rattle.spi_rules.proofs.Keeps.{if-true, if-false, clash, by-test, and-left, and-right}
+use Rattle.laws.specs.Choice.{if_then_else_}
+use Rattle.laws.proofs.Keeps.{if-true, if-false, clash, by-test, and-left, and-right}
+use Rattle.spi_types.specs.declared.Call.{Call}
 use Rattle.spi_trace_rules.specs.declared.Entry.{Entry}
 use Rattle.spi_trace_rules.specs.Trace.{isPlay, callOf, times, callsBy}
 use Rattle.spi_trace_files.specs.Places.{entryAt, entriesAt}

@@ -11,8 +11,8 @@ use borrow.Author.Tests.{ltb-true, leb-true, leb-false, le-leb, eqb-true, eqb-fa
 use lib.Dec.{eqb, leb, ltb}
 use lib.ListN.{length, getD, set, length-set, List·getD-append, replicate, length-replicate, getD-replicate}
 use lib.Seq.{getD-set-same, getD-set-other, set-getD}
-use Rattle.spi_rules.specs.Choice.{if_then_else_}
-use Rattle.spi_rules.proofs.Keeps.{if-true, if-false, by-test, and-left, and-right, and-both, and-first, and-false}
+use Rattle.laws.specs.Choice.{if_then_else_}
+use Rattle.laws.proofs.Keeps.{if-true, if-false, by-test, and-left, and-right, and-both, and-first, and-false}
 use Rattle.spi_trace_rules.specs.declared.Entry.{Entry}
 use Rattle.spi_trace_rules.specs.Trace.{sectionCount, contentsRight, recordsOf, isPlay, playsAny, higher, highestPlayer, levelsBelow, levelOf, rightRecord, rightOf, allRight, allOf}
 use Rattle.spi_trace_rules.proofs.TraceContents.{contents-laid}

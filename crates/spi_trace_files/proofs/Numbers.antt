@@ -10,7 +10,7 @@ use lib.ListN.{length, take, drop, length-drop, drop-of-length-le, List·getD-eq
 use lib.Dec.{leb}
 use lib.Seq.{take-all, take-nil, drop-length}
 use borrow.Author.Tests.{leb-true, leb-false}
-use Rattle.spi_rules.proofs.Keeps.{by-test}
+use Rattle.laws.proofs.Keeps.{by-test}
 use Rattle.spi_trace_rules.specs.declared.Entry.{Entry}
 use Rattle.spi_trace_rules.specs.Trace.{byteAt, halfAt, wordAt}
 use Rattle.spi_trace_files.specs.Places.{entryAt}

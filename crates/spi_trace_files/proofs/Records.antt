@@ -11,7 +11,7 @@ use native.Mathlib.Omega.{arith}
 use borrow.Author.Tests.{ltb-true, ltb-false}
 use lib.Dec.{ltb}
 use lib.ListN.{length, take, drop}
-use Rattle.spi_rules.proofs.Keeps.{by-test, and-left, and-right}
+use Rattle.laws.proofs.Keeps.{by-test, and-left, and-right}
 use Rattle.spi_trace_rules.specs.declared.Entry.{Entry}
 use Rattle.spi_trace_rules.specs.Trace.{sectionCount, startOf, sizeOf, placeOf, contentsRight, bodyOf, entriesIn, recordsOf, rightOf, allRight, allOf, recordsRight}
 use Rattle.spi_trace_rules.specs.TraceDemands.{recordsFrom}

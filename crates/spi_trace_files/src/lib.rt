@@ -6,7 +6,7 @@ ghost use Prim.Native.Nat.{min, _+_, _*_, _/_, _%_, _≤_, _<_};
 ghost use mathlib.Core.Bool.{true};
 ghost use mathlib.Core.Path.{_≡_};
 ghost use lib.ListN.{length, getD, set};
-ghost use Rattle.spi_rules.specs.Choice.{if_then_else_};
+ghost use Rattle.laws.specs.Choice.{if_then_else_};
 ghost use Rattle.spi_trace_rules.specs.Trace.{tableEnd, byteAt, halfAt, wordAt, sectionCount, startOf, sizeOf, placeOf, contentsRight, bodyOf, recordsOf, isPlay, levelOf, rightRecord, allOf, recordsRight, countBy, fileCount, playedOf, isMade};
 ghost use Rattle.spi_trace_files.specs.Places.{entryAt, laid};
 ghost use Rattle.spi_trace_files.specs.Passes.{raisedOne, raisedBy, capped, weightBy};

@@ -9,7 +9,7 @@ use mathlib.Core.Path.{_≡_, refl, ap, _∙_}
 use native.Mathlib.Omega.{arith}
 use borrow.Author.Tests.{ltb-true, ltb-false}
 use lib.Dec.{ltb}
-use Rattle.spi_rules.proofs.Keeps.{clash, by-test, and-left, and-right, and-both}
+use Rattle.laws.proofs.Keeps.{clash, by-test, and-left, and-right, and-both}
 use Rattle.spi_trace_rules.specs.Trace.{allBelow}
 
 module _ (test : ℕ → Bool) where

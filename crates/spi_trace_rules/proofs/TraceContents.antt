@@ -11,7 +11,7 @@ use native.Mathlib.Omega.{arith}
 use borrow.Author.Tests.{leb-true, le-leb, ltb-true, ltb-false, eqb-true, eq-eqb}
 use lib.Dec.{eqb, leb, ltb}
 use lib.ListN.{length}
-use Rattle.spi_rules.proofs.Keeps.{by-test, and-left, and-right, and-both}
+use Rattle.laws.proofs.Keeps.{by-test, and-left, and-right, and-both}
 use Rattle.spi_trace_rules.specs.Trace.{sectionCount, tableEnd, startOf, sizeOf, placeOf, inFours, tableRight, contentsRight}
 use Rattle.spi_trace_rules.proofs.TraceBelow.{each-below, below-each}
 

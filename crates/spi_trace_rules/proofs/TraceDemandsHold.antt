@@ -8,13 +8,14 @@ use mathlib.Core.Path.{_≡_, refl, sym, ap, subst, _∙_}
 use native.Mathlib.Omega.{arith}
 use borrow.Author.Tests.{ltb-true, ltb-false}
 use lib.Dec.{ltb}
-use Rattle.spi_rules.specs.declared.Module.{Module}
-use Rattle.spi_rules.specs.declared.Call.{Call}
-use Rattle.spi_rules.specs.Choice.{if_then_else_}
+use Rattle.laws.specs.Choice.{if_then_else_}
+use Rattle.laws.proofs.Keeps.{if-true, if-false, clash, by-test}
+use Rattle.spi_types.specs.declared.Module.{Module}
+use Rattle.spi_types.specs.declared.Call.{Call}
 use Rattle.spi_rules.specs.Calls.{poweredUp, afterCalls}
-use Rattle.spi_rules.specs.Demands.{powerUp, begins, life}
+use Rattle.spi_rules.specs.Lives.{powerUp, begins, life}
+use Rattle.spi_rules.specs.Examples.{paperExamples}
 use Rattle.spi_rules.proofs.LivesReach.{watched-reaches}
-use Rattle.spi_rules.proofs.Keeps.{if-true, if-false, clash, by-test}
 use Rattle.spi_trace_rules.specs.declared.Fault.the-variants.{BadContents, BadRecord, TooManyCalls}
 use Rattle.spi_trace_rules.specs.declared.Played.{Played}
 use Rattle.spi_trace_rules.specs.declared.Played.the-variants.{Refused, Made}

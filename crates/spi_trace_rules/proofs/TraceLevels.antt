@@ -15,8 +15,8 @@ use lib.Dec.{eqb, leb, ltb}
 use lib.ListN.{length, length-append, getD}
 use lib.ListN.{List·getD-append}
 use lib.Seq.{getD-append-seam}
-use Rattle.spi_rules.specs.Choice.{if_then_else_}
-use Rattle.spi_rules.proofs.Keeps.{if-keeps, if-true, if-false, clash, by-test, and-left, and-right, and-both, or-rest}
+use Rattle.laws.specs.Choice.{if_then_else_}
+use Rattle.laws.proofs.Keeps.{if-keeps, if-true, if-false, clash, by-test, and-left, and-right, and-both, or-rest}
 use Rattle.spi_trace_rules.specs.declared.Entry.{Entry}
 use Rattle.spi_trace_rules.specs.Trace.{sectionCount, recordsOf, isPlay, playsAny, higher, highestPlayer, levelsBelow, levelOf, rightRecord, allRight, allOf, recordsRight, countBy}
 use Rattle.spi_trace_rules.proofs.TraceBelow.{each-below}

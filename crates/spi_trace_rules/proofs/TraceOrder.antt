@@ -10,8 +10,8 @@ use native.Mathlib.Omega.{arith}
 use borrow.Author.Tests.{eqb-true, eq-eqb}
 use lib.Dec.{eqb, leb}
 use lib.ListN.{getD}
-use Rattle.spi_rules.specs.Choice.{if_then_else_}
-use Rattle.spi_rules.proofs.Keeps.{if-keeps, clash, by-test, and-left, and-right, and-both, or-rest}
+use Rattle.laws.specs.Choice.{if_then_else_}
+use Rattle.laws.proofs.Keeps.{if-keeps, clash, by-test, and-left, and-right, and-both, or-rest}
 use Rattle.spi_trace_rules.specs.declared.Entry.{Entry}
 use Rattle.spi_trace_rules.specs.Trace.{isPlay, playsAny, higher, highestPlayer, levelsBelow, levelOf}
 use Rattle.spi_trace_rules.specs.TraceDemands.{Plays, here, later, LevelFrom, first, next, Levels}

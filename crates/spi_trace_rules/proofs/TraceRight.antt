@@ -10,9 +10,9 @@ use mathlib.Core.Path.{_≡_, refl, sym, ap, subst, _∙_}
 use native.Mathlib.Omega.{arith}
 use borrow.Author.Tests.{leb-true, le-leb, ltb-true, lt-ltb, eqb-true, not-true}
 use lib.Dec.{eqb, leb, ltb}
-use Rattle.spi_rules.specs.declared.Call.{Call}
-use Rattle.spi_rules.specs.Choice.{if_then_else_}
-use Rattle.spi_rules.proofs.Keeps.{if-false, clash, by-test, and-left, and-right, and-both}
+use Rattle.laws.specs.Choice.{if_then_else_}
+use Rattle.laws.proofs.Keeps.{if-false, clash, by-test, and-left, and-right, and-both}
+use Rattle.spi_types.specs.declared.Call.{Call}
 use Rattle.spi_trace_rules.specs.declared.Entry.{Entry}
 use Rattle.spi_trace_rules.specs.Trace.{isPlay, wireIn, rightRecord, allRight, callOf}
 use Rattle.spi_trace_rules.specs.TraceDemands.{fields, recordAt, recordsFrom, wires, Makes, write, read, tick, pins, clear, Right, call, play}

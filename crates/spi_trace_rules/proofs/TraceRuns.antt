@@ -9,9 +9,9 @@ use mathlib.Core.Path.{_≡_, refl, sym, ap, ap₂, subst, _∙_}
 use native.Mathlib.Omega.{arith}
 use borrow.Author.Tests.{eq-eqb, ne-eqb}
 use lib.Dec.{eqb}
-use Rattle.spi_rules.specs.declared.Call.{Call}
-use Rattle.spi_rules.specs.Choice.{if_then_else_}
-use Rattle.spi_rules.proofs.Keeps.{if-true, if-false, and-left, and-right, and-both}
+use Rattle.laws.specs.Choice.{if_then_else_}
+use Rattle.laws.proofs.Keeps.{if-true, if-false, and-left, and-right, and-both}
+use Rattle.spi_types.specs.declared.Call.{Call}
 use Rattle.spi_trace_rules.specs.declared.Entry.{Entry}
 use Rattle.spi_trace_rules.specs.Trace.{sectionCount, recordsOf, isPlay, playsAny, levelOf, rightRecord, allRight, recordsRight, callOf, times, callsBy, callsOf, countBy, countOf, fileCalls, fileCount}
 use Rattle.spi_trace_rules.specs.TraceDemands.{section, Right, call, play, again, Runs, done, calls, plays, LevelFrom, first, next}

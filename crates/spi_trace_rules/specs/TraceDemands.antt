@@ -5,15 +5,46 @@ use mathlib.Core.Bool.{Bool, true, false}
 use mathlib.Core.List.{List, [], _∷_, _++_}
 use mathlib.Core.Path.{_≡_}
 use lib.ListN.{length, take, drop}
-use Rattle.spi_rules.specs.declared.Module.{Module}
-use Rattle.spi_rules.specs.declared.Call.{Call}
-use Rattle.spi_rules.specs.declared.Call.the-variants.{Read, Write, Tick, Pin, Clear}
-use Rattle.spi_rules.specs.Demands.{powerUp, life}
+use Rattle.spi_types.specs.declared.Module.{Module}
+use Rattle.spi_types.specs.declared.Call.{Call}
+use Rattle.spi_types.specs.declared.Call.the-variants.{Read, Write, Tick, Pin, Clear}
+use Rattle.spi_rules.specs.Lives.{powerUp, life}
 use Rattle.spi_trace_rules.specs.declared.Entry.{Entry}
 use Rattle.spi_trace_rules.specs.declared.Played.{Played}
 use Rattle.spi_trace_rules.specs.declared.Played.the-variants.{Refused, Made}
 use Rattle.spi_trace_rules.specs.Trace.{levelOf, faultNumberOf, playedOf, playedModule}
 use Rattle.spi_trace_rules.specs.TraceExamples.{traceExamples}
+
+-- The kinds of records, and the limits of a file.
+abbrev pub aWrite : ℕ
+aWrite = 0
+
+abbrev pub aRead : ℕ
+aRead = 1
+
+abbrev pub aTick : ℕ
+aTick = 2
+
+abbrev pub aPinCall : ℕ
+aPinCall = 3
+
+abbrev pub aClear : ℕ
+aClear = 4
+
+abbrev pub aPlay : ℕ
+aPlay = 5
+
+abbrev pub mostBytes : ℕ
+mostBytes = 65535
+
+abbrev pub mostSections : ℕ
+mostSections = 64
+
+abbrev pub mostLevels : ℕ
+mostLevels = 8
+
+abbrev pub mostCalls : ℕ
+mostCalls = 65535
 
 -- The number that bytes spell, the lowest first, and that of `n` bytes at a place.
 abbrev pub spell : List ℕ → ℕ
@@ -56,11 +87,11 @@ endBefore f (suc k) = start f k + size f k
 -- 65,535 bytes.
 pub record Whole (f : List ℕ) : Type 0 where
   pub some : 1 ≤ sections f
-  pub most : sections f ≤ 64
+  pub most : sections f ≤ mostSections
   pub gapless : (k : ℕ) → k < sections f → start f k ≡ endBefore f k
   pub fours : (k : ℕ) → k < sections f → size f k % 4 ≡ 0
   pub ends : endBefore f (sections f) ≡ length f
-  pub short : length f ≤ 65535
+  pub short : length f ≤ mostBytes
 
 -- An argument of wires: bit 0 SDI, bit 1 SCK, bit 2 SS.
 abbrev pub bit : Bool → ℕ
@@ -72,21 +103,21 @@ wires sdi sck ss = bit sdi + 2 * bit sck + 4 * bit ss
 
 -- A right record that makes a call, field by field: a register is 0 to 3, only pins have SCK, and an unused field is 0.
 pub data Makes (e : Entry) : Call → Type 0 where
-  write : (register v : ℕ) → register ≤ 3 → e ≡ fields 0 register v → Makes e (Write register v)
-  read : (register : ℕ) → register ≤ 3 → e ≡ fields 1 register 0 → Makes e (Read register)
-  tick : (sdi ss : Bool) → e ≡ fields 2 (wires sdi false ss) 0 → Makes e (Tick sdi ss)
-  pins : (sck sdi ss : Bool) → e ≡ fields 3 (wires sdi sck ss) 0 → Makes e (Pin sck sdi ss)
-  clear : e ≡ fields 4 0 0 → Makes e Clear
+  write : (register v : ℕ) → register ≤ 3 → e ≡ fields aWrite register v → Makes e (Write register v)
+  read : (register : ℕ) → register ≤ 3 → e ≡ fields aRead register 0 → Makes e (Read register)
+  tick : (sdi ss : Bool) → e ≡ fields aTick (wires sdi false ss) 0 → Makes e (Tick sdi ss)
+  pins : (sck sdi ss : Bool) → e ≡ fields aPinCall (wires sdi sck ss) 0 → Makes e (Pin sck sdi ss)
+  clear : e ≡ fields aClear 0 0 → Makes e Clear
 
 -- A right record of section `k` at a level, among so many sections: it makes a call, or plays a higher-numbered section that exists,
 -- below level 8. No other kind is right.
 pub data Right (count level k : ℕ) (e : Entry) : Type 0 where
   call : (c : Call) → Makes e c → Right count level k e
-  play : (j v : ℕ) → e ≡ fields 5 j v → k < j → j < count → level < 8 → Right count level k e
+  play : (j v : ℕ) → e ≡ fields aPlay j v → k < j → j < count → level < mostLevels → Right count level k e
 
 -- Some of these records plays section `k`, zero times included.
 pub data Plays (k : ℕ) : List Entry → Type 0 where
-  here : {e : Entry} {es : List Entry} (v : ℕ) → e ≡ fields 5 k v → Plays k (e ∷ es)
+  here : {e : Entry} {es : List Entry} (v : ℕ) → e ≡ fields aPlay k v → Plays k (e ∷ es)
   later : {e : Entry} {es : List Entry} → Plays k es → Plays k (e ∷ es)
 
 -- Levels: a section stands above each lower-numbered one that plays it; and it stands at 1, or just one above some of those.
@@ -115,7 +146,7 @@ pub data Runs (s : ℕ → List Entry) : List Entry → List Call → ℕ → Ty
   calls : {e : Entry} {es : List Entry} {c : Call} {cs : List Call} {n : ℕ} →
       Makes e c → Runs s es cs n → Runs s (e ∷ es) (c ∷ cs) (1 + n)
   plays : {e : Entry} {es : List Entry} {ds cs : List Call} {d n : ℕ} (j v : ℕ) →
-      e ≡ fields 5 j v → Runs s (s j) ds d → Runs s es cs n → Runs s (e ∷ es) (again v ds ++ cs) (v * (1 + d) + n)
+      e ≡ fields aPlay j v → Runs s (s j) ds d → Runs s es cs n → Runs s (e ∷ es) (again v ds ++ cs) (v * (1 + d) + n)
 
 -- What playing a file answers and leaves: the number of its refusal, 0 if it is played; what counted, 0 if refused; and the module,
 -- that of before if refused, else the one that the calls of section 0 reach from power-up (`life` is the module that the demands on
@@ -126,8 +157,8 @@ pub data Outcome (m : Module) (f : List ℕ) : ℕ → ℕ → Module → Type 0
   -- a record is wrong
   wrongRecord : Whole f → (AllRight f → ⊥) → Outcome m f 18 0 m
   -- the next call would be number 65,536
-  tooManyCalls : {cs : List Call} {n : ℕ} → Whole f → AllRight f → Runs (section f) (section f 0) cs n → 65535 < n → Outcome m f 19 0 m
-  played : {cs : List Call} {n : ℕ} → Whole f → AllRight f → Runs (section f) (section f 0) cs n → n ≤ 65535 →
+  tooManyCalls : {cs : List Call} {n : ℕ} → Whole f → AllRight f → Runs (section f) (section f 0) cs n → mostCalls < n → Outcome m f 19 0 m
+  played : {cs : List Call} {n : ℕ} → Whole f → AllRight f → Runs (section f) (section f 0) cs n → n ≤ mostCalls →
       Outcome m f 0 n (life powerUp cs .now)
 
 -- The numbers of an answer.

@@ -4,7 +4,7 @@ use mathlib.Core.Bool.{Bool, true, false, _&&_, Bool·beq}
 use mathlib.Core.List.{List, [], _∷_, _++_}
 use lib.Dec.{eqb}
 use lib.ListN.{replicate}
-use Rattle.spi_rules.specs.declared.Module.{Module}
+use Rattle.spi_types.specs.declared.Module.{Module}
 use Rattle.spi_rules.specs.Registers.{con1Value, con2Value, statValue}
 use Rattle.spi_rules.specs.Buffers.{firstUnread}
 use Rattle.spi_rules.specs.Calls.{poweredUp, interruptOf}

@@ -1,9 +1,9 @@
 // The calls by value: each takes any module and any value, always answers, and returns the answer with the module after the
 // call. The module is put into memory, the call is made there, and the module is read back.
 use spi_link_rules::Linked;
-use spi_rules::Call;
-use spi_rules::Module;
-use spi_rules::Outcome;
+use spi_types::Call;
+use spi_types::Module;
+use spi_types::Outcome;
 ghost use mathlib.Core.Path.{_≡_};
 ghost use Rattle.spi_rules.specs.Calls.{poweredUp, readOf, writeOf, tickOf, pinsOf, clearOf, performOf};
 ghost use Rattle.spi_link_rules.specs.Link.{linkedOf};

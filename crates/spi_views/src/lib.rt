@@ -1,12 +1,12 @@
 // What a caller sees without changing anything: the interrupt flag, the levels of SCK, SDO and SS, and answers in the
 // paper's numbers.
-use spi_rules::Answer;
-use spi_rules::Module;
-use spi_rules::Output;
-use spi_rules::Pins;
-use spi_rules::Refusal;
-use spi_rules::Said;
-use spi_rules::Settings;
+use spi_types::Answer;
+use spi_types::Module;
+use spi_types::Output;
+use spi_types::Pins;
+use spi_types::Refusal;
+use spi_types::Said;
+use spi_types::Settings;
 ghost use mathlib.Core.Path.{_≡_};
 ghost use Rattle.spi_rules.specs.Refusals.{numberOf, saidOf};
 ghost use Rattle.spi_rules.specs.Calls.{interruptOf, sckOf, undrivenBy, sdoBy, sdoOf, ssBy};

@@ -1,9 +1,9 @@
 // A word between the edges, in memory: it is written, loads, is finished, is read, and what SDO shows meanwhile. Only the
 // parts that a step changes are stored.
-use spi_rules::Event;
-use spi_rules::Settings;
-use spi_rules::Shift;
-use spi_rules::Transmit;
+use spi_types::Event;
+use spi_types::Settings;
+use spi_types::Shift;
+use spi_types::Transmit;
 ghost use mathlib.Core.Path.{_≡_};
 ghost use Rattle.spi_rules.specs.Interrupts.{noted};
 ghost use Rattle.spi_rules.specs.Loading.{wordLeaves, loaded, nextTop, rested};

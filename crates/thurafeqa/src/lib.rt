@@ -9,9 +9,9 @@ ghost use Rattle.spi_rules.specs.Calls.{poweredUp, readOf, writeOf, tickOf, pin
 ghost use Rattle.spi_link_rules.specs.Link.{linkedOf};
 ghost use Rattle.spi_clock_rules.specs.Clock.{reportOf, saidClock};
 ghost use Rattle.spi_memory.specs.Memory.{moduleIn};
+ghost use Rattle.spi_numbers.specs.Told.{Tells, levelIn, levelsNumber, ClockTells, LinkTells};
 ghost use Rattle.spi_board.specs.Boards.{askedOf};
 ghost use Rattle.spi_board.specs.Owing.{Asks, OwedTells, OwedPairTells};
-ghost use Rattle.spi_numbers.specs.Told.{Tells, levelIn, levelsNumber, ClockTells, LinkTells};
 ghost use Rattle.thurafeqa.specs.Numbers.{playNumber, PlayTells, saveNumber, SaveTells, versionNumber, formatNumber};
 
 // Power-up: the memory may hold anything before.

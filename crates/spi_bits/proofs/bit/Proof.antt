@@ -1,7 +1,7 @@
 -- The shift and the remainder are the definition; a word has no bit at 16 or above.
 use borrow.Author.Needs.{needs}
 use mathlib.Core.Path.{refl, sym}
-use Rattle.spi_rules.specs.Registers.{bitOf}
+use Rattle.word_order.specs.Bits.{bitOf}
 use Rattle.spi_rules.proofs.Sizes.{no-bit-above}
 use Rattle.spi_bits.proofs.bit.Statement.{statement}
 use Rattle.spi_bits.proofs.bit.Tie as tie

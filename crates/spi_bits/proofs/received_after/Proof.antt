@@ -1,8 +1,8 @@
 -- The branch is the choice of the definition.
 use borrow.Author.Needs.{needs}
 use mathlib.Core.Path.{refl}
+use Rattle.laws.proofs.Choices.{so, not-so}
 use Rattle.spi_rules.specs.Bits.{receivedAfter}
-use Rattle.spi_rules.proofs.Choices.{so, not-so}
 use Rattle.spi_bits.proofs.received_after.Statement.{statement}
 use Rattle.spi_bits.proofs.received_after.Tie as tie
 

@@ -4,8 +4,8 @@ use native.Mathlib.Omega.{arith}
 use Prim.Native.Nat.{_-_, _/_}
 use mathlib.Core.Path.{_≡_, ap, _∙_}
 use mathlib.Core.Logic.{⊎-elim}
+use Rattle.word_order.specs.Bits.{bitOf}
 use Rattle.spi_rules.specs.Settings.{widthOf}
-use Rattle.spi_rules.specs.Registers.{bitOf}
 use Rattle.spi_rules.specs.Bits.{shownBit}
 use Rattle.spi_rules.proofs.Sizes.{width-least}
 use Rattle.spi_bits.proofs.shown_bit.Statement.{statement}

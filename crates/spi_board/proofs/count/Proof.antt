@@ -2,9 +2,9 @@
 use borrow.Author.Needs.{needs}
 use mathlib.Core.Path.{ap, _∙_}
 use native.Mathlib.Omega.{arith}
-use Rattle.spi_rules.specs.declared.Settings.{Settings}
-use Rattle.spi_rules.specs.declared.Shift.{Shift}
-use Rattle.spi_rules.specs.declared.Transmit.{Transmit}
+use Rattle.spi_types.specs.declared.Settings.{Settings}
+use Rattle.spi_types.specs.declared.Shift.{Shift}
+use Rattle.spi_types.specs.declared.Transmit.{Transmit}
 use Rattle.spi_board_rules.specs.Owed.{inShift, countOf}
 use Rattle.spi_board.proofs.count.Statement.{statement}
 use Rattle.spi_board.proofs.count.Tie as tie

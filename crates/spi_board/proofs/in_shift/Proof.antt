@@ -2,7 +2,7 @@
 use borrow.Author.Needs.{needs}
 use mathlib.Core.Path.{refl, sym, _∙_}
 use native.Mathlib.Omega.{arith}
-use Rattle.spi_rules.proofs.Choices.{by-case, so, not-so}
+use Rattle.laws.proofs.Choices.{by-case, so, not-so}
 use Rattle.spi_board_rules.specs.Owed.{inShift}
 use Rattle.spi_board_rules.proofs.BoardCalls.{or-both}
 use Rattle.spi_board.proofs.Owing.{filler-counts-none, client-counts-none, host-counts}

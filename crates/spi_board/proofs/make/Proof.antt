@@ -1,6 +1,6 @@
 -- Each kind is the call of one module that it asks for.
 use borrow.Author.Needs.{needs}
-use Rattle.spi_rules.specs.Choice.{if_then_else_}
+use Rattle.laws.specs.Choice.{if_then_else_}
 use Rattle.spi_rules.specs.Calls.{performOf}
 use Rattle.spi_numbers.specs.Told.{levelIn}
 use Rattle.spi_board.specs.Boards.{askedOf}

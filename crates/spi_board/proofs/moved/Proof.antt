@@ -2,7 +2,7 @@
 use borrow.Author.Needs.{needs}
 use Prim.Native.Nat.{_+_, _-_}
 use native.Mathlib.Omega.{arith}
-use Rattle.spi_rules.proofs.Choices.{so-le, not-so-le}
+use Rattle.laws.proofs.Choices.{so-le, not-so-le}
 use Rattle.spi_board_rules.specs.Owed.{atMost65535}
 use Rattle.spi_board.proofs.moved.Statement.{statement}
 use Rattle.spi_board.proofs.moved.Tie as tie

@@ -1,7 +1,7 @@
 -- No refusal, or its number under the total.
 use borrow.Author.Needs.{needs}
 use mathlib.Core.Path.{refl, sym, ap, _∙_}
-use Rattle.spi_rules.proofs.Choices.{so-eq, not-so-eq}
+use Rattle.laws.proofs.Choices.{so-eq, not-so-eq}
 use Rattle.spi_board.specs.Owing.{bothIn, refusedNumber}
 use Rattle.spi_board.proofs.refused.Statement.{statement}
 use Rattle.spi_board.proofs.refused.Tie as tie

@@ -3,8 +3,8 @@ use borrow.Author.Needs.{needs}
 use native.Mathlib.Omega.{arith}
 use mathlib.Core.Path.{refl}
 use Prim.Native.Nat.{_+_}
-use Rattle.spi_rules.specs.Ring.{next}
-use Rattle.spi_rules.proofs.Choices.{so-lt, not-so-lt}
+use Rattle.laws.proofs.Choices.{so-lt, not-so-lt}
+use Rattle.ring.specs.Ring.{next}
 use Rattle.spi_buffers.proofs.next_position.Statement.{statement}
 use Rattle.spi_buffers.proofs.next_position.Tie as tie
 

@@ -1,8 +1,8 @@
 -- A full buffer is handed back; otherwise the stores build the record of the definition.
 use borrow.Author.Needs.{needs}
 use mathlib.Core.Path.{refl}
+use Rattle.laws.proofs.Choices.{so-le, not-so-le}
 use Rattle.spi_rules.specs.Buffers.{appended}
-use Rattle.spi_rules.proofs.Choices.{so-le, not-so-le}
 use Rattle.spi_buffers.proofs.with_appended.Statement.{statement}
 use Rattle.spi_buffers.proofs.with_appended.Tie as tie
 

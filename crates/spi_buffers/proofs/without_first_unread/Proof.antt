@@ -1,8 +1,8 @@
 -- An empty buffer is handed back; otherwise the stores build the record of the definition.
 use borrow.Author.Needs.{needs}
 use mathlib.Core.Path.{refl}
+use Rattle.laws.proofs.Choices.{so-eq, not-so-eq}
 use Rattle.spi_rules.specs.Buffers.{taken}
-use Rattle.spi_rules.proofs.Choices.{so-eq, not-so-eq}
 use Rattle.spi_buffers.proofs.without_first_unread.Statement.{statement}
 use Rattle.spi_buffers.proofs.without_first_unread.Tie as tie
 

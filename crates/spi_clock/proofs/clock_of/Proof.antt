@@ -1,8 +1,8 @@
 -- The tests come in the order of the definition, and each answer is that of its branch. Assumes nothing.
 use borrow.Author.Needs.{needs}
 use mathlib.Core.Path.{refl}
+use Rattle.laws.proofs.Choices.{so, not-so}
 use Rattle.spi_clock_rules.specs.Clock.{clockOf}
-use Rattle.spi_rules.proofs.Choices.{so, not-so}
 use Rattle.spi_clock.proofs.clock_of.Statement.{statement}
 use Rattle.spi_clock.proofs.clock_of.Tie as tie
 

@@ -1,7 +1,7 @@
 -- Test 8 comes first, and what is not refused is answered with the clock. Assumes nothing.
 use borrow.Author.Needs.{needs}
 use mathlib.Core.Path.{refl}
-use Rattle.spi_rules.proofs.Choices.{so-eq, not-so-eq}
+use Rattle.laws.proofs.Choices.{so-eq, not-so-eq}
 use Rattle.spi_clock.proofs.report_by.Statement.{statement}
 use Rattle.spi_clock.proofs.report_by.Tie as tie
 

@@ -3,8 +3,8 @@ use native.Mathlib.Omega.{arith}
 use borrow.Author.Needs.{needs}
 use mathlib.Core.Logic.{⊎-elim}
 use mathlib.Core.Path.{refl}
+use Rattle.laws.proofs.Choices.{so-le, not-so-le}
 use Rattle.spi_script_rules.specs.Script.{hexValue}
-use Rattle.spi_rules.proofs.Choices.{so-le, not-so-le}
 use Rattle.spi_lines.proofs.Digits.{hex-range}
 use Rattle.spi_lines.proofs.hex_value.Statement.{statement}
 use Rattle.spi_lines.proofs.hex_value.Tie as tie

@@ -2,8 +2,8 @@
 -- of the forms. Assumes nothing.
 use borrow.Author.Needs.{needs}
 use mathlib.Core.Path.{sym}
+use Rattle.laws.proofs.Choices.{by-case}
 use Rattle.spi_script_rules.specs.Script.{readingOf}
-use Rattle.spi_rules.proofs.Choices.{by-case}
 use Rattle.spi_lines.proofs.Bytes.{all-bytes}
 use Rattle.spi_lines.proofs.Forms.{not-write, not-read, not-tick, not-tick-ss, not-pin, not-clear, unread}
 use Rattle.spi_lines.proofs.reading.Statement.{statement}

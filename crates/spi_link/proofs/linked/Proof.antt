@@ -1,8 +1,8 @@
 -- The refusals are tested in the order of the definition.
 use borrow.Author.Needs.{needs}
 use mathlib.Core.Path.{refl, _∙_, ap}
+use Rattle.laws.proofs.Choices.{so, not-so, so-lt, not-so-lt}
 use Rattle.spi_link_rules.specs.Link.{hostTurn, refuseLink, runOf, toldOf, linkedOf}
-use Rattle.spi_rules.proofs.Choices.{so, not-so, so-lt, not-so-lt}
 use Rattle.spi_memory.specs.Memory.{moduleIn}
 use Rattle.spi_link.proofs.Turns.{linkable, wired-shown}
 use Rattle.spi_link.proofs.Ends.{kept, changed}

@@ -1,8 +1,8 @@
 -- A byte is its own low byte.
 use Rattle.spi_memory.proofs.byte_number.Statement.{statement}
 use Rattle.spi_memory.proofs.Bytes.{byte-small}
-use native.Mathlib.Omega.{arith}
 use Rattle.spi_memory.proofs.byte_number.Tie as tie
+use native.Mathlib.Omega.{arith}
 
 returns : tie.Need-returns
 returns c = byte-small _ (omega arith)

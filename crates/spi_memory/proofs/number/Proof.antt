@@ -1,6 +1,6 @@
 -- Each branch is read back.
-use Rattle.spi_memory.proofs.number.Statement.{statement}
 use Rattle.spi_memory.specs.Memory.{bitIn}
+use Rattle.spi_memory.proofs.number.Statement.{statement}
 use Rattle.spi_memory.proofs.number.Tie as tie
 
 returns : tie.Need-returns

@@ -1,12 +1,13 @@
 -- A memory of zeros holds a module that has just powered up.
-use Rattle.spi_memory.proofs.power_up.Statement.{statement}
-use mathlib.Core.Path.{refl}
-use Rattle.spi_rules.specs.Choice.{if_then_else_}
-use Rattle.spi_rules.specs.Registers.{bitOf, con1From, con2From}
+use Rattle.laws.specs.Choice.{if_then_else_}
+use Rattle.word_order.specs.Bits.{bitOf}
+use Rattle.spi_rules.specs.Registers.{con1From, con2From}
 use Rattle.spi_rules.specs.Buffers.{emptyTransmit, emptyReceive}
 use Rattle.spi_rules.specs.Calls.{poweredUp}
 use Rattle.spi_memory.specs.Memory.{bitIn, byteIn, settingsIn, engineIn}
+use Rattle.spi_memory.proofs.power_up.Statement.{statement}
 use Rattle.spi_memory.proofs.power_up.Tie as tie
+use mathlib.Core.Path.{refl}
 
 returns : tie.Need-returns
 unfolding if_then_else_ bitIn byteIn settingsIn engineIn bitOf con1From con2From emptyTransmit emptyReceive poweredUp

@@ -1,6 +1,6 @@
 -- The definition, part by part.
 use borrow.Author.Needs.{needs}
-use Rattle.spi_rules.specs.Registers.{bitOf}
+use Rattle.word_order.specs.Bits.{bitOf}
 use Rattle.spi_memory.specs.Memory.{byteIn, settingsIn}
 use Rattle.spi_memory.proofs.settings_in.Statement.{statement}
 use Rattle.spi_memory.proofs.settings_in.Tie as tie

@@ -1,7 +1,7 @@
 -- Each branch is a value of the choice.
 use borrow.Author.Needs.{needs}
 use mathlib.Core.Path.{refl}
-use Rattle.spi_rules.proofs.Choices.{so-eq, not-so-eq}
+use Rattle.laws.proofs.Choices.{so-eq, not-so-eq}
 use Rattle.spi_memory.specs.Memory.{bitIn, byteIn, engineIn}
 use Rattle.spi_memory.proofs.shift_in.Statement.{statement}
 use Rattle.spi_memory.proofs.shift_in.Tie as tie

@@ -2,7 +2,7 @@
 use borrow.Author.Needs.{needs}
 use mathlib.Core.Path.{refl}
 use mathlib.Core.List.{[], _∷_, _++_}
-use Rattle.spi_rules.specs.Choice.{if_then_else_}
+use Rattle.laws.specs.Choice.{if_then_else_}
 use Rattle.spi_memory.specs.Memory.{settingsIn, engineIn}
 use Rattle.spi_memory.specs.Writes.{at, wordsWritten}
 use Rattle.spi_memory.proofs.Stored.{engine-step, eight}

@@ -1,9 +1,9 @@
 -- Each state is stored.
 use borrow.Author.Needs.{needs}
 use mathlib.Core.Path.{refl}
-use Rattle.spi_rules.specs.declared.Shift.{Shift}
+use Rattle.laws.proofs.Choices.{by-case}
+use Rattle.spi_types.specs.declared.Shift.{Shift}
 use Rattle.spi_rules.specs.Changes.{withShift}
-use Rattle.spi_rules.proofs.Choices.{by-case}
 use Rattle.spi_memory.specs.Memory.{engineIn}
 use Rattle.spi_memory.proofs.Taken.{alike}
 use Rattle.spi_memory.proofs.store_shift.Statement.{statement}

@@ -4,7 +4,7 @@ use mathlib.Core.Path.{refl}
 use native.Mathlib.Omega.{arith}
 use Prim.Native.Nat.{_/_, _%_}
 use mathlib.Core.List.{[], _∷_}
-use Rattle.spi_rules.specs.Choice.{if_then_else_}
+use Rattle.laws.specs.Choice.{if_then_else_}
 use Rattle.spi_rules.specs.Registers.{statSettings}
 use Rattle.spi_memory.specs.Memory.{settingsIn, engineIn}
 use Rattle.spi_memory.specs.Writes.{at}

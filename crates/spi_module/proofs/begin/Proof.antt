@@ -1,10 +1,10 @@
 -- The first edge of a word is short of its last.
 use borrow.Author.Needs.{needs}
 use native.Mathlib.Omega.{arith}
+use Rattle.laws.proofs.Choices.{so-lt}
 use Rattle.spi_rules.specs.Edge.{wordEdges, shifted, advanced}
 use Rattle.spi_rules.specs.Bits.{progressed}
 use Rattle.spi_rules.proofs.Sizes.{width-least}
-use Rattle.spi_rules.proofs.Choices.{so-lt}
 use Rattle.spi_memory.specs.Memory.{settingsIn}
 use Rattle.spi_memory.proofs.Taken.{_then_, alike}
 use Rattle.spi_module.proofs.begin.Statement.{statement}

@@ -1,8 +1,8 @@
 -- The branch is the choice of the definition.
 use borrow.Author.Needs.{needs}
 use mathlib.Core.Path.{refl, sym, _∙_}
+use Rattle.laws.proofs.Choices.{so, not-so}
 use Rattle.spi_rules.specs.Select.{aborted, selectSeen, selectRemembered}
-use Rattle.spi_rules.proofs.Choices.{so, not-so}
 use Rattle.spi_memory.proofs.Taken.{_then_, alike}
 use Rattle.spi_module.proofs.deselect.Statement.{statement}
 use Rattle.spi_module.proofs.deselect.Tie as tie

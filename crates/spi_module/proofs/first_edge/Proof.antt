@@ -1,8 +1,8 @@
 -- A word that is loaded may begin, and with none loaded one that waits or a filler.
 use borrow.Author.Needs.{needs}
 use mathlib.Core.Path.{sym, _∙_, ap}
+use Rattle.laws.proofs.Keeps.{clash}
 use Rattle.spi_rules.specs.Loading.{isBegun}
-use Rattle.spi_rules.proofs.Keeps.{clash}
 use Rattle.spi_module.proofs.first_edge.Statement.{statement}
 use Rattle.spi_module.proofs.first_edge.Tie as tie
 

@@ -1,7 +1,7 @@
 -- A word that is begun goes on, and one that is not may begin. The pulse comes last.
 use borrow.Author.Needs.{needs}
 use mathlib.Core.Path.{refl, sym, _∙_, ap}
-use Rattle.spi_rules.specs.declared.Engine.{Engine}
+use Rattle.spi_types.specs.declared.Engine.{Engine}
 use Rattle.spi_rules.specs.Settings.{ckeOf}
 use Rattle.spi_rules.specs.Loading.{isBegun}
 use Rattle.spi_rules.specs.Edge.{clocked}

@@ -1,7 +1,7 @@
 -- The level is the other one.
 use borrow.Author.Needs.{needs}
-use Rattle.spi_module.specs.Answered.{turned}
 use Rattle.spi_memory.proofs.Taken.{alike}
+use Rattle.spi_module.specs.Answered.{turned}
 use Rattle.spi_module.proofs.framed_turn.Statement.{statement}
 use Rattle.spi_module.proofs.framed_turn.Tie as tie
 

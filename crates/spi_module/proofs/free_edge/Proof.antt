@@ -1,8 +1,8 @@
 -- A silent module begins nothing, an SSEN client the first waiting word, any other a filler.
 use borrow.Author.Needs.{needs}
 use mathlib.Core.Path.{refl, sym, _∙_}
+use Rattle.laws.proofs.Choices.{so, not-so}
 use Rattle.spi_rules.specs.Edge.{begun, clocked}
-use Rattle.spi_rules.proofs.Choices.{so, not-so}
 use Rattle.spi_memory.proofs.Taken.{_then_, alike}
 use Rattle.spi_module.proofs.Edges.{begins, begins-free, unbegun, active}
 use Rattle.spi_module.proofs.free_edge.Statement.{statement}

@@ -3,13 +3,13 @@ use borrow.Author.Needs.{needs}
 use native.Mathlib.Omega.{arith}
 use Prim.Native.Nat.{ℕ, _+_}
 use mathlib.Core.Path.{refl, sym, _∙_, ap}
-use Rattle.spi_rules.specs.declared.Shift.the-variants.{Begun}
-use Rattle.spi_rules.specs.Registers.{bitOf}
+use Rattle.laws.proofs.Choices.{so, not-so, so-lt, not-so-lt}
+use Rattle.word_order.specs.Bits.{bitOf}
+use Rattle.spi_types.specs.declared.Shift.the-variants.{Begun}
 use Rattle.spi_rules.specs.Bits.{receivedAfter, shownBit}
 use Rattle.spi_rules.specs.Finish.{finished}
 use Rattle.spi_rules.specs.Edge.{wordEdges, advanced}
 use Rattle.spi_rules.proofs.Sizes.{width-most}
-use Rattle.spi_rules.proofs.Choices.{so, not-so, so-lt, not-so-lt}
 use Rattle.spi_memory.specs.Memory.{settingsIn, engineIn}
 use Rattle.spi_memory.proofs.Looks.{begun-there}
 use Rattle.spi_memory.proofs.Taken.{_then_, alike}

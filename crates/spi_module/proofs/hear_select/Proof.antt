@@ -1,8 +1,8 @@
 -- The branch is the choice of the contract.
 use borrow.Author.Needs.{needs}
 use mathlib.Core.Path.{refl}
+use Rattle.laws.proofs.Choices.{so, not-so}
 use Rattle.spi_rules.specs.Select.{selectRemembered}
-use Rattle.spi_rules.proofs.Choices.{so, not-so}
 use Rattle.spi_memory.proofs.Taken.{alike, stays}
 use Rattle.spi_module.proofs.hear_select.Statement.{statement}
 use Rattle.spi_module.proofs.hear_select.Tie as tie

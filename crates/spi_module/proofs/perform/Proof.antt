@@ -1,8 +1,8 @@
 -- Each arm is the clause of the definition for its case.
 use borrow.Author.Needs.{needs}
 use mathlib.Core.Path.{refl}
+use Rattle.laws.proofs.Choices.{by-case}
 use Rattle.spi_rules.specs.Calls.{performOf}
-use Rattle.spi_rules.proofs.Choices.{by-case}
 use Rattle.spi_memory.specs.Memory.{moduleIn}
 use Rattle.spi_module.proofs.Answers.{likewise}
 use Rattle.spi_module.proofs.perform.Statement.{statement}

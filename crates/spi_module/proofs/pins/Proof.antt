@@ -1,8 +1,8 @@
 -- The refusals are tested in the order of the definition.
 use borrow.Author.Needs.{needs}
 use mathlib.Core.Path.{refl}
+use Rattle.laws.proofs.Choices.{so, not-so}
 use Rattle.spi_rules.specs.Calls.{refuse, pinsOf}
-use Rattle.spi_rules.proofs.Choices.{so, not-so}
 use Rattle.spi_module.proofs.Answers.{kept, changed, answered}
 use Rattle.spi_module.proofs.pins.Statement.{statement}
 use Rattle.spi_module.proofs.pins.Tie as tie

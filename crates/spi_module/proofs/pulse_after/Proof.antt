@@ -1,7 +1,7 @@
 -- The branches are the choices of the definition.
 use borrow.Author.Needs.{needs}
+use Rattle.laws.proofs.Choices.{so, not-so}
 use Rattle.spi_rules.specs.Edge.{pulseAfter}
-use Rattle.spi_rules.proofs.Choices.{so, not-so}
 use Rattle.spi_module.proofs.pulse_after.Statement.{statement}
 use Rattle.spi_module.proofs.pulse_after.Tie as tie
 

@@ -1,8 +1,8 @@
 -- Each arm is the clause of the definition for its case.
 use borrow.Author.Needs.{needs}
 use mathlib.Core.Path.{refl}
+use Rattle.laws.proofs.Choices.{so, not-so, by-case}
 use Rattle.spi_rules.specs.Edge.{pulseDue}
-use Rattle.spi_rules.proofs.Choices.{so, not-so, by-case}
 use Rattle.spi_module.proofs.pulse_due.Statement.{statement}
 use Rattle.spi_module.proofs.pulse_due.Tie as tie
 

@@ -1,8 +1,8 @@
 -- The registers are tested in the order of the definition.
 use borrow.Author.Needs.{needs}
 use mathlib.Core.Path.{refl}
+use Rattle.laws.proofs.Choices.{so-lt, not-so-lt, so-eq, not-so-eq}
 use Rattle.spi_rules.specs.Calls.{refuse, readOf}
-use Rattle.spi_rules.proofs.Choices.{so-lt, not-so-lt, so-eq, not-so-eq}
 use Rattle.spi_module.proofs.Answers.{kept, likewise}
 use Rattle.spi_module.proofs.read.Statement.{statement}
 use Rattle.spi_module.proofs.read.Tie as tie

@@ -2,8 +2,8 @@
 use borrow.Author.Needs.{needs}
 use mathlib.Core.Path.{refl}
 use mathlib.Core.Bool.{false}
+use Rattle.laws.proofs.Keeps.{and-false}
 use Rattle.spi_rules.specs.Settings.{ssenClient}
-use Rattle.spi_rules.proofs.Keeps.{and-false}
 use Rattle.spi_memory.specs.Memory.{settingsIn}
 use Rattle.spi_module.proofs.see.Statement.{statement}
 use Rattle.spi_module.proofs.see.Tie as tie

@@ -1,8 +1,9 @@
 -- The branches are the choices of the definition.
 use borrow.Author.Needs.{needs}
-use Rattle.spi_rules.specs.Registers.{bitOf, spirovAfter, statEngine, enabledEngine, disabledEngine}
+use Rattle.laws.proofs.Choices.{so, not-so}
+use Rattle.word_order.specs.Bits.{bitOf}
+use Rattle.spi_rules.specs.Registers.{spirovAfter, statEngine, enabledEngine, disabledEngine}
 use Rattle.spi_rules.specs.Calls.{turnsOn, turnsOff, statWritten}
-use Rattle.spi_rules.proofs.Choices.{so, not-so}
 use Rattle.spi_memory.proofs.Taken.{_then_, alike}
 use Rattle.spi_module.proofs.stat_written.Statement.{statement}
 use Rattle.spi_module.proofs.stat_written.Tie as tie

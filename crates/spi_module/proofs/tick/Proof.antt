@@ -3,10 +3,10 @@ use borrow.Author.Needs.{needs}
 use mathlib.Core.Path.{refl, sym, _∙_, ap}
 use mathlib.Core.Bool.{not}
 use borrow.Author.Tests.{not-false}
+use Rattle.laws.proofs.Keeps.{and-both, and-false, and-first}
+use Rattle.laws.proofs.Choices.{so, not-so}
 use Rattle.spi_rules.specs.Settings.{framed, clockStops}
 use Rattle.spi_rules.specs.Calls.{refuse, tickOf}
-use Rattle.spi_rules.proofs.Keeps.{and-both, and-false, and-first}
-use Rattle.spi_rules.proofs.Choices.{so, not-so}
 use Rattle.spi_memory.specs.Memory.{settingsIn}
 use Rattle.spi_memory.proofs.Taken.{_then_}
 use Rattle.spi_module.proofs.Answers.{kept, changed, answered}

@@ -1,9 +1,9 @@
 -- The refusals are tested in the order of the definition.
 use borrow.Author.Needs.{needs}
 use mathlib.Core.Path.{refl}
+use Rattle.laws.proofs.Choices.{so, not-so, so-le, not-so-le}
 use Rattle.spi_rules.specs.Registers.{spitbf}
 use Rattle.spi_rules.specs.Calls.{refuse, writeBuf}
-use Rattle.spi_rules.proofs.Choices.{so, not-so, so-le, not-so-le}
 use Rattle.spi_module.proofs.Answers.{kept, changed, answered}
 use Rattle.spi_module.proofs.write_buf.Statement.{statement}
 use Rattle.spi_module.proofs.write_buf.Tie as tie

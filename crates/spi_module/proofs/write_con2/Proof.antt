@@ -1,8 +1,8 @@
 -- The branch is the choice of the definition.
 use borrow.Author.Needs.{needs}
 use mathlib.Core.Path.{refl}
+use Rattle.laws.proofs.Choices.{so, not-so}
 use Rattle.spi_rules.specs.Calls.{refuse, configured}
-use Rattle.spi_rules.proofs.Choices.{so, not-so}
 use Rattle.spi_module.proofs.Answers.{kept, changed, set}
 use Rattle.spi_module.proofs.write_con2.Statement.{statement}
 use Rattle.spi_module.proofs.write_con2.Tie as tie

@@ -1,9 +1,9 @@
 -- The branch is the choice of the definition.
 use borrow.Author.Needs.{needs}
 use mathlib.Core.Path.{refl}
-use Rattle.spi_rules.specs.Registers.{bitOf}
+use Rattle.laws.proofs.Choices.{so, not-so}
+use Rattle.word_order.specs.Bits.{bitOf}
 use Rattle.spi_rules.specs.Calls.{turnsOn, refuse, writeStat}
-use Rattle.spi_rules.proofs.Choices.{so, not-so}
 use Rattle.spi_module.proofs.Answers.{kept, changed, then-set}
 use Rattle.spi_module.proofs.write_stat.Statement.{statement}
 use Rattle.spi_module.proofs.write_stat.Tie as tie

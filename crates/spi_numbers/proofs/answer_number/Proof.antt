@@ -2,7 +2,7 @@
 use borrow.Author.Needs.{needs}
 use mathlib.Core.Path.{refl}
 use native.Mathlib.Omega.{arith}
-use Rattle.spi_rules.proofs.Choices.{by-case}
+use Rattle.laws.proofs.Choices.{by-case}
 use Rattle.spi_numbers.specs.Told.{answerNumber}
 use Rattle.spi_numbers.proofs.answer_number.Statement.{statement}
 use Rattle.spi_numbers.proofs.answer_number.Tie as tie

@@ -1,8 +1,8 @@
 -- The branch is the choice of the definition.
 use native.Mathlib.Omega.{arith}
 use mathlib.Core.Path.{refl}
+use Rattle.laws.proofs.Choices.{so-lt, not-so-lt}
 use Rattle.spi_rules.specs.Registers.{atMost7}
-use Rattle.spi_rules.proofs.Choices.{so-lt, not-so-lt}
 use Rattle.spi_registers.proofs.at_most_7.Statement.{statement}
 use Rattle.spi_registers.proofs.at_most_7.Tie as tie
 

@@ -1,7 +1,8 @@
 -- Each field is the bit that the definition names.
 use borrow.Author.Needs.{needs}
 use mathlib.Core.Path.{refl}
-use Rattle.spi_rules.specs.Registers.{bitOf, con1From}
+use Rattle.word_order.specs.Bits.{bitOf}
+use Rattle.spi_rules.specs.Registers.{con1From}
 use Rattle.spi_registers.proofs.con1_from.Statement.{statement}
 use Rattle.spi_registers.proofs.con1_from.Tie as tie
 

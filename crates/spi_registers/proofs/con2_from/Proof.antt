@@ -1,6 +1,7 @@
 -- Each field is the bit that the definition names.
 use mathlib.Core.Path.{refl}
-use Rattle.spi_rules.specs.Registers.{bitOf, con2From}
+use Rattle.word_order.specs.Bits.{bitOf}
+use Rattle.spi_rules.specs.Registers.{con2From}
 use Rattle.spi_registers.proofs.con2_from.Statement.{statement}
 use Rattle.spi_registers.proofs.con2_from.Tie as tie
 

@@ -2,8 +2,8 @@
 use borrow.Author.Needs.{needs}
 use native.Mathlib.Omega.{arith}
 use mathlib.Core.Path.{refl, ap, _∙_}
+use Rattle.laws.proofs.Choices.{so, not-so}
 use Rattle.spi_rules.specs.Registers.{atMost7, spibec}
-use Rattle.spi_rules.proofs.Choices.{so, not-so}
 use Rattle.spi_registers.proofs.spibec_value.Statement.{statement}
 use Rattle.spi_registers.proofs.spibec_value.Tie as tie
 

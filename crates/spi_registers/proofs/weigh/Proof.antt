@@ -1,8 +1,8 @@
 -- The branch is the choice of the definition.
 use native.Mathlib.Omega.{arith}
 use mathlib.Core.Path.{refl}
+use Rattle.laws.proofs.Choices.{so, not-so}
 use Rattle.spi_rules.specs.Registers.{weighed}
-use Rattle.spi_rules.proofs.Choices.{so, not-so}
 use Rattle.spi_registers.proofs.weigh.Statement.{statement}
 use Rattle.spi_registers.proofs.weigh.Tie as tie
 

@@ -1,7 +1,7 @@
 -- Each arm is the clause of the definition for its case.
 use borrow.Author.Needs.{needs}
 use mathlib.Core.Path.{refl}
-use Rattle.spi_rules.proofs.Choices.{by-case}
+use Rattle.laws.proofs.Choices.{by-case}
 use Rattle.spi_save_rules.specs.Save.{keeps}
 use Rattle.spi_saving.proofs.is_kept.Statement.{statement}
 use Rattle.spi_saving.proofs.is_kept.Tie as tie

@@ -4,9 +4,9 @@ use Prim.Native.Nat.{_+_, _-_, _≤_}
 use mathlib.Core.Path.{_≡_, refl, ap}
 use native.Mathlib.Omega.{arith}
 use lib.ListN.{length, drop}
-use Rattle.spi_lines.proofs.FirstLines.{within}
 use Rattle.spi_script_rules.specs.Script.{linesOf}
 use Rattle.spi_save_rules.specs.Save.{keptFrom}
+use Rattle.spi_lines.proofs.FirstLines.{within}
 use Rattle.spi_saving.proofs.Kept.{counting-goes-on, none-behind, kept-at-most}
 use Rattle.spi_saving.proofs.lines_kept.Statement.{statement}
 use Rattle.spi_saving.proofs.lines_kept.Tie as tie

@@ -4,8 +4,8 @@ use mathlib.Core.Path.{refl, sym, ap, _∙_}
 use mathlib.Core.List.{append-nil}
 use native.Mathlib.Omega.{arith}
 use lib.ListN.{length}
-use Rattle.spi_script_rules.proofs.Texts.{written-case}
 use Rattle.spi_script_rules.specs.Texts.{put}
+use Rattle.spi_script_rules.proofs.Texts.{written-case}
 use Rattle.spi_save_rules.specs.Save.{recordsOf}
 use Rattle.spi_saving.proofs.Kept.{kept-none, kept-one, kept-above}
 use Rattle.spi_saving.proofs.put_line.Statement.{statement}

@@ -4,8 +4,8 @@ use Prim.Native.Nat.{_-_}
 use mathlib.Core.Path.{refl, ap, _∙_}
 use native.Mathlib.Omega.{arith}
 use lib.ListN.{length}
-use Rattle.spi_lines.proofs.FirstLines.{within}
 use Rattle.spi_script_rules.proofs.Texts.{put-length}
+use Rattle.spi_lines.proofs.FirstLines.{within}
 use Rattle.spi_saving.specs.Heads.{putRecords}
 use Rattle.spi_saving.proofs.Files.{Saving, saving-room, saving-goes-on, saving-ends}
 use Rattle.spi_saving.proofs.put_records.Statement.{statement}

@@ -1,8 +1,8 @@
 -- Each branch is a value of the choice.
+use Rattle.laws.proofs.Choices.{so, not-so}
 use Rattle.spi_saving.proofs.weight.Statement.{statement}
-use borrow.Author.Needs.{needs}
-use Rattle.spi_rules.proofs.Choices.{so, not-so}
 use Rattle.spi_saving.proofs.weight.Tie as tie
+use borrow.Author.Needs.{needs}
 
 returns : tie.Need-returns
 returns c = (so _ _ _ (cc) (cc), search needs)

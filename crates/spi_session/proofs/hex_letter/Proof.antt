@@ -1,8 +1,8 @@
 -- Each branch is a value of the choice.
 use borrow.Author.Needs.{needs}
 use native.Mathlib.Omega.{arith}
+use Rattle.laws.proofs.Choices.{so-lt, not-so-lt}
 use Rattle.spi_script_rules.specs.Script.{hexOf}
-use Rattle.spi_rules.proofs.Choices.{so-lt, not-so-lt}
 use Rattle.spi_session.proofs.hex_letter.Statement.{statement}
 use Rattle.spi_session.proofs.hex_letter.Tie as tie
 

@@ -1,6 +1,6 @@
 -- Each branch is a value of the choice.
+use Rattle.laws.proofs.Choices.{so, not-so}
 use Rattle.spi_script_rules.specs.Script.{levelOf}
-use Rattle.spi_rules.proofs.Choices.{so, not-so}
 use Rattle.spi_session.proofs.level_letter.Statement.{statement}
 use Rattle.spi_session.proofs.level_letter.Tie as tie
 

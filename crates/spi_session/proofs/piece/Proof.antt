@@ -4,8 +4,8 @@ use mathlib.Core.Path.{ap}
 use borrow.Author.Needs.{needs}
 use lib.ListN.{length}
 use native.Mathlib.Omega.{arith}
-use Rattle.spi_session.specs.SessionIn.{sessionIn}
 use Rattle.spi_script_rules.proofs.ScriptLines.{read-part}
+use Rattle.spi_session.specs.SessionIn.{sessionIn}
 use Rattle.spi_session.proofs.Lines.{Playing, playing-starts, playing-goes-on, piece-ends, cut-part}
 use Rattle.spi_session.proofs.piece.Statement.{statement}
 use Rattle.spi_session.proofs.piece.Tie as tie

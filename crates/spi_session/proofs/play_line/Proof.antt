@@ -2,8 +2,8 @@
 use borrow.Author.Needs.{needs}
 use mathlib.Core.Path.{refl, sym}
 use native.Mathlib.Omega.{arith}
-use Rattle.spi_lines.proofs.FirstLines.{within}
 use Rattle.spi_script_rules.proofs.SessionWhole.{ended-stays}
+use Rattle.spi_lines.proofs.FirstLines.{within}
 use Rattle.spi_session.specs.SessionIn.{sessionIn}
 use Rattle.spi_session.proofs.Lines.{ended-behind, ended-past, goes-on, plays-it, answers-it, answers-none}
 use Rattle.spi_session.proofs.play_line.Statement.{statement}

@@ -1,7 +1,7 @@
 -- A level, a space and what a pin call tells, one behind the other.
 use borrow.Author.Needs.{needs}
-use Rattle.spi_script_rules.specs.Script.{edgeText}
 use Rattle.spi_rules.specs.Calls.{sckOf}
+use Rattle.spi_script_rules.specs.Script.{edgeText}
 use Rattle.spi_script_rules.proofs.Texts.{written-then}
 use Rattle.spi_session.proofs.put_edge.Statement.{statement}
 use Rattle.spi_session.proofs.put_edge.Tie as tie

@@ -1,7 +1,7 @@
 -- A letter, a space, a level and a driven SS, one behind the other.
 use borrow.Author.Needs.{needs}
-use Rattle.spi_script_rules.specs.Script.{pinText}
 use Rattle.spi_rules.specs.Calls.{interruptOf}
+use Rattle.spi_script_rules.specs.Script.{pinText}
 use Rattle.spi_script_rules.proofs.Texts.{written-then}
 use Rattle.spi_session.proofs.put_pins.Statement.{statement}
 use Rattle.spi_session.proofs.put_pins.Tie as tie

@@ -1,7 +1,7 @@
 -- The module that memory holds after power-up.
 use borrow.Author.Needs.{needs}
 use mathlib.Core.Path.{ap}
-use Rattle.spi_rules.specs.declared.Module.{Module}
+use Rattle.spi_types.specs.declared.Module.{Module}
 use Rattle.spi_script_rules.specs.Session.{started}
 use Rattle.spi_session.proofs.start.Statement.{statement}
 use Rattle.spi_session.proofs.start.Tie as tie

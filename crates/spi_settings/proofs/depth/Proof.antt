@@ -1,4 +1,4 @@
-use Rattle.spi_rules.specs.Choice.{if_then_else_}
+use Rattle.laws.specs.Choice.{if_then_else_}
 use Rattle.spi_settings.proofs.depth.Statement.{statement}
 use Rattle.spi_settings.proofs.depth.Tie as tie
 

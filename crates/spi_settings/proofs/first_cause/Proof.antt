@@ -1,6 +1,6 @@
 -- Each branch is a value of the choice.
 use borrow.Author.Needs.{needs}
-use Rattle.spi_rules.proofs.Choices.{so, not-so}
+use Rattle.laws.proofs.Choices.{so, not-so}
 use Rattle.spi_settings.proofs.first_cause.Statement.{statement}
 use Rattle.spi_settings.proofs.first_cause.Tie as tie
 

@@ -1,5 +1,5 @@
 -- The branch is the choice of the definition.
-use Rattle.spi_rules.proofs.Choices.{so, not-so}
+use Rattle.laws.proofs.Choices.{so, not-so}
 use Rattle.spi_settings.proofs.is_silent.Statement.{statement}
 use Rattle.spi_settings.proofs.is_silent.Tie as tie
 

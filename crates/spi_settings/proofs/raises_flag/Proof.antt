@@ -1,6 +1,6 @@
 use borrow.Author.Needs.{needs}
+use Rattle.laws.proofs.Choices.{so, not-so}
 use Rattle.spi_rules.specs.Interrupts.{raises}
-use Rattle.spi_rules.proofs.Choices.{so, not-so}
 use Rattle.spi_settings.proofs.raises_flag.Statement.{statement}
 use Rattle.spi_settings.proofs.raises_flag.Tie as tie
 

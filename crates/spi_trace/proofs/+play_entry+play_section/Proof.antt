@@ -13,14 +13,14 @@ use borrow.Author.Tests.{eq-eqb, ne-eqb}
 use borrow.Fn.Kinds.{In}
 use borrow.Fn.PlainCycle.{Measures, is, falls, and}
 use lib.ListN.{getD}
-use Rattle.spi_rules.specs.declared.Module.{Module}
-use Rattle.spi_rules.specs.declared.Call.{Call}
+use Rattle.spi_types.specs.declared.Module.{Module}
+use Rattle.spi_types.specs.declared.Call.{Call}
 use Rattle.spi_rules.specs.Calls.{afterCalls}
-use Rattle.spi_memory.specs.Memory.{moduleIn}
 use Rattle.spi_trace_rules.specs.declared.Entry.{Entry}
 use Rattle.spi_trace_rules.specs.Trace.{startOf, sizeOf, isPlay, rightOf, times, callsBy, callsOf}
 use Rattle.spi_trace_files.specs.Places.{entriesAt}
 use Rattle.spi_trace_files.specs.Idle.{idle}
+use Rattle.spi_memory.specs.Memory.{moduleIn}
 use Rattle.spi_trace.specs.Playing.{entryCalls}
 use Rattle.spi_trace.proofs.Playing.{repeated, repeated-none, entry-plays, entry-makes, no-levels, names-one, section-records, Here, Next, here, upcoming, played-on, passed-on, played-out, none-left}
 use Rattle.spi_trace.proofs.play_entry.Reads as play-entry

@@ -4,14 +4,14 @@ use mathlib.Core.Path.{_≡_, refl, ap, _∙_}
 use native.Mathlib.Omega.{arith}
 use borrow.Author.Needs.{needs}
 use lib.Dec.{eqb}
-use Rattle.spi_rules.specs.declared.Module.{Module}
-use Rattle.spi_rules.specs.declared.Call.{Call}
-use Rattle.spi_rules.specs.declared.Call.the-variants.{Read, Write, Tick, Pin, Clear}
+use Rattle.laws.proofs.Choices.{so-eq, not-so-eq}
+use Rattle.spi_types.specs.declared.Module.{Module}
+use Rattle.spi_types.specs.declared.Call.{Call}
+use Rattle.spi_types.specs.declared.Call.the-variants.{Read, Write, Tick, Pin, Clear}
 use Rattle.spi_rules.specs.Calls.{performOf}
-use Rattle.spi_rules.proofs.Choices.{so-eq, not-so-eq}
-use Rattle.spi_memory.specs.Memory.{moduleIn}
 use Rattle.spi_trace_rules.specs.declared.Entry.{Entry}
 use Rattle.spi_trace_rules.specs.Trace.{callOf, wireIn}
+use Rattle.spi_memory.specs.Memory.{moduleIn}
 use Rattle.spi_trace.proofs.make.Statement.{statement}
 use Rattle.spi_trace.proofs.make.Tie as tie
 

@@ -2,7 +2,7 @@
 -- played from power-up by the table. Assumes nothing.
 use mathlib.Core.Path.{sym, ap, _∙_}
 use borrow.Author.Needs.{needs}
-use Rattle.spi_rules.specs.declared.Module.{Module}
+use Rattle.spi_types.specs.declared.Module.{Module}
 use Rattle.spi_rules.specs.Calls.{afterCalls}
 use Rattle.spi_trace_rules.specs.Trace.{callsOf, fileCalls, isMade}
 use Rattle.spi_trace_rules.proofs.TraceContents.{contents-laid}

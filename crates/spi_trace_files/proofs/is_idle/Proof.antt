@@ -1,9 +1,9 @@
 -- `spi_trace_files::is_idle` meets its contract: the test is the definition. Assumes nothing.
-use Rattle.spi_trace_files.proofs.is_idle.Statement.{statement}
-use mathlib.Core.Path.{refl}
 use Rattle.spi_trace_rules.specs.Trace.{isPlay}
 use Rattle.spi_trace_files.specs.Idle.{idle}
+use Rattle.spi_trace_files.proofs.is_idle.Statement.{statement}
 use Rattle.spi_trace_files.proofs.is_idle.Tie as tie
+use mathlib.Core.Path.{refl}
 
 returns : tie.Need-returns
 unfolding idle isPlay

@@ -1,7 +1,7 @@
 -- `spi_trace_files::land` meets its contract: the test decides both where it lands and what the table says. Assumes nothing.
 use borrow.Author.Needs.{needs}
 use mathlib.Core.Path.{refl, sym, _∙_}
-use Rattle.spi_rules.proofs.Choices.{so, not-so}
+use Rattle.laws.proofs.Choices.{so, not-so}
 use Rattle.spi_trace_files.proofs.land.Statement.{statement}
 use Rattle.spi_trace_files.proofs.land.Tie as tie
 

@@ -8,9 +8,9 @@ use native.Mathlib.Omega.{arith}
 use borrow.Author.Needs.{needs}
 use borrow.Author.Tests.{not-true, not-false}
 use lib.Dec.{ltb}
-use Rattle.spi_rules.specs.Choice.{if_then_else_}
-use Rattle.spi_rules.proofs.Choices.{so, not-so, so-lt, not-so-lt}
-use Rattle.spi_rules.proofs.Keeps.{clash}
+use Rattle.laws.specs.Choice.{if_then_else_}
+use Rattle.laws.proofs.Choices.{so, not-so, so-lt, not-so-lt}
+use Rattle.laws.proofs.Keeps.{clash}
 use Rattle.spi_trace_rules.specs.declared.Fault.the-variants.{BadContents, BadRecord, TooManyCalls}
 use Rattle.spi_trace_rules.specs.declared.Played.{Played}
 use Rattle.spi_trace_rules.specs.declared.Played.the-variants.{Refused, Made}

@@ -2,7 +2,7 @@
 use native.Mathlib.Omega.{arith}
 use borrow.Author.Needs.{needs}
 use mathlib.Core.Path.{refl}
-use Rattle.spi_rules.proofs.Choices.{so-eq, not-so-eq}
+use Rattle.laws.proofs.Choices.{so-eq, not-so-eq}
 use Rattle.spi_trace_rules.specs.Trace.{rightRecord, isPlay, wireIn}
 use Rattle.spi_trace_files.proofs.record_right.Statement.{statement}
 use Rattle.spi_trace_files.proofs.record_right.Tie as tie

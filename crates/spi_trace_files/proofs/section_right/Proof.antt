@@ -8,7 +8,7 @@ use native.Mathlib.Omega.{arith}
 use borrow.Author.Needs.{needs}
 use borrow.Author.Tests.{not-true, not-false}
 use lib.ListN.{length, getD}
-use Rattle.spi_rules.proofs.Keeps.{and-first, clash}
+use Rattle.laws.proofs.Keeps.{and-first, clash}
 use Rattle.spi_trace_rules.specs.Trace.{recordsOf, levelOf, rightOf, allOf}
 use Rattle.spi_trace_rules.proofs.TraceContents.{contents-laid}
 use Rattle.spi_trace_files.specs.Places.{entryAt, entriesAt}

@@ -3,7 +3,7 @@ use borrow.Author.Needs.{needs}
 use Prim.Native.Nat.{ℕ, _+_, _*_}
 use mathlib.Core.Path.{refl, ap}
 use native.Mathlib.Omega.{arith}
-use Rattle.spi_rules.proofs.Choices.{so-eq, not-so-eq}
+use Rattle.laws.proofs.Choices.{so-eq, not-so-eq}
 use Rattle.spi_trace_rules.specs.Trace.{isPlay}
 use Rattle.spi_trace_files.specs.Passes.{weightBy}
 use Rattle.spi_trace_files.proofs.Counts.{product-most}

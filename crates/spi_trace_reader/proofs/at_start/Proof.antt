@@ -36,12 +36,12 @@ use denote.Triple.Table.{entered}
 use denote.Triple.Walked.{says, Stays, stay-none-slice, walkOf, goes-none-slice, Walks, ends-at, walked, walk-meets}
 use denote.Exit.{yes}
 use Rattle.spi_trace_reader.specs.declared.Reader.{Reader}
-use Rattle.spi_trace_reader.proofs.Reader as T
-use Rattle.spi_trace_reader.proofs.Reader.Laws as T′
 use Rattle.spi_trace_reader.proofs.at_start.Key.{name as #spi_trace_reader·at-start}
+use Rattle.spi_trace_reader.proofs.Reader as T
 use Rattle.spi_trace_reader.proofs.at_start as start
 use Rattle.spi_trace_reader.proofs.at_start.Statement as stated
 use Rattle.spi_trace_reader.proofs.at_start.Code as code
+use Rattle.spi_trace_reader.proofs.Reader.Laws as T′
 
 abbrev stayed : Stays (start.ended .signature .params) (start.ended .kept)
 stayed = (stay-none-slice (0 ∷ []) tt (plain (λ _. u8)) yes, tt)

@@ -43,17 +43,17 @@ use denote.Triple.Walked.{says, Stays, stay-none, walkOf, goes-none, Walks, ends
 use denote.Exit.{yes}
 use denote.Triple.Clauses.{ensured, lasts}
 use Rattle.spi_trace_rules.specs.Trace.{bodyOf}
-use Rattle.spi_trace_reader.specs.declared.Reader.{Reader}
-use Rattle.spi_trace_reader.proofs.Reader as T
-use Rattle.spi_trace_reader.proofs.Reader.Laws as T′
-use Rattle.spi_trace_files.proofs.section_body as part
-use Rattle.spi_trace_files.proofs.section_body.Symbol as part-def
 use Rattle.spi_trace_files.proofs.section_body.Symbol.{name as #spi_trace_files·section-body}
-use Rattle.spi_trace_files.proofs.section_body.Met as part-thm
+use Rattle.spi_trace_reader.specs.declared.Reader.{Reader}
 use Rattle.spi_trace_reader.proofs.body.Key.{name as #spi_trace_reader·body}
+use Rattle.spi_trace_reader.proofs.Reader as T
+use Rattle.spi_trace_files.proofs.section_body as part
 use Rattle.spi_trace_reader.proofs.body as this
 use Rattle.spi_trace_reader.proofs.body.Statement as stated
 use Rattle.spi_trace_reader.proofs.body.Code as code
+use Rattle.spi_trace_reader.proofs.Reader.Laws as T′
+use Rattle.spi_trace_files.proofs.section_body.Symbol as part-def
+use Rattle.spi_trace_files.proofs.section_body.Met as part-thm
 
 -- the struct's type, over the signature's lifetimes
 abbrev B : Lfts 1 → RattleType

@@ -39,20 +39,20 @@ use denote.Exit.{yes}
 use denote.Triple.Clauses.{ensured, lasts}
 use Rattle.spi_trace_rules.specs.Trace.{bodyOf}
 use Rattle.spi_trace_reader.specs.declared.Reader.{Reader}
-use Rattle.spi_trace_reader.proofs.Reader as T
-use Rattle.spi_trace_reader.proofs.Reader.Laws as T′
-use Rattle.spi_trace_reader.proofs.at_start as start
-use Rattle.spi_trace_reader.proofs.at_start.Symbol as start-def
 use Rattle.spi_trace_reader.proofs.at_start.Symbol.{name as #spi_trace_reader·at-start}
-use Rattle.spi_trace_reader.proofs.at_start.Met as start-thm
-use Rattle.spi_trace_reader.proofs.body as part
-use Rattle.spi_trace_reader.proofs.body.Symbol as part-def
 use Rattle.spi_trace_reader.proofs.body.Symbol.{name as #spi_trace_reader·body}
-use Rattle.spi_trace_reader.proofs.body.Met as part-thm
 use Rattle.spi_trace_reader.proofs.body_of.Key.{name as #spi_trace_reader·body-of}
+use Rattle.spi_trace_reader.proofs.Reader as T
+use Rattle.spi_trace_reader.proofs.at_start as start
+use Rattle.spi_trace_reader.proofs.body as part
 use Rattle.spi_trace_reader.proofs.body_of as this
 use Rattle.spi_trace_reader.proofs.body_of.Statement as stated
 use Rattle.spi_trace_reader.proofs.body_of.Code as code
+use Rattle.spi_trace_reader.proofs.Reader.Laws as T′
+use Rattle.spi_trace_reader.proofs.at_start.Symbol as start-def
+use Rattle.spi_trace_reader.proofs.at_start.Met as start-thm
+use Rattle.spi_trace_reader.proofs.body.Symbol as part-def
+use Rattle.spi_trace_reader.proofs.body.Met as part-thm
 
 -- the struct's type, over the signature's lifetimes
 abbrev B : Lfts 1 → RattleType

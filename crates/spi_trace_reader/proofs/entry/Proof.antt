@@ -42,21 +42,21 @@ use denote.Triple.Table.{entered, cited}
 use denote.Triple.Walked.{says, Stays, stay-none, walkOf, goes-none, Walks, ends-at, walked, walk-meets}
 use denote.Exit.{yes}
 use denote.Triple.Clauses.{ensured, lasts}
-use Rattle.spi_trace_files.specs.Places.{entryAt}
-use Rattle.spi_trace_reader.specs.declared.Reader.{Reader}
 use Rattle.spi_trace_rules.specs.declared.Entry.{Entry}
-use Rattle.spi_trace_reader.proofs.Reader as T
-use Rattle.spi_trace_reader.proofs.Reader.Laws as T′
-use Rattle.spi_trace_rules.proofs.Entry as S
-use Rattle.spi_trace_rules.proofs.Entry.Laws as S′
-use Rattle.spi_trace_files.proofs.entry_at as step
-use Rattle.spi_trace_files.proofs.entry_at.Symbol as step-def
+use Rattle.spi_trace_files.specs.Places.{entryAt}
 use Rattle.spi_trace_files.proofs.entry_at.Symbol.{name as #spi_trace_files·entry-at}
-use Rattle.spi_trace_files.proofs.entry_at.Met as step-thm
+use Rattle.spi_trace_reader.specs.declared.Reader.{Reader}
 use Rattle.spi_trace_reader.proofs.entry.Key.{name as #spi_trace_reader·entry}
+use Rattle.spi_trace_reader.proofs.Reader as T
+use Rattle.spi_trace_rules.proofs.Entry as S
+use Rattle.spi_trace_files.proofs.entry_at as step
 use Rattle.spi_trace_reader.proofs.entry as this
 use Rattle.spi_trace_reader.proofs.entry.Statement as stated
 use Rattle.spi_trace_reader.proofs.entry.Code as code
+use Rattle.spi_trace_reader.proofs.Reader.Laws as T′
+use Rattle.spi_trace_rules.proofs.Entry.Laws as S′
+use Rattle.spi_trace_files.proofs.entry_at.Symbol as step-def
+use Rattle.spi_trace_files.proofs.entry_at.Met as step-thm
 
 -- the struct's type, over the signature's lifetimes
 abbrev B : Lfts 1 → RattleType

@@ -35,12 +35,12 @@ use denote.Triple.Table.{entered}
 use denote.Triple.Walked.{says, Stays, stay-none, walkOf, goes-none, Walks, ends-at, walked, walk-meets}
 use denote.Exit.{yes}
 use Rattle.spi_trace_reader.specs.declared.Reader.{Reader}
-use Rattle.spi_trace_reader.proofs.Reader as T
-use Rattle.spi_trace_reader.proofs.Reader.Laws as T′
 use Rattle.spi_trace_reader.proofs.moved.Key.{name as #spi_trace_reader·moved}
+use Rattle.spi_trace_reader.proofs.Reader as T
 use Rattle.spi_trace_reader.proofs.moved as moved
 use Rattle.spi_trace_reader.proofs.moved.Statement as stated
 use Rattle.spi_trace_reader.proofs.moved.Code as code
+use Rattle.spi_trace_reader.proofs.Reader.Laws as T′
 
 -- the struct's type, over the signature's lifetimes
 abbrev B : Lfts 1 → RattleType

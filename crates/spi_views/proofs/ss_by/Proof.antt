@@ -1,7 +1,7 @@
 -- The branches are the choices of the definition.
 use borrow.Author.Needs.{needs}
 use mathlib.Core.Path.{refl}
-use Rattle.spi_rules.proofs.Choices.{so, not-so}
+use Rattle.laws.proofs.Choices.{so, not-so}
 use Rattle.spi_views.proofs.ss_by.Statement.{statement}
 use Rattle.spi_views.proofs.ss_by.Tie as tie
 

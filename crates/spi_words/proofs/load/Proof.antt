@@ -1,8 +1,8 @@
 -- The branch is the choice of the definition.
 use borrow.Author.Needs.{needs}
 use mathlib.Core.Path.{refl}
+use Rattle.laws.proofs.Choices.{so, not-so}
 use Rattle.spi_rules.specs.Loading.{canLoad, moved, loaded}
-use Rattle.spi_rules.proofs.Choices.{so, not-so}
 use Rattle.spi_memory.proofs.Taken.{_then_, alike, stays}
 use Rattle.spi_words.proofs.load.Statement.{statement}
 use Rattle.spi_words.proofs.load.Tie as tie

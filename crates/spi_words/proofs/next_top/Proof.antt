@@ -1,8 +1,8 @@
 -- Each arm is the clause of the definition for its case.
 use borrow.Author.Needs.{needs}
 use mathlib.Core.Path.{refl}
+use Rattle.laws.proofs.Choices.{by-case}
 use Rattle.spi_rules.specs.Loading.{nextTop}
-use Rattle.spi_rules.proofs.Choices.{by-case}
 use Rattle.spi_words.proofs.next_top.Statement.{statement}
 use Rattle.spi_words.proofs.next_top.Tie as tie
 

@@ -2,8 +2,8 @@
 use borrow.Author.Needs.{needs}
 use mathlib.Core.Bool.{Bool}
 use mathlib.Core.Path.{refl, ap}
+use Rattle.laws.proofs.Choices.{so, not-so}
 use Rattle.spi_rules.specs.Loading.{rested, sdoAt}
-use Rattle.spi_rules.proofs.Choices.{so, not-so}
 use Rattle.spi_memory.specs.Memory.{engineIn}
 use Rattle.spi_memory.proofs.Taken.{alike, stays}
 use Rattle.spi_words.proofs.rest.Statement.{statement}

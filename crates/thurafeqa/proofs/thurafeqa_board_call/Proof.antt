@@ -48,18 +48,18 @@ use Rattle.spi_board.specs.Boards.{askedOf, numbersAt, withNumbers}
 use Rattle.spi_board.specs.Owing.{refusedCall, MakesOwed, OwedTells}
 use Rattle.spi_board.proofs.Owing.{owed-inside, owed-refused, owed-made}
 use Rattle.spi_board.proofs.Lent.{R, N, ref, opens-record, shuts-record, lends-cell, cell-back, list-owned, with-u32, given-up, guards, gone, gone-room}
-use Rattle.spi_board.proofs.refused as refused
-use Rattle.spi_board.proofs.refused.Symbol as refused-def
 use Rattle.spi_board.proofs.refused.Symbol.{name as #refused}
-use Rattle.spi_board.proofs.refused.Met as refused-thm
-use Rattle.spi_board.proofs.make_counted as make
-use Rattle.spi_board.proofs.make_counted.Symbol as make-def
 use Rattle.spi_board.proofs.make_counted.Symbol.{name as #make}
-use Rattle.spi_board.proofs.make_counted.Met as make-thm
 use Rattle.thurafeqa.proofs.thurafeqa_board_call.Key.{name as #board-call}
+use Rattle.spi_board.proofs.refused as refused
+use Rattle.spi_board.proofs.make_counted as make
 use Rattle.thurafeqa.proofs.thurafeqa_board_call as this
 use Rattle.thurafeqa.proofs.thurafeqa_board_call.Statement as stated
 use Rattle.thurafeqa.proofs.thurafeqa_board_call.Code as code
+use Rattle.spi_board.proofs.refused.Symbol as refused-def
+use Rattle.spi_board.proofs.refused.Met as refused-thm
+use Rattle.spi_board.proofs.make_counted.Symbol as make-def
+use Rattle.spi_board.proofs.make_counted.Met as make-thm
 
 -- the lent memory of a report
 abbrev F : RattleType

@@ -46,18 +46,18 @@ use Rattle.spi_board.specs.Boards.{numbersAt, withNumbers}
 use Rattle.spi_board.specs.Owing.{refusedPair, LinksOwed, OwedPairTells}
 use Rattle.spi_board.proofs.Owing.{owed-insides, owed-pair-refused, owed-pair-made}
 use Rattle.spi_board.proofs.Lent.{R, N, ref, fit-typed, opens-record, shuts-record, leaves-record, lends-cell, cell-back, list-owned, with-u32, guards, gone, gone-room}
-use Rattle.spi_board.proofs.refused_two as refused
-use Rattle.spi_board.proofs.refused_two.Symbol as refused-def
 use Rattle.spi_board.proofs.refused_two.Symbol.{name as #refused-two}
-use Rattle.spi_board.proofs.refused_two.Met as refused-thm
-use Rattle.spi_board.proofs.join_counted as joined
-use Rattle.spi_board.proofs.join_counted.Symbol as joined-def
 use Rattle.spi_board.proofs.join_counted.Symbol.{name as #join-counted}
-use Rattle.spi_board.proofs.join_counted.Met as joined-thm
 use Rattle.thurafeqa.proofs.thurafeqa_board_linked.Key.{name as #board-linked}
+use Rattle.spi_board.proofs.refused_two as refused
+use Rattle.spi_board.proofs.join_counted as joined
 use Rattle.thurafeqa.proofs.thurafeqa_board_linked as this
 use Rattle.thurafeqa.proofs.thurafeqa_board_linked.Statement as stated
 use Rattle.thurafeqa.proofs.thurafeqa_board_linked.Code as code
+use Rattle.spi_board.proofs.refused_two.Symbol as refused-def
+use Rattle.spi_board.proofs.refused_two.Met as refused-thm
+use Rattle.spi_board.proofs.join_counted.Symbol as joined-def
+use Rattle.spi_board.proofs.join_counted.Met as joined-thm
 
 abbrev stayed : Stays (this.ended .signature .params) (this.ended .kept)
 stayed = (stay-slice (0 ∷ []) tt (plain (λ _. R)), (stay-none (λ _. u32) yes, (stay-none (λ _. u32) yes, (stay-none (λ _. u32) yes, (stay-none (λ _. u32) yes, tt)))))

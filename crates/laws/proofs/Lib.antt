@@ -1,0 +1,3 @@
+-- Laws of choices and of compound tests.
+pub mod Choices
+pub mod Keeps

@@ -1,0 +1,1 @@
+// What every rule and proof may use: the choice between two values, and laws of choices and tests. No type and no function stands here.
