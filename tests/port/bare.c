@@ -1,5 +1,5 @@
 /* A short session with every call of the library, for a target that has no C
- * library here: it needs nothing but libthurafeqa.a, and its exit status is the
+ * library here: it needs nothing but libthurafeqa.a, and answers with the
  * number of the first check that fails, 0 if none does. tests/targets builds it
  * with the compiler and the linker of the Rattle kit alone. */
 #include "thurafeqa.h"
@@ -164,15 +164,3 @@ int session(void)
     board();
     return failed;
 }
-
-/* ---- where the system begins the program, and how it ends */
-
-#if defined __linux__ && defined __x86_64__
-__asm__(".globl start\nstart: andq $-16, %rsp\ncall session\nmovl %eax, %edi\nmovl $60, %eax\nsyscall\n");
-#elif defined __linux__ && defined __aarch64__
-__asm__(".globl start\nstart: bl session\nmov x8, #93\nsvc #0\n");
-#elif defined __linux__ && defined __riscv
-__asm__(".globl start\nstart: call session\nli a7, 93\necall\n");
-#else
-int start(void) { return session(); }
-#endif
