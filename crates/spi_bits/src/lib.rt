@@ -55,7 +55,7 @@ pub fn received_after(s: Settings, edge: u16, sdi: bool, received: u16) -> u16
 }
 
 // The bit that an edge shows when it changes SDO.
-pub fn shown_bit(s: Settings, word: u16, edge: u16) -> bool
+fn shown_bit(s: Settings, word: u16, edge: u16) -> bool
     ensures { λ r. ⌜ r ≡ shownBit s word edge ⌝ }
 {
     let top = spi_settings::width(s) as u16 - 1;

@@ -37,7 +37,7 @@ pub fn refusal(count: usize, n: u32) -> u32
 }
 
 // The same of a linked run of modules `a` and `b`.
-pub fn refusal_of_two(count: usize, a: u32, b: u32) -> u32
+fn refusal_of_two(count: usize, a: u32, b: u32) -> u32
     ensures { λ r. ⌜ r ≡ pairFault count a b ⌝ }
 {
     let first = refusal(count, a);

@@ -13,7 +13,7 @@ ghost use Rattle.spi_rules.specs.Registers.{isFree};
 ghost use Rattle.spi_rules.specs.Buffers.{emptyTransmit, emptyReceive, firstWaiting, firstUnread, written, departed, appended, taken};
 
 // The position after `at`.
-pub fn next_position(depth: u8, at: u8) -> u8
+fn next_position(depth: u8, at: u8) -> u8
     ensures { λ r. ⌜ r ≡ next depth at ⌝ }
 {
     if at < depth {

@@ -21,14 +21,14 @@ fn quarter(steps: u8, n: u8) -> u8
 }
 
 // The primary prescaler: from 64, each step of PPRE divides by four.
-pub fn primary(ppre: u8) -> u8
+fn primary(ppre: u8) -> u8
     ensures { λ r. ⌜ r ≡ primaryOf ppre ⌝ }
 {
     quarter(ppre % 4, 64)
 }
 
 // The secondary prescaler.
-pub fn secondary(spre: u8) -> u8
+fn secondary(spre: u8) -> u8
     ensures { λ r. ⌜ r ≡ secondaryOf spre ⌝ }
 {
     8 - spre % 8
@@ -54,7 +54,7 @@ pub fn rates(s: Settings, f: u32) -> Rates
 }
 
 // Where the module's clock comes from, for an instruction rate.
-pub fn clock_of(s: Settings, f: u32) -> Clock
+fn clock_of(s: Settings, f: u32) -> Clock
     ensures { λ r. ⌜ r ≡ clockOf s f ⌝ }
 {
     if !s.spien {

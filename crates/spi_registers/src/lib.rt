@@ -73,7 +73,7 @@ pub fn con2_value(c: Con2) -> u16
 }
 
 // A count as three bits show it.
-pub fn at_most_7(count: u8) -> u8
+fn at_most_7(count: u8) -> u8
     ensures value { λ r. ⌜ r ≡ atMost7 count ⌝ }
     ensures bound { λ r. ⌜ r ≤ 7 ⌝ }
 {
@@ -81,7 +81,7 @@ pub fn at_most_7(count: u8) -> u8
 }
 
 // SPIBEC: the words that wait (host) or are unread (client).
-pub fn spibec_value(m: Module) -> u8
+fn spibec_value(m: Module) -> u8
     ensures value { λ r. ⌜ r ≡ spibec m ⌝ }
     ensures bound { λ r. ⌜ r ≤ 7 ⌝ }
 {
@@ -98,7 +98,7 @@ pub fn spibec_value(m: Module) -> u8
 }
 
 // SRMPT: no word is loaded or begun.
-pub fn srmpt_bit(m: Module) -> bool
+fn srmpt_bit(m: Module) -> bool
     ensures { λ r. ⌜ r ≡ srmpt m ⌝ }
 {
     let s = m.settings;
@@ -108,14 +108,14 @@ pub fn srmpt_bit(m: Module) -> bool
 }
 
 // SRXMPT: nothing is unread.
-pub fn srxmpt_bit(m: Module) -> bool
+fn srxmpt_bit(m: Module) -> bool
     ensures { λ r. ⌜ r ≡ srxmpt m ⌝ }
 {
     (m.settings.spien & m.settings.con2.spiben) & (m.engine.receive.count == 0)
 }
 
 // SPITBF: the transmit buffer is full.
-pub fn spitbf_bit(m: Module) -> bool
+fn spitbf_bit(m: Module) -> bool
     ensures { λ r. ⌜ r ≡ spitbf m ⌝ }
 {
     let s = m.settings;
@@ -123,7 +123,7 @@ pub fn spitbf_bit(m: Module) -> bool
 }
 
 // SPIRBF: the receive buffer is full.
-pub fn spirbf_bit(m: Module) -> bool
+fn spirbf_bit(m: Module) -> bool
     ensures { λ r. ⌜ r ≡ spirbf m ⌝ }
 {
     let s = m.settings;

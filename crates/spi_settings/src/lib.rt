@@ -75,21 +75,21 @@ pub fn own_clock(s: Settings) -> bool
 }
 
 // Whether a host with its own clock has both prescalers at 1:1.
-pub fn is_undivided(s: Settings) -> bool
+fn is_undivided(s: Settings) -> bool
     ensures { λ r. ⌜ r ≡ undivided s ⌝ }
 {
     own_clock(s) & ((s.con1.ppre == 3) & (s.con1.spre == 7))
 }
 
 // Whether SMP is set.
-pub fn samples_late(s: Settings) -> bool
+fn samples_late(s: Settings) -> bool
     ensures { λ r. ⌜ r ≡ lateSampling s ⌝ }
 {
     s.con1.smp
 }
 
 // Whether an unframed client has CKE and no SSEN.
-pub fn has_unselected_cke(s: Settings) -> bool
+fn has_unselected_cke(s: Settings) -> bool
     ensures { λ r. ⌜ r ≡ unselectedCke s ⌝ }
 {
     !s.con2.frmen & (!s.con1.msten & (s.con1.cke & !s.con1.ssen))
@@ -116,7 +116,7 @@ pub fn first_cause(s: Settings) -> Refusal
 }
 
 // Whether an event raises the interrupt flag in enhanced operation.
-pub fn raises_enhanced(depth: u8, sisel: u8, e: Event) -> bool
+fn raises_enhanced(depth: u8, sisel: u8, e: Event) -> bool
     ensures { λ r. ⌜ r ≡ enhancedRaises depth sisel e ⌝ }
 {
     match e {
@@ -135,7 +135,7 @@ pub fn raises_enhanced(depth: u8, sisel: u8, e: Event) -> bool
 }
 
 // Whether an event raises the interrupt flag in standard operation.
-pub fn raises_standard(e: Event) -> bool
+fn raises_standard(e: Event) -> bool
     ensures { λ r. ⌜ r ≡ standardRaises e ⌝ }
 {
     match e {

@@ -13,7 +13,7 @@ ghost use Rattle.spi_trace_files.specs.Passes.{raisedOne, raisedBy, capp
 ghost use Rattle.spi_trace_files.specs.Idle.{idle, landingOf, PassedFrom};
 
 // The byte at a place, and 0 beyond the end.
-pub fn byte_at(f: &[u8], i: usize) -> u8
+fn byte_at(f: &[u8], i: usize) -> u8
     ensures { λ r. ⌜ r ≡ byteAt (now (f .entry)) i ⌝ }
 {
     if i < f.len() {
@@ -38,7 +38,7 @@ fn whole_half(f: &[u8], i: usize) -> u16
 }
 
 // The number in two bytes, of zeros beyond the end.
-pub fn half_at(f: &[u8], i: usize) -> u16
+fn half_at(f: &[u8], i: usize) -> u16
     ensures { λ r. ⌜ r ≡ halfAt (now (f .entry)) i ⌝ }
 {
     if f.len() <= i {
@@ -51,7 +51,7 @@ pub fn half_at(f: &[u8], i: usize) -> u16
 }
 
 // The number in four bytes, the lowest first, of zeros beyond the end.
-pub fn word_at(f: &[u8], i: usize) -> u32
+fn word_at(f: &[u8], i: usize) -> u32
     ensures { λ r. ⌜ r ≡ wordAt (now (f .entry)) i ⌝ }
 {
     if f.len() <= i {
@@ -111,7 +111,7 @@ fn lies_gapless(f: &[u8], n: u16) -> bool
 }
 
 // Whether the contents are right, and the file is not too long.
-pub fn contents_right(f: &[u8]) -> bool
+fn contents_right(f: &[u8]) -> bool
     ensures { λ r. ⌜ r ≡ contentsRight (now (f .entry)) ⌝ }
 {
     if 65535 < f.len() {
