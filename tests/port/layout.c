@@ -26,7 +26,7 @@ HOLDS(offsetof(thurafeqa_clock_report, rate) == 0);
 HOLDS(offsetof(thurafeqa_clock_report, bittime) == 8);
 HOLDS(offsetof(thurafeqa_clock_report, below) == 16);
 
-HOLDS(THURAFEQA_VERSION == 0x050000);
+HOLDS(THURAFEQA_VERSION == 0x050100);
 HOLDS(THURAFEQA_FORMAT == 3);
 
 HOLDS(THURAFEQA_STAT == 0);

@@ -1,6 +1,7 @@
 -- The demands of specs/Demands.antt, all of them.
 --     demands-hold   what the buyer signs for
 -- Assumes nothing.
+use Rattle.card_demands.proofs.DemandsHold.{page-holds}
 use Rattle.spi_one_module.proofs.DemandsHold.{one-module}
 use Rattle.spi_link_rules.proofs.LinkDemandsHold.{linked-runs}
 use Rattle.spi_clock_rules.proofs.ClockDemandsHold.{clock-reports}
@@ -22,4 +23,5 @@ demands-hold =
       saves = saves-hold;
       boards = boards-hold;
       totals = totals-hold;
+      audioCard = page-holds;
     }

@@ -1,6 +1,7 @@
 -- What the buyer signs for, all of it: the demands on one module, on two modules on one wire, on the clock report, on the
--- script program, on trace files, on saved sessions, on the board and on its total of words owed. Each page says its part in the
--- crate of its rules.
+-- script program, on trace files, on saved sessions, on the board and on its total of words owed, and on the audio card. Each page
+-- says its part in the crate of its rules.
+use Rattle.card_rules.specs.CardDemands.{CardDemands}
 use Rattle.spi_rules.specs.Demands.{OneModule}
 use Rattle.spi_link_rules.specs.LinkDemands.{LinkedRuns}
 use Rattle.spi_clock_rules.specs.ClockDemands.{ClockReports}
@@ -10,7 +11,7 @@ use Rattle.spi_save_rules.specs.SaveDemands.{Saves}
 use Rattle.spi_board_rules.specs.BoardDemands.{Boards}
 use Rattle.spi_board_rules.specs.OwedDemands.{Totals}
 
-pub record Demands : Type 0 where
+pub record Demands : Type 1 where
   pub oneModule : OneModule
   pub linkedRuns : LinkedRuns
   pub clockReports : ClockReports
@@ -19,3 +20,4 @@ pub record Demands : Type 0 where
   pub saves : Saves
   pub boards : Boards
   pub totals : Totals
+  pub audioCard : CardDemands

@@ -1,0 +1,5 @@
+-- The statements of the card's page, and the page.
+pub mod Answers
+pub mod Flags
+pub mod Changes
+pub mod DemandsHold

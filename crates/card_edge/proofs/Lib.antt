@@ -1,0 +1,2 @@
+-- The ways through an edge.
+pub mod EdgeHolds

@@ -1,0 +1,21 @@
+-- Zeros, or the first sample waiting.
+use borrow.Author.Needs.{needs}
+use mathlib.Core.Path.{sym, _∙_}
+use Rattle.card_edge.proofs.EdgeHolds.{take-none, take-first}
+use Rattle.card_edge.proofs.take.Statement.{statement}
+use Rattle.card_edge.proofs.take.Tie as tie
+
+returns : tie.Need-returns
+returns c = take-none _ (c .before .before .before .is-whole .ensures .1) (sym (c .before .held .ensures) ∙ c .if1 .taken)
+
+returns-2 : tie.Need-returns-2
+returns-2 c = take-first _ (c .before .before .before .before .before .is-whole .ensures .1) _ (c .before .before .before .held .ensures) (c .before .before .if1 .left)
+
+pub take-spec : {M : Type 1} → statement M
+take-spec =
+    tie.close
+    (tie.spec
+    (λ c κs. search needs) (λ c. search needs) (λ c κs. search needs) (λ c. search needs) (λ c. search needs) (λ c. search needs)
+    (λ c. search needs) (λ c. search needs) (λ c. search needs) returns (λ c. search needs) (λ c. search needs) (λ c. search needs)
+    (λ c. search needs) (λ c. search needs) (λ c. search needs) (λ c. search needs) (λ c. search needs) (λ c. search needs)
+    (λ c. search needs) (λ c. search needs) (λ c. search needs) (λ c. search needs) (λ c. search needs) returns-2)

@@ -1,0 +1,2 @@
+-- What the code of an edge computes.
+pub mod Shown

@@ -1,0 +1,2 @@
+-- Levels as numbers.
+pub mod Levels

@@ -1,0 +1,2 @@
+-- A look's parts.
+pub mod Looks

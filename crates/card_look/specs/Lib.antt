@@ -1,0 +1,2 @@
+-- A look at a card as one number.
+pub mod Look

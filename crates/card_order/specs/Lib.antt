@@ -1,0 +1,2 @@
+-- What calls keep of a card.
+pub mod Invariant

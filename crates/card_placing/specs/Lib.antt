@@ -1,0 +1,2 @@
+-- Where an enabled card stands.
+pub mod Stage

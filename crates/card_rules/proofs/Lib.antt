@@ -1,0 +1,5 @@
+-- The worked cases are run; and the page, run at concrete calls.
+pub mod ExamplesHold
+pub mod Claims
+pub mod PageRun
+pub mod PageHolds
