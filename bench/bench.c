@@ -33,6 +33,24 @@ struct ways {
     uint32_t times;
 };
 
+static const struct ways tis[] = {
+    {"TI master, 16 bits",
+     "edge",
+     {"library", "plain C"},
+     {library_ti_master, plain_ti_master},
+     2000},
+    {"TI master, 5 bits, phase 1",
+     "edge",
+     {"library", "plain C"},
+     {library_ti_short, plain_ti_short},
+     6000},
+    {"TI slave, 8 bits, phase 1",
+     "edge",
+     {"library", "plain C"},
+     {library_ti_slave, plain_ti_slave},
+     4000},
+};
+
 static const struct ways boards[] = {
     {"busy host, module 3 of 4",
      "edge",
@@ -102,6 +120,8 @@ int main(int argc, char **argv)
         w.times = cases[i].times;
         failed |= run(&w);
     }
+    for (i = 0; i < (int)(sizeof tis / sizeof tis[0]); i++)
+        failed |= run(&tis[i]);
     for (i = 0; i < (int)(sizeof boards / sizeof boards[0]); i++)
         failed |= run(&boards[i]);
     return failed;

@@ -41,4 +41,13 @@ struct outcome tick_alone(uint32_t times);
 struct outcome ask_board(uint32_t times);
 struct outcome walk_board(uint32_t times);
 
+/* Edges of the TI module: a busy master of 16 bits, one of 5 bits in phase 1,
+ * and a slave of 8 bits. */
+struct outcome library_ti_master(uint32_t times);
+struct outcome plain_ti_master(uint32_t times);
+struct outcome library_ti_short(uint32_t times);
+struct outcome plain_ti_short(uint32_t times);
+struct outcome library_ti_slave(uint32_t times);
+struct outcome plain_ti_slave(uint32_t times);
+
 #endif

@@ -58,7 +58,7 @@ pub mod register {
 
 /// The version of this file: major, minor and patch numbers. [`version`] tells the library's.
 #[allow(dead_code)]
-pub const VERSION: (u8, u8, u8) = (5, 1, 0);
+pub const VERSION: (u8, u8, u8) = (5, 2, 0);
 
 /// The format of a module's words. It rises wherever their meaning changes, so save it beside them.
 #[allow(dead_code)]
@@ -101,6 +101,20 @@ unsafe extern "C" {
         modules: *mut Module, count: usize, owed: u32, host: u32, client: u32, limit: u32,
     ) -> u64;
     safe fn thurafeqa_board_owed(count: usize, owed: u32) -> u32;
+    safe fn thurafeqa_ti_power_up(m: &mut Ti);
+    safe fn thurafeqa_ti_enter_reset(m: &mut Ti);
+    safe fn thurafeqa_ti_leave_reset(m: &mut Ti);
+    safe fn thurafeqa_ti_set_mode(m: &mut Ti, master: u32, talk: u32, polarity: u32, phase: u32) -> u32;
+    safe fn thurafeqa_ti_set_length(m: &mut Ti, length: u32) -> u32;
+    safe fn thurafeqa_ti_write(m: &mut Ti, value: u32) -> u32;
+    safe fn thurafeqa_ti_read(m: &mut Ti) -> u32;
+    safe fn thurafeqa_ti_tick(m: &mut Ti, sdi: u32) -> u32;
+    safe fn thurafeqa_ti_pins(m: &mut Ti, sck: u32, sdi: u32, select: u32) -> u32;
+    safe fn thurafeqa_ti_clear_overrun(m: &mut Ti);
+    safe fn thurafeqa_ti_status(m: &Ti) -> u32;
+    safe fn thurafeqa_ti_levels(m: &Ti) -> u32;
+    safe fn thurafeqa_ti_settings(m: &Ti) -> u32;
+    safe fn thurafeqa_ti_rate(spibrr: u32, lspclk: u32, rate: &mut f64);
     safe fn thurafeqa_version() -> u32;
     safe fn thurafeqa_format() -> u32;
 }
@@ -150,6 +164,8 @@ pub enum Refusal {
     BadList = 21,
     /// A board has no module with that number, or the same one is named twice in a linked run.
     NoModule = 22,
+    /// A TI module is given a character length of 0 or above 16.
+    WrongLength = 24,
 }
 
 impl Refusal {
@@ -159,7 +175,7 @@ impl Refusal {
         #[rustfmt::skip]
         let all = [NoSuchRegister, Disabled, Enabled, TransmitFull, ReceiveEmpty, WrongClock, NoRate, UnreadableLine,
             DifferentModes, TooManyEdges, Undivided, LateSampling, UnselectedCke, Overflowed, BadContents, BadRecord,
-            TooManyCalls, NoRoom, BadList, NoModule];
+            TooManyCalls, NoRoom, BadList, NoModule, WrongLength];
         all.iter().copied().find(|r| *r as u32 == number)
     }
 
@@ -185,6 +201,7 @@ impl Refusal {
             Refusal::NoRoom => "the trace does not fit",
             Refusal::BadList => "a board has one to four modules",
             Refusal::NoModule => "the board has no such module, or it is named twice",
+            Refusal::WrongLength => "a character has 1 to 16 bits",
         }
     }
 }
@@ -545,6 +562,160 @@ impl<'a> Board<'a> {
     }
 }
 
+/// A TI module: source document 002's, without its FIFO. Master or slave, with characters of 1 to 16 bits: one that waits to be
+/// sent, one in the shift register, one unread. It is a value like [`Module`]. `Disabled` says of it that it is in software
+/// reset, `Enabled` that it is not.
+#[repr(C)]
+#[derive(Clone, Debug, PartialEq, Eq)]
+#[allow(dead_code)]
+pub struct Ti([u16; 20]);
+
+/// What the mode call sets.
+#[derive(Clone, Copy, Debug, Default, PartialEq, Eq)]
+#[allow(dead_code)]
+pub struct TiMode {
+    /// MASTER/SLAVE: it makes its own clock.
+    pub master: bool,
+    /// TALK: it drives its output.
+    pub talk: bool,
+    /// CLOCK POLARITY: the clock rests high.
+    pub polarity: bool,
+    /// CLOCK PHASE: the first bit stands there before the first edge.
+    pub phase: bool,
+}
+
+#[allow(dead_code)] // a program need not make every call
+impl Ti {
+    /// A module at power-up: in software reset, a slave, talk off, length 1. Never refused.
+    pub fn new() -> Ti {
+        let mut m = Ti([0; 20]);
+        thurafeqa_ti_power_up(&mut m);
+        m
+    }
+
+    /// The module's words, to save beside [`FORMAT`].
+    pub fn words(&self) -> [u16; 20] {
+        self.0
+    }
+
+    /// A module from saved words. Any words are safe; words of another format stand for another module.
+    pub fn from_words(words: [u16; 20]) -> Ti {
+        Ti(words)
+    }
+
+    /// Enters software reset, which empties both buffers and the shift register and clears the flags. Never refused.
+    pub fn enter_reset(&mut self) {
+        thurafeqa_ti_enter_reset(self)
+    }
+
+    /// Leaves it. Never refused.
+    pub fn leave_reset(&mut self) {
+        thurafeqa_ti_leave_reset(self)
+    }
+
+    /// Sets the mode. Out of reset talk alone may change.
+    ///
+    /// Refused: `Enabled`.
+    pub fn set_mode(&mut self, mode: TiMode) -> Result<(), Refusal> {
+        let TiMode { master, talk, polarity, phase } = mode;
+        done(thurafeqa_ti_set_mode(self, master.into(), talk.into(), polarity.into(), phase.into()))
+    }
+
+    /// The mode.
+    pub fn mode(&self) -> TiMode {
+        let s = thurafeqa_ti_settings(self);
+        TiMode { master: s & 256 != 0, talk: s & 128 != 0, polarity: s & 64 != 0, phase: s & 32 != 0 }
+    }
+
+    /// Sets the bits of a character, 1 to 16.
+    ///
+    /// Refused: `Enabled`, also for the present length; `WrongLength`.
+    pub fn set_length(&mut self, length: u32) -> Result<(), Refusal> {
+        done(thurafeqa_ti_set_length(self, length))
+    }
+
+    /// The bits of a character.
+    pub fn length(&self) -> u32 {
+        thurafeqa_ti_settings(self) & 31
+    }
+
+    /// Is it in software reset?
+    pub fn in_reset(&self) -> bool {
+        thurafeqa_ti_settings(self) & 512 != 0
+    }
+
+    /// Writes a character, left-justified: the top bits of the value.
+    ///
+    /// Refused: `Disabled`, `TransmitFull`.
+    pub fn write(&mut self, value: u16) -> Result<(), Refusal> {
+        done(thurafeqa_ti_write(self, value.into()))
+    }
+
+    /// Reads the unread character, right-justified, and takes the interrupt flag down.
+    ///
+    /// Refused: `Disabled`, `ReceiveEmpty`.
+    pub fn read(&mut self) -> Result<u16, Refusal> {
+        value(thurafeqa_ti_read(self))
+    }
+
+    /// One tick of a master, with the level at its input: did it make an edge? It makes none with nothing to send.
+    ///
+    /// Refused: `Disabled`, `WrongClock`.
+    pub fn tick(&mut self, sdi: bool) -> Result<bool, Refusal> {
+        Ok(value(thurafeqa_ti_tick(self, sdi.into()))? != 0)
+    }
+
+    /// Shows the levels of the clock, the input and SPISTE to a slave. Select that is high pauses a character.
+    ///
+    /// Refused: `Disabled`, `WrongClock`.
+    pub fn pins(&mut self, sck: bool, sdi: bool, select: bool) -> Result<(), Refusal> {
+        done(thurafeqa_ti_pins(self, sck.into(), sdi.into(), select.into()))
+    }
+
+    /// Clears the overrun flag. Never refused.
+    pub fn clear_overrun(&mut self) {
+        thurafeqa_ti_clear_overrun(self)
+    }
+
+    /// The overrun flag: a character was finished while one was unread, which is lost.
+    pub fn overrun(&self) -> bool {
+        thurafeqa_ti_status(self) & 128 != 0
+    }
+
+    /// The interrupt flag: a character is ready to be read.
+    pub fn interrupt(&self) -> bool {
+        thurafeqa_ti_status(self) & 64 != 0
+    }
+
+    /// A character waits to be sent.
+    pub fn transmit_full(&self) -> bool {
+        thurafeqa_ti_status(self) & 32 != 0
+    }
+
+    /// The clock level, last made here or seen at the pin.
+    pub fn sck(&self) -> bool {
+        thurafeqa_ti_levels(self) & 2 != 0
+    }
+
+    /// The output pin.
+    pub fn sdo(&self) -> Sdo {
+        sdo(thurafeqa_ti_levels(self))
+    }
+
+    /// The bit rate of a master: LSPCLK / (SPIBRR + 1), or LSPCLK / 4 for SPIBRR 0 to 2. Never refused.
+    pub fn rate(spibrr: u32, lspclk: u32) -> f64 {
+        let mut rate = 0.0;
+        thurafeqa_ti_rate(spibrr, lspclk, &mut rate);
+        rate
+    }
+}
+
+impl Default for Ti {
+    fn default() -> Ti {
+        Ti::new()
+    }
+}
+
 #[cfg(test)]
 mod thurafeqa_tests {
     use super::*;
@@ -554,11 +725,12 @@ mod thurafeqa_tests {
         assert_eq!([size_of::<Module>(), align_of::<Module>()], [192, 2]);
         assert_eq!([size_of::<ClockReport>(), align_of::<ClockReport>()], [24, 8]);
         assert_eq!(size_of::<[Module; 4]>(), 4 * 192);
+        assert_eq!([size_of::<Ti>(), align_of::<Ti>()], [40, 2]);
     }
 
     #[test]
     fn numbers_mean_what_the_header_says() {
-        assert_eq!((1..23).filter_map(Refusal::from_number).map(|r| r as u32).sum::<u32>(), 253 - 4 - 12);
+        assert_eq!((1..25).filter_map(Refusal::from_number).map(|r| r as u32).sum::<u32>(), 253 - 4 - 12 + 24);
         assert_eq!([0, 4, 12, 23].map(Refusal::from_number), [None; 4]);
         assert_eq!((value(0), value(0xFFFF), value(0x6_0000)), (Ok(0), Ok(0xFFFF), Err(Refusal::ReceiveEmpty)));
         assert_eq!(value(0x10_0000), Err(Refusal::Overflowed));

@@ -66,7 +66,7 @@ extern "C" {
  * must have the same major number, and the library's minor number must not be
  * lower. */
 #define THURAFEQA_VERSION_MAJOR 5u
-#define THURAFEQA_VERSION_MINOR 1u
+#define THURAFEQA_VERSION_MINOR 2u
 #define THURAFEQA_VERSION_PATCH 0u
 #define THURAFEQA_VERSION                                                      \
     (THURAFEQA_VERSION_MAJOR << 16 | THURAFEQA_VERSION_MINOR << 8 |            \
@@ -108,6 +108,7 @@ typedef char thurafeqa_has_192_bytes[sizeof(thurafeqa) == 192 ? 1 : -1];
 #define THURAFEQA_NO_ROOM 20u         /* a saved trace does not fit */
 #define THURAFEQA_BAD_LIST 21u        /* board: not one to four modules */
 #define THURAFEQA_NO_MODULE 22u       /* board: not there, or named twice */
+#define THURAFEQA_WRONG_LENGTH 24u    /* TI: no character length 1 to 16 */
 
 /* The refusal number of an answer, 0 if the call was done. */
 static inline uint16_t thurafeqa_refusal(uint32_t answer)
@@ -437,6 +438,108 @@ static inline uint32_t thurafeqa_board_start(thurafeqa_board *b,
     while (thurafeqa_refusal(answer) == 0 && ++n < count);
     return answer;
 }
+
+/* ---- the TI module ----------------------------------------------------
+ *
+ * Source document 002's module, without its FIFO: a master or slave with
+ * characters of 1 to 16 bits, one that waits to be sent, one in the shift
+ * register and one unread. A master that sends a character of 5 bits and reads
+ * what came back with it:
+ *
+ *     thurafeqa_ti m;
+ *     uint32_t answer;
+ *     thurafeqa_ti_power_up(&m);
+ *     thurafeqa_ti_set_length(&m, 5);
+ *     thurafeqa_ti_set_mode(&m, 1, 1, 0, 0);
+ *     thurafeqa_ti_leave_reset(&m);
+ *     answer = thurafeqa_ti_write(&m, 0xA800);
+ *     while (thurafeqa_ti_tick(&m, sdi_level()) == 1)
+ *         ;
+ *     answer = thurafeqa_ti_read(&m);
+ *     if (thurafeqa_refusal(answer) == 0)
+ *         use_word(thurafeqa_value(answer));
+ *
+ * Its memory is used as a module's above, and answers and levels are as there.
+ * 2 says here that the module is in software reset, 3 that it is not. */
+typedef struct {
+    uint16_t memory[20];
+} thurafeqa_ti;
+
+typedef char thurafeqa_ti_has_40_bytes[sizeof(thurafeqa_ti) == 40 ? 1 : -1];
+
+/* The flags in thurafeqa_ti_status, where SPISTS has them. */
+#define THURAFEQA_TI_OVERRUN 0x80u       /* an unread character was lost */
+#define THURAFEQA_TI_INTERRUPT 0x40u     /* a character is ready to be read */
+#define THURAFEQA_TI_TRANSMIT_FULL 0x20u /* a character waits to be sent */
+
+/* The bits in thurafeqa_ti_levels. An undriven output has the level 0. */
+#define THURAFEQA_TI_SCK 0x2u    /* the clock, made here or seen last */
+#define THURAFEQA_TI_SDO 0x4u    /* the output's level */
+#define THURAFEQA_TI_DRIVEN 0x8u /* the output is driven */
+
+/* The bits in thurafeqa_ti_settings. */
+#define THURAFEQA_TI_LENGTH 0x01Fu   /* bits of a character */
+#define THURAFEQA_TI_PHASE 0x020u    /* CLOCK PHASE */
+#define THURAFEQA_TI_POLARITY 0x040u /* CLOCK POLARITY */
+#define THURAFEQA_TI_TALK 0x080u     /* TALK */
+#define THURAFEQA_TI_MASTER 0x100u   /* MASTER/SLAVE */
+#define THURAFEQA_TI_RESET 0x200u    /* in software reset */
+
+/* Power-up: in software reset, a slave, talk off, polarity 0, phase 0, length
+ * 1. The memory may hold anything before. Never refused. */
+void thurafeqa_ti_power_up(thurafeqa_ti *m);
+
+/* Enters and leaves software reset, which empties both buffers and the shift
+ * register and clears the flags; the settings stay. Again changes nothing.
+ * Never refused. */
+void thurafeqa_ti_enter_reset(thurafeqa_ti *m);
+void thurafeqa_ti_leave_reset(thurafeqa_ti *m);
+
+/* Sets master or slave, talk, polarity and phase. Out of reset only talk may
+ * change: with talk off the output is left to others, and all else goes on.
+ * Refusal: 3 (out of reset, and another would change). */
+uint32_t thurafeqa_ti_set_mode(thurafeqa_ti *m, uint32_t master, uint32_t talk,
+                               uint32_t polarity, uint32_t phase);
+
+/* Sets the bits of a character, 1 to 16.
+ * Refusals: 3 (out of reset, also for the present length), then 24. */
+uint32_t thurafeqa_ti_set_length(thurafeqa_ti *m, uint32_t length);
+
+/* Writes a character, left-justified: of the low 16 bits of the value the top
+ * ones, as many as the length says.
+ * Refusals: 2, then 5 (one waits already). */
+uint32_t thurafeqa_ti_write(thurafeqa_ti *m, uint32_t value);
+
+/* Reads the unread character, right-justified with zeros above, and takes the
+ * interrupt flag down. A character that is finished while one is unread takes
+ * its place; that one is lost, and the overrun flag goes up.
+ * Refusals: 2, then 6 (nothing is unread). */
+uint32_t thurafeqa_ti_read(thurafeqa_ti *m);
+
+/* One tick of a master, with the level at its input; the answer's value is 1
+ * if it made an edge, 0 if there was nothing to send.
+ * Refusals: 2, then 7 (a slave). */
+uint32_t thurafeqa_ti_tick(thurafeqa_ti *m, uint32_t sdi);
+
+/* Shows the levels of the clock, the input and SPISTE to a slave. An edge
+ * counts while select is low; select that goes high pauses the character, which
+ * goes on where it was. With nothing written a slave sends zeros.
+ * Refusals: 2, then 7 (a master). */
+uint32_t thurafeqa_ti_pins(thurafeqa_ti *m, uint32_t sck, uint32_t sdi,
+                           uint32_t select);
+
+/* Clears the overrun flag. Never refused. */
+void thurafeqa_ti_clear_overrun(thurafeqa_ti *m);
+
+/* Looks at the flags, the levels and the settings. Never refused. */
+uint32_t thurafeqa_ti_status(const thurafeqa_ti *m);
+uint32_t thurafeqa_ti_levels(const thurafeqa_ti *m);
+uint32_t thurafeqa_ti_settings(const thurafeqa_ti *m);
+
+/* Writes the bit rate of a master to *rate: LSPCLK / (SPIBRR + 1), or LSPCLK / 4
+ * for SPIBRR 0 to 2, rounded once. SPIBRR counts by its low seven bits. Never
+ * refused. */
+void thurafeqa_ti_rate(uint32_t spibrr, uint32_t lspclk, double *rate);
 
 /* The version of the library, in the form of THURAFEQA_VERSION, and the number
  * of the format that it reads and writes. */

@@ -26,7 +26,24 @@ HOLDS(offsetof(thurafeqa_clock_report, rate) == 0);
 HOLDS(offsetof(thurafeqa_clock_report, bittime) == 8);
 HOLDS(offsetof(thurafeqa_clock_report, below) == 16);
 
-HOLDS(THURAFEQA_VERSION == 0x050100);
+/* The TI module, and its flags where SPISTS has them. */
+HOLDS(sizeof(thurafeqa_ti) == 20 * 2);
+HOLDS(_Alignof(thurafeqa_ti) == 2);
+HOLDS(offsetof(thurafeqa_ti, memory) == 0);
+HOLDS(THURAFEQA_TI_OVERRUN == BIT(7));
+HOLDS(THURAFEQA_TI_INTERRUPT == BIT(6));
+HOLDS(THURAFEQA_TI_TRANSMIT_FULL == BIT(5));
+HOLDS(THURAFEQA_TI_SCK == BIT(1));
+HOLDS(THURAFEQA_TI_SDO == BIT(2));
+HOLDS(THURAFEQA_TI_DRIVEN == BIT(3));
+HOLDS(THURAFEQA_TI_LENGTH == BITS(4, 0));
+HOLDS(THURAFEQA_TI_PHASE == BIT(5));
+HOLDS(THURAFEQA_TI_POLARITY == BIT(6));
+HOLDS(THURAFEQA_TI_TALK == BIT(7));
+HOLDS(THURAFEQA_TI_MASTER == BIT(8));
+HOLDS(THURAFEQA_TI_RESET == BIT(9));
+
+HOLDS(THURAFEQA_VERSION == 0x050200);
 HOLDS(THURAFEQA_FORMAT == 3);
 
 HOLDS(THURAFEQA_STAT == 0);

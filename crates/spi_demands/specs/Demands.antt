@@ -1,7 +1,8 @@
 -- What the buyer signs for, all of it: the demands on one module, on two modules on one wire, on the clock report, on the
--- script program, on trace files, on saved sessions, on the board and on its total of words owed, and on the audio card. Each page
--- says its part in the crate of its rules.
+-- script program, on trace files, on saved sessions, on the board and on its total of words owed, on the audio card and on the
+-- TI module. Each page says its part in the crate of its rules.
 use Rattle.card_rules.specs.CardDemands.{CardDemands}
+use Rattle.ti_rules.specs.Demands.{TiDemands}
 use Rattle.spi_rules.specs.Demands.{OneModule}
 use Rattle.spi_link_rules.specs.LinkDemands.{LinkedRuns}
 use Rattle.spi_clock_rules.specs.ClockDemands.{ClockReports}
@@ -21,3 +22,4 @@ pub record Demands : Type 1 where
   pub boards : Boards
   pub totals : Totals
   pub audioCard : CardDemands
+  pub tiModule : TiDemands

@@ -183,7 +183,7 @@ pub extern "C" fn thurafeqa_save(script: &[u8], file: &mut [u8]) -> u32
 pub extern "C" fn thurafeqa_version() -> u32
     ensures { λ r. ⌜ r ≡ versionNumber ⌝ }
 {
-    327936
+    328192
 }
 
 // The number of the memory's format: it rises wherever the meaning of the 96 numbers changes.

@@ -1,0 +1,32 @@
+-- Out of reset nothing changes; else the module rests.
+use borrow.Author.Needs.{needs}
+use mathlib.Core.Path.{refl, ap, _∙_}
+use Rattle.laws.proofs.Choices.{so, not-so}
+use Rattle.ti_rules.specs.Calls.{leaveOf}
+use mathlib.Core.Bool.{false}
+use Rattle.ti_rules.specs.declared.Ti.{Ti}
+use Rattle.ti.specs.Memory.{withReset}
+use Rattle.ti.proofs.Parts.{reset-stored}
+use Rattle.ti.proofs.Outcomes.{in-reset, out-of-reset}
+use Rattle.ti.proofs.leave.Statement.{statement}
+use Rattle.ti.proofs.leave.Tie as tie
+
+returns : tie.Need-returns
+unfolding leaveOf
+returns c =
+    let w = c .before .before .args .w .now in
+    record { holds = not-so _ _ _ (out-of-reset w (c .if1 .taken)) refl }
+
+returns-2 : tie.Need-returns-2
+unfolding leaveOf
+returns-2 c =
+    let w = c .before .before .before .before .before .before .args .w .now in
+    let rest = c .before .before .rest in
+    let if1 = c .before .before .before .before .if1 in
+    reset-stored _ (c .is-whole .ensures .1) 1
+    (ap (λ (m : Ti). withReset false m) (rest .ensures .steps) ∙ so _ _ _ (in-reset w (if1 .left)) refl)
+
+pub leave-spec : {M : Type 1} → statement M
+leave-spec =
+    tie.close
+    (tie.spec (λ c. search needs) returns (λ c κs. search needs) (λ c κs. search needs) (λ c. search needs) returns-2)

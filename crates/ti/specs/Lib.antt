@@ -1,0 +1,4 @@
+-- A TI module in memory.
+pub mod Memory
+pub mod Writes
+pub mod Steps
