@@ -3,3 +3,4 @@ pub mod Answers
 pub mod Flags
 pub mod Changes
 pub mod DemandsHold
+pub mod PageRuns

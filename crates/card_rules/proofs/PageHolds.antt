@@ -1,5 +1,5 @@
 -- The page holds at every call of these lists, each from power-up, by computing.
---     settings-run    every protocol with every length and frame: a frame and the clocks behind it
+--     settings-run    every protocol: a frame and the clocks behind it; crate card_demands has every length and frame
 --     refused-run     refusals in every state
 --     flags-run       underrun and overflow, each cleared by its own call, and disabling
 --     hypotheses-met  no hypothesis of the page is empty
@@ -33,7 +33,7 @@ one-by-one [] = []
 one-by-one (cs ∷ rest) = cs ++ one-by-one rest
 
 -- A frame and the clocks behind it: two samples are written before it, and one within it.
-abbrev frames : Protocol → ℕ → ℕ → List Call
+abbrev pub frames : Protocol → ℕ → ℕ → List Call
 frames p bits frame =
     one-by-one
     ((setProtocol p ∷ setLength bits frame ∷ enable ∷ [])
@@ -71,14 +71,9 @@ abbrev pub Run : List Call → Type 0
 Run cs = run cs poweredUpCard [] ≡ true
 
 settings-run :
-    Run (frames i2s 16 32) × Run (frames i2s 16 64) × Run (frames i2s 24 64) × Run (frames i2s 32 64)
-    × Run (frames leftJustified 16 32) × Run (frames leftJustified 16 64) × Run (frames leftJustified 24 64)
-    × Run (frames leftJustified 32 64)
-    × Run (frames rightJustified 16 32) × Run (frames rightJustified 16 64) × Run (frames rightJustified 24 64)
-    × Run (frames rightJustified 32 64)
-    × Run (frames pcm 16 32) × Run (frames pcm 16 64) × Run (frames pcm 24 64) × Run (frames pcm 32 64)
+    Run (frames i2s 16 32) × Run (frames leftJustified 16 32) × Run (frames rightJustified 16 64) × Run (frames pcm 16 32)
 unfolding if_then_else_ next bitOf named shapeOf poweredUp atFirstPlace begun samples shiftedIn receivedAfter channelBit shifted isFull finished opened clocked lrckAt turned setProtocolOf setLengthOf enableOf disableOf sampleOf writeOf readOf edgeOf clearUnderrunOf clearOverflowOf sdoOf rightNext ledger.opened leftToSend loses firstOnWire counted closed given unless judgedAt seen made run
-settings-run = (refl, refl, refl, refl, refl, refl, refl, refl, refl, refl, refl, refl, refl, refl, refl, refl)
+settings-run = (refl, refl, refl, refl)
 
 refused-run : Run refused
 unfolding if_then_else_ next bitOf named shapeOf poweredUp atFirstPlace begun samples shiftedIn receivedAfter channelBit shifted isFull finished opened clocked lrckAt turned setProtocolOf setLengthOf enableOf disableOf sampleOf writeOf readOf edgeOf clearUnderrunOf clearOverflowOf sdoOf rightNext ledger.opened leftToSend loses firstOnWire counted closed given unless judgedAt seen made run
