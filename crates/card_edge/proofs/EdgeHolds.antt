@@ -7,7 +7,6 @@ use mathlib.Core.Path.{_≡_, refl, sym, ap, ap₂, subst, _∙_}
 use native.Mathlib.Nat.{mod-eq-of-lt}
 use native.Mathlib.Omega.{arith}
 use borrow.Author.Tests.{eqb-true, eqb-false, eq-eqb, ne-eqb, lt-ltb, le-ltb, ltb-true, ltb-false, le-leb, lt-leb}
-use mir.Val.{boolByte}
 use lib.Dec.{eqb, ltb, leb}
 use lib.ListN.{length, getD, set, length-set}
 use Rattle.laws.specs.Choice.{if_then_else_}
@@ -199,11 +198,7 @@ framed-numbers : (s : Shape) →
 unfolding framed
 framed-numbers s = (refl, refl, refl, refl, refl)
 
--- A bit is at most 1, and a bit of a number is its own lowest.
-pub bit-most : (b : Bool) → boolByte b ≤ 1
-bit-most true = omega arith
-bit-most false = omega arith
-
+-- A bit of a number is its own lowest.
 pub bit-of-bit : (word i : ℕ) → bitIn (word / 2 ^ i % 2) ≡ bitOf word i
 unfolding bitIn bitOf
 bit-of-bit word i = ap (λ (k : ℕ). eqb k 1) (let same : word / 2 ^ i % 2 % 2 ≡ word / 2 ^ i % 2 = omega arith in same)

@@ -1,5 +1,4 @@
 -- The worked cases are run; and the page, run at concrete calls.
 pub mod ExamplesHold
-pub mod Claims
 pub mod PageRun
 pub mod PageHolds

@@ -19,7 +19,7 @@ use Rattle.card_rules.specs.Examples.{outputNumber}
 use Rattle.card_rules.specs.Figures.{protocolNumber, rightFollows, sckExpected, lrckExpected, sdoExpected, cardTerms}
 use Rattle.card_rules.specs.Watch.{portOf, Sight, edgesAfter, entryOf, watching, poweredUpCard, life}
 use Rattle.card_rules.specs.CardDemands.{asks, isKind, firstNumber, rows, Answered, wasDone, takes, waitingExpected, Changes, tookAfter, tookFrom, took, Shows, outputSeen, CardDemands}
-use Rattle.card_rules.proofs.Claims.{Claim, level, number, numbers, provided, AllHold, none, _also_, allJudged, all-judged}
+use Rattle.laws.proofs.Claims.{Claim, level, number, numbers, provided, AllHold, none, _also_, allJudged, all-judged}
 
 -- A watched card x, a call c with its outcome o, and the watched card y after it. They are handed on as arguments, so that each is computed
 -- once in a run.

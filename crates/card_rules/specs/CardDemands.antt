@@ -138,7 +138,7 @@ pub record Placed (x : Settings) (samples : List ℕ) (clock : ℕ) (sdo : Bool)
   pub bit : (j i : ℕ) → i < x .bits → clock ≡ bitClock x j i → sdo ≡ bitOf (getD samples j 0) (x .bits - 1 - i)
   pub other : ((j i : ℕ) → i < x .bits → clock ≡ bitClock x j i → ⊥) → sdo ≡ false
 
-pub record CardDemands : Type 1 where
+pub record CardDemands : Type 0 where
   -- demand 1 and 2: refusals, and every view after every call
   pub answered : Answered
   pub changes : (cs : List Call) (c : Call) →

@@ -4,17 +4,11 @@ use Prim.Native.Nat.{ℕ, zero, suc, _+_, _-_, _%_}
 use mathlib.Core.Bool.{Bool, true, false, not, _&&_, Bool·beq}
 use mathlib.Core.List.{List, [], _∷_, _++_}
 use lib.Dec.{eqb}
+use Rattle.laws.specs.Same.{sameNumbers}
 use Rattle.word_order.specs.Bits.{bitOf}
 use Rattle.card_rules.specs.Settings.{i2s, leftJustified, rightJustified, pcm, Settings}
 use Rattle.card_rules.specs.Card.{Card, poweredUp}
 use Rattle.card_rules.specs.Calls.{Call, setProtocol, setLength, enable, disable, write, read, edge, clearUnderrun, clearOverflow, Outcome, perform, performOf, performAll, saidOf, Output, low, high, undriven, sdoOf, rightNext}
-
--- Lists and outputs that agree.
-abbrev pub sameNumbers : List ℕ → List ℕ → Bool
-sameNumbers [] [] = true
-sameNumbers [] (y ∷ ys) = false
-sameNumbers (x ∷ xs) [] = false
-sameNumbers (x ∷ xs) (y ∷ ys) = eqb x y && sameNumbers xs ys
 
 abbrev pub outputNumber : Output → ℕ
 outputNumber low = 0

@@ -1,6 +1,5 @@
--- The floats of the clock report are the paper's fractions. A whole number of 32 bits becomes a float without loss, one
--- division of two such floats is their fraction rounded once (`round` of lib.Ieee), and where the divider divides the
--- instruction rate the quotient is the float of a whole number, which is that number exactly.
+-- The floats of the clock report are the paper's fractions, rounded once, and where the divider divides the instruction rate
+-- the quotient is the float of a whole number, which is that number exactly.
 --     rate-rounds-once, bittime-rounds-once   the two floats of an internal clock
 --     rate-exact, rate-reads-back             the rate where D divides F
 --     quartered-start, -step, -all            dividing by four, step by step
@@ -23,6 +22,8 @@ use lib.Ieee.Fits.{up-pos, down-pos}
 use lib.Ieee.Back.{round-whole, unsigned-back}
 use lib.Ieee.Positive.{positive-of-value}
 use lib.Ieee.Scale.{round-same}
+use Rattle.floats.specs.Whole.{floatOf}
+use Rattle.floats.proofs.Quotients.{float-exact, quotient-rounded, whole-fraction}
 use Rattle.laws.specs.Choice.{if_then_else_}
 use Rattle.laws.proofs.Choices.{so, not-so, not-so-eq}
 use Rattle.spi_types.specs.declared.Module.{Module}
@@ -32,44 +33,13 @@ use Rattle.spi_rules.specs.Refusals.{numberOf}
 use Rattle.spi_clock_rules.specs.declared.Clock.{Clock}
 use Rattle.spi_clock_rules.specs.declared.Clock.the-variants.{Internal, External, None}
 use Rattle.spi_clock_rules.specs.declared.Reported.the-variants.{Answered}
-use Rattle.spi_clock_rules.specs.Clock.{quartered, primaryOf, secondaryOf, dividerOf, floatOf, ratesOf, clockOf, reportOf, saidRefused, saidInternal, saidExternal, saidNone, saidClock}
+use Rattle.spi_clock_rules.specs.Clock.{quartered, primaryOf, secondaryOf, dividerOf, ratesOf, clockOf, reportOf, saidRefused, saidInternal, saidExternal, saidNone, saidClock}
 use Rattle.spi_clock_rules.specs.ClockDemands.{tabled}
 
--- ---- one division of two whole floats
+-- ---- what divides
 
 above-zero : (n : ℕ) → 0 < n → n ≡ 0 → ⊥
 above-zero n h e = omega arith
-
--- the cross product of the two fractions
-cross : (a b x y d e : ℕ) → x * 1 ≡ a * e → y * 1 ≡ b * d → x * d * b ≡ a * (y * e)
-cross a b x y d e h k =
-    let p : x ≡ a * e = sym (mul-one x) ∙ h in
-    let q : y ≡ b * d = sym (mul-one y) ∙ k in
-    let r : a * e * d * b ≡ a * (b * d * e) = simp (mul-assoc, mul-comm, mul-left-comm) in
-    ap (λ (z : ℕ). z * d * b) p ∙ r ∙ ap (λ (z : ℕ). a * (z * e)) (sym q)
-
--- A quotient of two floats that are whole numbers, the second not 0, is their fraction rounded once.
-pub quotient-rounds-once : (f : Format) (x y : Float) (a b : ℕ) → HasValue x false a 1 → HasValue y false b 1 → 0 < b → div f x y ≡ round f false a b
-unfolding div
-quotient-rounds-once f nan y a b h k B = absurd h
-quotient-rounds-once f (inf s) y a b h k B = absurd h
-quotient-rounds-once f (fin s m e) nan a b h k B = absurd k
-quotient-rounds-once f (fin s m e) (inf t) a b h k B = absurd k
-quotient-rounds-once f (fin true m e) (fin t n d) a b h k B = absurd (true≢false (h .0))
-quotient-rounds-once f (fin false m e) (fin true n d) a b h k B = absurd (true≢false (k .0))
-quotient-rounds-once f (fin false m e) (fin false n d) a b h k B =
-    let N : 0 < n = ltb→lt 0 n (positive-of-value (fin false n d) b 1 k B) in
-    let z : eqb n 0 ≡ false = ne-eqb n 0 (above-zero n N) in
-    ap (λ (t : Bool). cond t (cond (eqb m 0) nan (inf false)) (round f false (m * up e * down d) (n * up d * down e))) z
-    ∙ round-same f false (m * up e * down d) (n * up d * down e) a b (mul-pos (mul-pos N (up-pos d)) (down-pos e)) B
-    (cross a b (m * up e) (n * up d) (down d) (down e) (h .1) (k .1))
-
--- ---- what is divided: whole numbers that the format has
-
--- Every whole number of 32 bits is a float, exactly.
-pub float-exact : (n : ℕ) → n < 2 ^ 32 → HasValue (floatOf n) false n 1
-unfolding ofInt
-float-exact n h = round-whole binary64 false n (omega arith)
 
 -- 64 divided by four, up to three times: from 1 to 64, a quarter each time, and as the table has it.
 steps : (n : ℕ) → n < 4 →
@@ -138,20 +108,13 @@ divider-fits s = omega (arith, divider-bounds s .1)
 pub rate-rounds-once : (s : Settings) (f : ℕ) → f < 2 ^ 32 → ratesOf s f .rate ≡ round binary64 false f (dividerOf s)
 unfolding ratesOf
 rate-rounds-once s f h =
-    quotient-rounds-once binary64 (floatOf f) (floatOf (dividerOf s)) f (dividerOf s)
-    (float-exact f h) (float-exact (dividerOf s) (divider-fits s)) (divider-bounds s .0)
+    quotient-rounded f (dividerOf s) h (divider-fits s) (divider-bounds s .0)
 
 -- The bit time is D / F, rounded once.
 pub bittime-rounds-once : (s : Settings) (f : ℕ) → 0 < f → f < 2 ^ 32 → ratesOf s f .bittime ≡ round binary64 false (dividerOf s) f
 unfolding ratesOf
 bittime-rounds-once s f p h =
-    quotient-rounds-once binary64 (floatOf (dividerOf s)) (floatOf f) (dividerOf s) f
-    (float-exact (dividerOf s) (divider-fits s)) (float-exact f h) p
-
--- The fraction of a whole number of divisors rounds to the float of that number.
-whole-fraction : (q d : ℕ) → 0 < d → round binary64 false (q * d) d ≡ floatOf q
-unfolding ofInt
-whole-fraction q d D = round-same binary64 false (q * d) d q 1 D (zero-lt-suc 0) (mul-one (q * d))
+    quotient-rounded (dividerOf s) f (divider-fits s) h p
 
 -- A quotient is no larger than what was divided.
 quotient-small : (s : Settings) (f q : ℕ) → f < 2 ^ 32 → f ≡ q * dividerOf s → q < 2 ^ 32

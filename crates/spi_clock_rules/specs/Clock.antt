@@ -3,7 +3,8 @@ use Prim.Native.Nat.{ℕ, zero, suc, _-_, _*_, _/_, _%_}
 use mathlib.Core.Bool.{true, false, not}
 use lib.Dec.{eqb}
 use lib.IntN.{pos}
-use lib.Ieee.{Float, fin, binary64, ofInt, div}
+use lib.Ieee.{Float, fin, binary64, div}
+use Rattle.floats.specs.Whole.{floatOf}
 use Rattle.laws.specs.Choice.{if_then_else_}
 use Rattle.spi_types.specs.declared.Module.{Module}
 use Rattle.spi_types.specs.declared.Settings.{Settings}
@@ -33,10 +34,6 @@ secondaryOf spre = 8 - spre % 8
 -- D: the two prescalers together, from 1 to 512.
 unfoldable pub dividerOf : Settings → ℕ
 dividerOf s = primaryOf (s .con1 .ppre) * secondaryOf (s .con1 .spre)
-
--- A whole number as a 64-bit float. Those of 32 bits are all there.
-abbrev pub floatOf : ℕ → Float
-floatOf n = ofInt binary64 (pos n)
 
 -- The record of the two floats: the rate F / D and the bit time D / F, each one division.
 unfoldable pub ratesOf : Settings → ℕ → Rates

@@ -6,11 +6,12 @@ use mathlib.Core.List.{[], _∷_}
 use mathlib.Core.Path.{_≡_}
 use lib.ListN.{getD}
 use lib.Ieee.{binary64, round}
+use Rattle.floats.specs.Whole.{floatOf}
 use Rattle.spi_types.specs.declared.Settings.{Settings}
 use Rattle.spi_types.specs.declared.Module.{Module}
 use Rattle.spi_rules.specs.InBits.{clocksItself}
 use Rattle.spi_clock_rules.specs.declared.Reported.{Reported}
-use Rattle.spi_clock_rules.specs.Clock.{dividerOf, floatOf, nought, reportOf, saidRefused, saidInternal, saidExternal, saidNone, saidClock}
+use Rattle.spi_clock_rules.specs.Clock.{dividerOf, nought, reportOf, saidRefused, saidInternal, saidExternal, saidNone, saidClock}
 
 -- Document 01's table of primaries, by PPRE 0 to 3. The rule gives the same divider for every PPRE and SPRE, in range or not
 -- (document 02, Two).

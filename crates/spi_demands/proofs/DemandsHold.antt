@@ -2,7 +2,7 @@
 --     demands-hold   what the buyer signs for
 -- Assumes nothing.
 use Rattle.card_demands.proofs.DemandsHold.{page-holds}
-use Rattle.ti_rules.proofs.DemandsHold as ti
+use Rattle.ti_order.proofs.DemandsHold as ti
 use Rattle.spi_one_module.proofs.DemandsHold.{one-module}
 use Rattle.spi_link_rules.proofs.LinkDemandsHold.{linked-runs}
 use Rattle.spi_clock_rules.proofs.ClockDemandsHold.{clock-reports}

@@ -12,7 +12,7 @@ use Rattle.spi_save_rules.specs.SaveDemands.{Saves}
 use Rattle.spi_board_rules.specs.BoardDemands.{Boards}
 use Rattle.spi_board_rules.specs.OwedDemands.{Totals}
 
-pub record Demands : Type 1 where
+pub record Demands : Type 0 where
   pub oneModule : OneModule
   pub linkedRuns : LinkedRuns
   pub clockReports : ClockReports

@@ -14,7 +14,7 @@ use Rattle.word_order.specs.Bits.{bitOf}
 use Rattle.spi_types.specs.declared.Con1.{Con1}
 use Rattle.spi_types.specs.declared.Con2.{Con2}
 use Rattle.spi_rules.specs.Registers.{weighed, con1From, con1Value, con2From, con2Value}
-use Rattle.spi_rules.proofs.Sizes.{bit-most}
+use Rattle.word_order.proofs.WordBits.{bit-most}
 
 -- A bit adds its weight once or not at all.
 weight : (b : Bool) (w : ℕ) → (weighed b w ≡ boolByte b * w) × (boolByte b ≤ 1)

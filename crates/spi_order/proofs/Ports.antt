@@ -36,7 +36,7 @@ use Rattle.spi_rules.specs.Edge.{begun, shifted, advanced, advancedIfBegun, clo
 use Rattle.spi_rules.specs.Words.{unfinished}
 use Rattle.spi_rules.specs.Invariant.{sampled, ShiftHolds}
 use Rattle.spi_rules.specs.Watch.{terms, wayOf, portIn}
-use Rattle.spi_rules.proofs.Sizes.{width-least, width-most, depth-least, depth-most, bit-most}
+use Rattle.spi_rules.proofs.Sizes.{width-least, width-most, depth-least, depth-most}
 use Rattle.spi_rules.proofs.BuffersOrder.{unread-length, left-takes-first, none-waiting}
 use Rattle.spi_invariant.proofs.Parts.{BuffersHold, EdgeHolds}
 use Rattle.spi_invariant.proofs.Sampling.{sampled-more, sampled-same, sampled-none, sampled-all, sampled-most}
@@ -140,7 +140,7 @@ module _ (s : Settings) (n : Engine) (b : BuffersHold s n) where
 shifted-whole : (k received : ℕ) (sdi : Bool) → k < 16 → received < 2 ^ k → shiftedIn received sdi ≡ received * 2 + boolByte sdi
 unfolding shiftedIn
 shifted-whole k received sdi most h =
-    let bit : boolByte sdi ≤ 1 = bit-most sdi in
+    let bit : boolByte sdi ≤ 1 = law.bit-most sdi in
     let fewer : k ≤ 15 = omega arith in
     let small : 2 ^ k ≤ 2 ^ 15 = pow-mono fewer in
     omega arith

@@ -5,15 +5,13 @@
 --     low-bits-of-fit            a word that fits the width is shown whole
 --     no-bit-above               a number below 2 ^ k has no bit at k or above
 --     one-shifted                1 shifted left by w is 2 ^ w
---     bit-most                   a bit counts at most 1
 -- Assumes nothing.
 use Prim.Native.Nat.{ℕ, _*_, _%_, _^_, _≤_, _<_}
 use mathlib.Core.Bool.{Bool, true, false}
 use mathlib.Core.Path.{_≡_, ap, _∙_}
 use native.Mathlib.Nat.{mod-lt, div-eq-of-lt, mod-eq-of-lt, one-le-pow, one-mul, lt-of-lt-of-le, lt-of-le-of-lt}
 use native.Mathlib.Omega.{arith}
-use mir.Val.{boolByte}
-use lib.Dec.{eqb, lit<, lit≤}
+use lib.Dec.{eqb, lit<}
 use lib.Pow.{pow-mono}
 use Rattle.laws.proofs.Keeps.{if-keeps}
 use Rattle.word_order.specs.Bits.{bitOf}
@@ -60,11 +58,6 @@ no-bit-above v k i small above =
 pub one-shifted : (w : ℕ) → w ≤ 16 → (1 * 2 ^ w) % 2 ^ 32 ≡ 2 ^ w
 one-shifted w most =
     ap (λ (x : ℕ). x % 2 ^ 32) (one-mul (2 ^ w)) ∙ mod-eq-of-lt (lt-of-le-of-lt (pow-mono most) (lit< tt))
-
--- A bit is 0 or 1.
-pub bit-most : (b : Bool) → boolByte b ≤ 1
-bit-most true = lit≤ tt
-bit-most false = lit≤ tt
 
 -- A word has at least eight bits.
 pub width-eight : (s : Settings) → 8 ≤ widthOf s

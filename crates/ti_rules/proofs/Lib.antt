@@ -1,13 +1,7 @@
--- What follows from the rules.
+-- What follows from the rules at once: worked cases, the page at concrete calls, refusals, rates, and the finish by its words.
 pub mod ExamplesHold
-pub mod Latching
-pub mod Invariant
-pub mod Order
-pub mod Machine
 pub mod RefusalsExact
 pub mod ClockExact
-pub mod Changes
-pub mod Seen
-pub mod DemandsHold
+pub mod Finishes
 pub mod PageRun
 pub mod PageHolds

@@ -1,18 +1,17 @@
 -- The page, run: its own statements as tests at each call of a list, so that a rule which is wrong is seen to be false of them.
---     Claim, judge   an equation that can be tested, and its test
 --     claims         the statements of specs/Demands.antt at one call
 --     run            the tests at every call of a list
 --     page-runs      if the page holds, every run is true: a run that is false refutes the page
 -- Assumes nothing.
 use Prim.Native.Nat.{ℕ}
-use mathlib.Core.Bool.{Bool, true, false, not, _&&_, _||_, Bool·beq}
+use mathlib.Core.Bool.{Bool, true, false, not, _&&_, _||_}
 use mathlib.Core.List.{List, [], _∷_, _++_}
-use mathlib.Core.Path.{_≡_, refl, sym, ap, subst, _∙_}
-use borrow.Author.Tests.{eq-eqb}
+use mathlib.Core.Path.{_≡_, refl, ap, subst, _∙_}
 use lib.Dec.{eqb}
 use lib.ListN.{length}
 use Rattle.laws.specs.Choice.{if_then_else_}
 use Rattle.laws.proofs.Keeps.{and-both}
+use Rattle.laws.proofs.Claims.{Claim, level, number, levels, numbers, provided, AllHold, none, _also_, allJudged, all-judged}
 use Rattle.word_order.specs.Ledger.{sent, kept}
 use Rattle.word_order.specs.Machine.{Watched, watchedCall, watchedCalls, InOrder}
 use Rattle.ti_rules.specs.declared.Answer.{Answer}
@@ -27,82 +26,11 @@ use Rattle.ti_rules.specs.Flags.{modeAsked, lengthAsked, sckAsked, selec
 use Rattle.ti_rules.specs.RefusalTable.{rows, firstNumber}
 use Rattle.ti_rules.specs.Demands.{among, kindsFor, modeLevels, CallChanges, Shows, TiDemands}
 
--- Two levels, numbers, lists of them or outputs that must be equal, and a claim under a condition.
-pub data Claim : Type 0 where
-  level : Bool → Bool → Claim
-  number : ℕ → ℕ → Claim
-  levels : List Bool → List Bool → Claim
-  numbers : List ℕ → List ℕ → Claim
-  pin : Output → Output → Claim
-  provided : Bool → Claim → Claim
-
-abbrev pub Holds : Claim → Type 0
-Holds (level a b) = a ≡ b
-Holds (number a b) = a ≡ b
-Holds (levels a b) = a ≡ b
-Holds (numbers a b) = a ≡ b
-Holds (pin a b) = a ≡ b
-Holds (provided b k) = b ≡ true → Holds k
-
-abbrev sameLevels : List Bool → List Bool → Bool
-sameLevels [] [] = true
-sameLevels [] (b ∷ bs) = false
-sameLevels (a ∷ rest) [] = false
-sameLevels (a ∷ rest) (b ∷ bs) = Bool·beq a b && sameLevels rest bs
-
-abbrev sameNumbers : List ℕ → List ℕ → Bool
-sameNumbers [] [] = true
-sameNumbers [] (b ∷ bs) = false
-sameNumbers (a ∷ rest) [] = false
-sameNumbers (a ∷ rest) (b ∷ bs) = eqb a b && sameNumbers rest bs
-
+-- An output as a number.
 abbrev place : Output → ℕ
 place Low = 0
 place High = 1
 place Undriven = 2
-
-abbrev pub judge : Claim → Bool
-judge (level a b) = Bool·beq a b
-judge (number a b) = eqb a b
-judge (levels a b) = sameLevels a b
-judge (numbers a b) = sameNumbers a b
-judge (pin a b) = eqb (place a) (place b)
-judge (provided b k) = not b || judge k
-
--- What holds passes its test.
-same-level : (a : Bool) → Bool·beq a a ≡ true
-same-level true = refl
-same-level false = refl
-
-levels-same : (a : List Bool) → sameLevels a a ≡ true
-levels-same [] = refl
-levels-same (a ∷ rest) = and-both (Bool·beq a a) _ (same-level a) (levels-same rest)
-
-numbers-same : (a : List ℕ) → sameNumbers a a ≡ true
-numbers-same [] = refl
-numbers-same (a ∷ rest) = and-both (eqb a a) _ (eq-eqb a a refl) (numbers-same rest)
-
-pub judged-true : (k : Claim) → Holds k → judge k ≡ true
-judged-true (level a b) e = ap (Bool·beq a) (sym e) ∙ same-level a
-judged-true (number a b) e = eq-eqb a b e
-judged-true (levels a b) e = ap (sameLevels a) (sym e) ∙ levels-same a
-judged-true (numbers a b) e = ap (sameNumbers a) (sym e) ∙ numbers-same a
-judged-true (pin a b) e = eq-eqb (place a) (place b) (ap place e)
-judged-true (provided true k) h = judged-true k (h refl)
-judged-true (provided false k) h = refl
-
-infixr 5 _also_
-pub data AllHold : List Claim → Type 0 where
-  none : AllHold []
-  _also_ : {k : Claim} {ks : List Claim} → Holds k → AllHold ks → AllHold (k ∷ ks)
-
-abbrev pub allJudged : List Claim → Bool
-allJudged [] = true
-allJudged (k ∷ ks) = judge k && allJudged ks
-
-pub all-judged : {ks : List Claim} → AllHold ks → allJudged ks ≡ true
-all-judged none = refl
-all-judged (_also_ {k = k} {ks = ks} h rest) = and-both (judge k) (allJudged ks) (judged-true k h) (all-judged rest)
 
 -- A watched module x, a call c with its answer a, and the watched module y after it. They are handed on as arguments, so that each is
 -- computed once in a run.
@@ -127,7 +55,7 @@ claims x c a y =
     ∷ level (y .now .engine .pins .sdo)
     (if y .now .reset then false else sdoSeen (y .now .settings) (x .now .engine .pins .sdo) (y .ledger))
     ∷ level (transmitFullOf (y .now)) (not (y .now .reset) && someWait (y .ledger))
-    ∷ pin (sdoOf (y .now)) (pinSeen (y .now))
+    ∷ number (place (sdoOf (y .now))) (place (pinSeen (y .now)))
     ∷ provided (not (y .now .reset))
     (provided (y .now .settings .master)
     (number (saidOf (performOf (y .now) (Tick false) .answer) .kind) (if eqb (length (leftOver (y .ledger))) 0 then 3 else 4)))
@@ -179,7 +107,7 @@ module _ (p : TiDemands) where
       also k .select
       also k .sdo
       also s .transmitFull
-      also s .sdo
+      also ap place (s .sdo)
       also ticks
       also sending
       also receiving

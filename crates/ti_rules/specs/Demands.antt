@@ -9,6 +9,7 @@ use lib.ListN.{length}
 use lib.Ieee.{binary64, round}
 use Rattle.laws.specs.Choice.{if_then_else_}
 use Rattle.word_order.specs.Machine.{Watched, watchedCall, InOrder}
+use Rattle.floats.specs.Whole.{floatOf}
 use Rattle.ti_rules.specs.declared.Settings.{Settings}
 use Rattle.ti_rules.specs.declared.Ti.{Ti}
 use Rattle.ti_rules.specs.declared.Refusal.{Refusal}
@@ -21,7 +22,7 @@ use Rattle.ti_rules.specs.declared.Output.the-variants.{Undriven}
 use Rattle.ti_rules.specs.Refusals.{saidOf}
 use Rattle.ti_rules.specs.Settings.{poweredUp}
 use Rattle.ti_rules.specs.Calls.{performOf, interruptOf, transmitFullOf, overrunOf, sdoOf}
-use Rattle.ti_rules.specs.Clock.{floatOf, rateOf}
+use Rattle.ti_rules.specs.Clock.{rateOf}
 use Rattle.ti_rules.specs.Examples.{examples, rateExamples}
 use Rattle.ti_rules.specs.Watch.{watching, life}
 use Rattle.ti_rules.specs.Flags.{modeAsked, lengthAsked, sckAsked, selectAsked, did, gave, madeEdge, grewLost, grewFinished, leftOver, someWait, sdoSeen, pinSeen, entersReset, leavesReset, setsMode, setsLength, isPinCall, clearsOverrun}

@@ -3,6 +3,7 @@
 --     spelled-top-bits     all w bits of a word that fits w spell the word
 --     top-bits-added       a bit that comes in stands last
 --     sampled-more, sampled-same   the next edge is sampled, or is not
+--     bit-most             a bit counts at most 1
 -- Assumes nothing.
 use Prim.Native.Nat.{ℕ, zero, suc, _+_, _*_, _-_, _/_, _%_, _^_, _≤_, _<_}
 use mathlib.Core.Bool.{Bool, true, false}
@@ -15,6 +16,10 @@ use mir.Val.{boolByte}
 use lib.Dec.{eqb}
 use native.Mathlib.Numerals.{add-one}
 use Rattle.word_order.specs.Bits.{bitOf, topBits, spelled, sampledIn}
+
+pub bit-most : (b : Bool) → boolByte b ≤ 1
+bit-most true = omega arith
+bit-most false = omega arith
 
 bit-halved : (v i : ℕ) → bitOf v (suc i) ≡ bitOf (v / 2) i
 unfolding bitOf

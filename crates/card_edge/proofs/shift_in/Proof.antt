@@ -3,7 +3,7 @@ use borrow.Author.Needs.{needs}
 use native.Mathlib.Omega.{arith}
 use mathlib.Core.Path.{refl}
 use Rattle.card_rules.specs.Edge.{shiftedIn}
-use Rattle.card_edge.proofs.EdgeHolds.{bit-most}
+use Rattle.word_order.proofs.WordBits.{bit-most}
 use Rattle.card_edge.proofs.shift_in.Statement.{statement}
 use Rattle.card_edge.proofs.shift_in.Tie as tie
 

@@ -3,7 +3,7 @@ use borrow.Author.Needs.{needs}
 use native.Mathlib.Omega.{arith}
 use mathlib.Core.Path.{refl}
 use Rattle.spi_rules.specs.Bits.{shiftedIn}
-use Rattle.spi_rules.proofs.Sizes.{bit-most}
+use Rattle.word_order.proofs.WordBits.{bit-most}
 use Rattle.spi_bits.proofs.shift_in.Statement.{statement}
 use Rattle.spi_bits.proofs.shift_in.Tie as tie
 

@@ -6,7 +6,7 @@ use native.Mathlib.Omega.{arith}
 use Rattle.laws.proofs.Choices.{so, not-so}
 use mir.Val.{boolByte}
 use Rattle.ti_rules.specs.Edge.{latches}
-use Rattle.ti_rules.proofs.Latching.{bit-most}
+use Rattle.word_order.proofs.WordBits.{bit-most}
 use Rattle.ti.proofs.Parts.{free-flag}
 use Rattle.ti.proofs.Edges.{latch-edge, show-edge, last-edge}
 use Rattle.ti.proofs.edge.Statement.{statement}

@@ -1,5 +1,5 @@
 -- The TI module is a machine of the law of word order.
---     finish-port, clocked-port   an edge of a character, by its words
+--     clocked-port                an edge of a character, by its words
 --     edged-step                  an edge that counts: its operations, and what they lose and finish
 --     machine                     what the module owes the law
 --     ti-order                    word order after every list of calls from power-up
@@ -19,38 +19,21 @@ use Rattle.word_order.specs.Bits.{bitOf, sampledIn}
 use Rattle.word_order.specs.Ledger.{Op}
 use Rattle.word_order.specs.Port.{Way, sends, Port, playedAll, Shows, ShowsOn, LegalAll, isUnder, edgesUnder, advanced, losesAt, endsAt, lossesIn, finishesIn}
 use Rattle.word_order.specs.Port as port
 use Rattle.ti_rules.specs.declared.Settings.{Settings}
 use Rattle.ti_rules.specs.declared.Buffer.{Buffer}
 use Rattle.ti_rules.specs.declared.Buffer.the-variants.{Empty, Holds}
 use Rattle.ti_rules.specs.declared.Character.{Character}
 use Rattle.ti_rules.specs.declared.Shift.{Shift}
 use Rattle.ti_rules.specs.declared.Shift.the-variants.{Free, Busy}
 use Rattle.ti_rules.specs.declared.Engine.{Engine}
 use Rattle.ti_rules.specs.Characters.{isFull, fresh}
 use Rattle.ti_rules.specs.Finish.{finished}
 use Rattle.ti_rules.specs.Edge.{receivedAfter, shifted, clocked, underWay, edged}
 use Rattle.ti_rules.specs.Watch.{inBuffer, unsent, underOf, wayOf, portOf, latched, termsOf, edgeOps}
 use Rattle.ti_rules.specs.Flags.{shownAt}
-use Rattle.ti_rules.proofs.Latching.{shown-already, shown-sampled}
-use Rattle.ti_rules.proofs.Invariant.{CharacterHolds, ShiftHolds, received-same, zeros-shown}
-
--- The finish, by its words: by what was sent, what waits and what is unread.
-finish-port : (s : Settings) (zeros : Bool) (bits edges received : ℕ) (waiting : Buffer) (n : Engine) (unread : Buffer) (way : Way) →
-    portOf
-    (finished s received
-    (record { waiting = waiting; shift = n .shift; unread = unread; pins = n .pins; overrun = n .overrun }))
-    ≡ port.finished (termsOf s)
-    (record { filler = zeros; word = bits; edges = edges; received = received })
-    (record { owed = (if zeros then [] else bits ∷ []) ++ inBuffer waiting; way = way; unread = inBuffer unread; marked = false })
-unfolding finished port.finished if_then_else_ losesAt wayOf
-finish-port s true bits edges received Empty n Empty way = refl
-finish-port s true bits edges received Empty n (Holds x) way = refl
-finish-port s true bits edges received (Holds y) n Empty way = refl
-finish-port s true bits edges received (Holds y) n (Holds x) way = refl
-finish-port s false bits edges received Empty n Empty way = refl
-finish-port s false bits edges received Empty n (Holds x) way = refl
-finish-port s false bits edges received (Holds y) n Empty way = refl
-finish-port s false bits edges received (Holds y) n (Holds x) way = refl
+use Rattle.ti_rules.proofs.Finishes.{finish-port}
+use Rattle.ti_order.proofs.Latching.{shown-already, shown-sampled}
+use Rattle.ti_order.proofs.Invariant.{CharacterHolds, ShiftHolds, received-same, zeros-shown}
 
 -- An edge of a character, by its words.
 module _ (s : Settings) (most : s .length ≤ 16) (sdi : Bool) (c : Character) (n : Engine) (short : c .edges < 2 * s .length)

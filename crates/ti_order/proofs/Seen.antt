@@ -21,19 +21,19 @@ use Rattle.word_order.specs.Port.{Way, idle, sends, Port, Whole, lossesIn, fini
 use Rattle.word_order.specs.Machine.{Entry, opens, notes, entered, LegalEntry}
 use Rattle.word_order.proofs.Tied.{Carries, Tied}
 use Rattle.word_order.proofs.Counts.{lost-ops, arrived-ops, grew}
 use Rattle.ti_rules.specs.declared.Settings.{Settings}
 use Rattle.ti_rules.specs.declared.Buffer.{Buffer}
 use Rattle.ti_rules.specs.declared.Buffer.the-variants.{Empty, Holds}
 use Rattle.ti_rules.specs.declared.Character.{Character}
 use Rattle.ti_rules.specs.declared.Shift.{Shift}
 use Rattle.ti_rules.specs.declared.Shift.the-variants.{Free, Busy}
 use Rattle.ti_rules.specs.declared.Engine.{Engine}
 use Rattle.ti_rules.specs.Characters.{isFull, isFree, fresh}
 use Rattle.ti_rules.specs.Edge.{underWay}
 use Rattle.ti_rules.specs.Watch.{inBuffer, unsent, underOf, wayOf, portOf, termsOf}
 use Rattle.ti_rules.specs.Flags.{grewLost, grewFinished, leftOver, firstOf, current, someWait, shownAt}
-use Rattle.ti_rules.proofs.Invariant.{ShiftHolds, bit-zero}
-use Rattle.ti_rules.proofs.Machine.{opsOf}
+use Rattle.ti_order.proofs.Invariant.{ShiftHolds, bit-zero}
+use Rattle.ti_order.proofs.Machine.{opsOf}
 
 -- An entry and the ledger.
 module _ (t : Terms) (w : Whole t) (p : Port) (l : Ledger) (h : Tied t p l) where

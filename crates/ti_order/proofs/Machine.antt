@@ -18,28 +18,28 @@ use Rattle.word_order.specs.Ledger.{Op, accepts}
 use Rattle.word_order.specs.Port.{Port, emptied, played, lossesIn, finishesIn}
 use Rattle.word_order.specs.Machine.{Entry, opens, notes, Step, Agrees, Machine, InOrder}
 use Rattle.word_order.proofs.Order.{TiedOn, in-order}
 use Rattle.ti_rules.specs.declared.Settings.{Settings}
 use Rattle.ti_rules.specs.declared.Buffer.{Buffer}
 use Rattle.ti_rules.specs.declared.Buffer.the-variants.{Empty, Holds}
 use Rattle.ti_rules.specs.declared.Shift.{Shift}
 use Rattle.ti_rules.specs.declared.Shift.the-variants.{Free, Busy}
 use Rattle.ti_rules.specs.declared.Engine.{Engine}
 use Rattle.ti_rules.specs.declared.Ti.{Ti}
 use Rattle.ti_rules.specs.declared.Answer.{Answer}
 use Rattle.ti_rules.specs.declared.Answer.the-variants.{Done}
 use Rattle.ti_rules.specs.declared.Outcome.{Outcome}
 use Rattle.ti_rules.specs.declared.Call.{Call}
 use Rattle.ti_rules.specs.declared.Call.the-variants.{Enter, Leave, Mode, Length, Write, Read, Tick, Pin, Clear}
 use Rattle.ti_rules.specs.Settings.{restedAt, poweredUp, isLength, modeOf, changesMode}
 use Rattle.ti_rules.specs.Characters.{characterIn, isFull, isFree, writtenTo, written, taken, cleared}
 use Rattle.ti_rules.specs.Finish.{finished}
 use Rattle.ti_rules.specs.Edge.{shifted, clocked, underWay, edged, seen, turned, stepped}
 use Rattle.ti_rules.specs.Calls.{enterOf, leaveOf, setMode, setLength, writeOf, readFrom, readOf, tickOf, pinsOf, clearOf, performOf}
 use Rattle.ti_rules.specs.Watch.{inBuffer, unsent, wayOf, portOf, termsOf, Sight, carried, edgeOps, wanted, entryOf, rememberedOf, watching, start, life}
 use Rattle.ti_rules.specs.Flags.{gave, entersReset, clearsOverrun}
-use Rattle.ti_rules.proofs.Latching.{sampled-whole, leads-wanted, carried-same, character-fits}
-use Rattle.ti_rules.proofs.Invariant.{Reached, kept-mode, start-holds, keeps, seen-keeps}
-use Rattle.ti_rules.proofs.Order.{EdgeStep, edged-step, way-edges}
+use Rattle.ti_order.proofs.Latching.{sampled-whole, leads-wanted, carried-same, character-fits}
+use Rattle.ti_order.proofs.Invariant.{Reached, kept-mode, start-holds, keeps, seen-keeps}
+use Rattle.ti_order.proofs.Order.{EdgeStep, edged-step, way-edges}
 
 -- What shows of a call with this outcome, the entry's operations, and what a call does.
 abbrev pub sightOf : Ti → Answer → Sight

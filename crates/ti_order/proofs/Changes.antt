@@ -11,29 +11,29 @@ use lib.Dec.{eqb, ltb}
 use Rattle.laws.specs.Choice.{if_then_else_}
 use Rattle.laws.proofs.Keeps.{if-keeps, if-false, clash}
 use Rattle.word_order.specs.Port.{isUnder}
 use Rattle.ti_rules.specs.declared.Settings.{Settings}
 use Rattle.ti_rules.specs.declared.Buffer.{Buffer}
 use Rattle.ti_rules.specs.declared.Buffer.the-variants.{Empty, Holds}
 use Rattle.ti_rules.specs.declared.Character.{Character}
 use Rattle.ti_rules.specs.declared.Shift.{Shift}
 use Rattle.ti_rules.specs.declared.Shift.the-variants.{Free, Busy}
 use Rattle.ti_rules.specs.declared.Engine.{Engine}
 use Rattle.ti_rules.specs.declared.Ti.{Ti}
 use Rattle.ti_rules.specs.declared.Answer.{Answer}
 use Rattle.ti_rules.specs.declared.Answer.the-variants.{Done, Value, Edge}
 use Rattle.ti_rules.specs.declared.Outcome.{Outcome}
 use Rattle.ti_rules.specs.declared.Call.{Call}
 use Rattle.ti_rules.specs.declared.Call.the-variants.{Enter, Leave, Mode, Length, Write, Read, Tick, Pin, Clear}
 use Rattle.ti_rules.specs.Settings.{restedAt, isLength, modeOf, changesMode}
 use Rattle.ti_rules.specs.Characters.{characterIn, betweenSdo, writtenTo, written, taken, cleared}
 use Rattle.ti_rules.specs.Finish.{finished}
 use Rattle.ti_rules.specs.Edge.{shifted, clocked, underWay, edged, seen, turned, stepped}
 use Rattle.ti_rules.specs.Calls.{enterOf, leaveOf, setMode, setLength, writeOf, readFrom, readOf, tickOf, pinsOf, clearOf, performOf}
 use Rattle.ti_rules.specs.Watch.{wayOf}
 use Rattle.ti_rules.specs.Flags.{modeAsked, lengthAsked, sckAsked, selectAsked, did, madeEdge, entersReset, leavesReset, setsMode, setsLength, isPinCall}
 use Rattle.ti_rules.specs.Demands.{modeLevels}
-use Rattle.ti_rules.proofs.Invariant.{Reached}
-use Rattle.ti_rules.proofs.Machine.{edged-pins}
+use Rattle.ti_order.proofs.Invariant.{Reached}
+use Rattle.ti_order.proofs.Machine.{edged-pins}
 
 pub record PlainOf (m : Ti) (c : Call) (o : Outcome) : Type 0 where
   pub reset : o .after .reset ≡ (entersReset c || (not (leavesReset c) && m .reset))

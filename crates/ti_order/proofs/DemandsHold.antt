@@ -12,6 +12,7 @@ use native.Mathlib.Omega.{arith}
 use borrow.Author.Tests.{le-ltb, not-true}
 use lib.Dec.{ltb}
 use lib.ListN.{length}
+use Rattle.floats.proofs.Quotients.{whole-fraction}
 use Rattle.laws.specs.Choice.{if_then_else_}
 use Rattle.laws.proofs.Keeps.{if-keeps, if-true, if-false, if-ap, clash, by-test, or-left, or-right}
 use Rattle.word_order.specs.Ledger.{Terms, Ledger, opened, lostOf, isQuiet, edgesGiven}
@@ -19,26 +20,26 @@ use Rattle.word_order.specs.Port.{lossesIn, finishesIn, isUnder}
 use Rattle.word_order.specs.Machine.{Entry, opens, notes, entered, Watched, watchedCall}
 use Rattle.word_order.proofs.Tied.{Tied}
 use Rattle.word_order.proofs.Order.{TiedOn, tied-agrees, call-tied, calls-tied}
 use Rattle.ti_rules.specs.declared.Engine.{Engine}
 use Rattle.ti_rules.specs.declared.Ti.{Ti}
 use Rattle.ti_rules.specs.declared.Outcome.{Outcome}
 use Rattle.ti_rules.specs.declared.Call.{Call}
 use Rattle.ti_rules.specs.declared.Call.the-variants.{Enter, Leave, Mode, Length, Write, Read, Tick, Pin, Clear}
 use Rattle.ti_rules.specs.declared.Output.the-variants.{Low, High, Undriven}
 use Rattle.ti_rules.specs.Settings.{restedAt, poweredUp}
 use Rattle.ti_rules.specs.Characters.{isFull, isFree}
 use Rattle.ti_rules.specs.Refusals.{saidOf}
 use Rattle.ti_rules.specs.Calls.{writeOf, readOf, tickOf, pinsOf, performOf, undriven, sdoOf}
 use Rattle.ti_rules.specs.Watch.{wayOf, portOf, termsOf, carried, edgeOps, entryOf, writeOps, readOps, tickOps, pinOps, shownOps, watching, start, life}
 use Rattle.ti_rules.specs.Flags.{gave, grewLost, grewFinished, sdoSeen, levelShown, pinSeen, someWait, entersReset, leavesReset, clearsOverrun}
 use Rattle.ti_rules.specs.Demands.{AtPowerUp, CallChanges, Shows, TiDemands}
 use Rattle.ti_rules.proofs.ExamplesHold.{examples-hold, rates-hold}
-use Rattle.ti_rules.proofs.Invariant.{Reached, start-holds, keeps}
-use Rattle.ti_rules.proofs.Machine.{sightOf, opsOf, StepOf, steps, machine, start-tied, ti-order}
+use Rattle.ti_order.proofs.Invariant.{Reached, start-holds, keeps}
+use Rattle.ti_order.proofs.Machine.{sightOf, opsOf, StepOf, steps, machine, start-tied, ti-order}
 use Rattle.ti_rules.proofs.RefusalsExact.{refused-exactly, refused-unchanged, in-kind}
-use Rattle.ti_rules.proofs.ClockExact.{slow-rate, fast-rate, whole-rate, no-rate}
-use Rattle.ti_rules.proofs.Changes.{PlainOf, plainly}
-use Rattle.ti_rules.proofs.Seen.{losses-seen, finishes-seen, sdo-due, waits-seen, left-seen}
+use Rattle.ti_rules.proofs.ClockExact.{slow-rate, fast-rate, no-rate}
+use Rattle.ti_order.proofs.Changes.{PlainOf, plainly}
+use Rattle.ti_order.proofs.Seen.{losses-seen, finishes-seen, sdo-due, waits-seen, left-seen}
 
 -- In reset a call opens a ledger or writes nothing down.
 pub record Silent (e : Entry) : Type 0 where
@@ -277,7 +278,7 @@ demands-hold =
           record {
             slow = λ brr more lspclk. slow-rate brr more lspclk;
             fast = λ brr more lspclk. fast-rate brr more lspclk;
-            exact = whole-rate;
+            exact = λ d q some. whole-fraction q d some;
             none = no-rate;
           };
     }

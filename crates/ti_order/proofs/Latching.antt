@@ -19,16 +19,12 @@ use lib.Pow.{pow-add, pow-pos, shr-lt, field, mod-mod-pow}
 use Rattle.laws.specs.Choice.{if_then_else_}
 use Rattle.laws.proofs.Keeps.{by-test, if-true, if-false}
 use Rattle.word_order.specs.Bits.{bitOf, topBits, spelled, sampledIn}
-use Rattle.word_order.proofs.WordBits.{spelled-top-bits}
+use Rattle.word_order.proofs.WordBits.{spelled-top-bits, bit-most}
 use Rattle.ti_rules.specs.declared.Settings.{Settings}
 use Rattle.ti_rules.specs.Characters.{characterIn}
 use Rattle.ti_rules.specs.Edge.{latches, leadsOn}
 use Rattle.ti_rules.specs.Watch.{latched, wanted, carried}
 use Rattle.ti_rules.specs.Flags.{shownAt}
-
-pub bit-most : (b : Bool) → boolByte b ≤ 1
-bit-most true = omega arith
-bit-most false = omega arith
 
 -- The rule's edges.
 pub latches-same : (phase : Bool) (k : ℕ) → latches phase k ≡ latched phase k

@@ -16,26 +16,26 @@ use lib.Pow.{pow-pos}
 use Rattle.laws.specs.Choice.{if_then_else_}
 use Rattle.laws.proofs.Keeps.{if-keeps, if-both, if-true, clash, and-left, and-right, or-left, or-right, like}
 use Rattle.word_order.specs.Bits.{bitOf, sampledIn}
-use Rattle.word_order.proofs.WordBits.{sampled-more, sampled-same}
+use Rattle.word_order.proofs.WordBits.{sampled-more, sampled-same, bit-most}
 use Rattle.ti_rules.specs.declared.Settings.{Settings}
 use Rattle.ti_rules.specs.declared.Buffer.{Buffer}
 use Rattle.ti_rules.specs.declared.Buffer.the-variants.{Empty, Holds}
 use Rattle.ti_rules.specs.declared.Character.{Character}
 use Rattle.ti_rules.specs.declared.Shift.{Shift}
 use Rattle.ti_rules.specs.declared.Shift.the-variants.{Free, Busy}
 use Rattle.ti_rules.specs.declared.Engine.{Engine}
 use Rattle.ti_rules.specs.declared.Ti.{Ti}
 use Rattle.ti_rules.specs.declared.Outcome.{Outcome}
 use Rattle.ti_rules.specs.declared.Call.{Call}
 use Rattle.ti_rules.specs.declared.Call.the-variants.{Enter, Leave, Mode, Length, Write, Read, Tick, Pin, Clear}
 use Rattle.ti_rules.specs.Settings.{restedAt, poweredUp, isLength, withLength, modeOf, changesMode}
 use Rattle.ti_rules.specs.Characters.{characterIn, isFull, isFree, fresh, loadedFrom, topOf, betweenSdo, withSdo, writtenTo, written, taken, cleared}
 use Rattle.ti_rules.specs.Finish.{finished}
 use Rattle.ti_rules.specs.Edge.{latches, receivedAfter, sdoAfter, shifted, clocked, underWay, edged, seen, turned, stepped}
 use Rattle.ti_rules.specs.Calls.{enterOf, leaveOf, setMode, setLength, writeOf, readFrom, readOf, tickOf, pinsOf, clearOf, performOf}
 use Rattle.ti_rules.specs.Watch.{latched}
 use Rattle.ti_rules.specs.Flags.{shownAt}
-use Rattle.ti_rules.proofs.Latching.{bit-most, latches-same, sampled-half, shown-place, shown-stays, shown-already, shown-moves}
+use Rattle.ti_order.proofs.Latching.{latches-same, sampled-half, shown-place, shown-stays, shown-already, shown-moves}
 
 -- A character in the shift register: it is short of its last edge, it has received no more bits than were latched, zeros have begun,
 -- are all 0 and are no master's, and the output shows the bit that is due. Phase 0 shows none before the first edge.

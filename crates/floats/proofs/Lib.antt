@@ -1,0 +1,2 @@
+-- One division of two whole numbers.
+pub mod Quotients

@@ -1,0 +1,2 @@
+-- Whole numbers as floats.
+pub mod Whole
