@@ -16,8 +16,9 @@ static uint32_t next(uint32_t seed) { return seed * 1664525u + 1013904223u; }
     mixed(mixed(sum, read_register(OF(m), STAT)), levels(OF(m)))
 
 /* A host with its own clock, 16 bits: four words waiting throughout, each
- * received word is read when it has come in, and one is written for it. */
-static struct outcome busy_host(uint32_t times)
+ * received word is read when it has come in, and one is written for it. If it
+ * is watched, its levels are looked at behind every edge. */
+static inline struct outcome ticking(int watched, uint32_t times)
 {
     struct outcome o = {0, 0};
     uint32_t seed = 1, bits;
@@ -31,6 +32,8 @@ static struct outcome busy_host(uint32_t times)
         bits = seed = next(seed);
         for (i = 0; i < 32; i++) {
             o.units += tick(OF(m), bits & 1, 0);
+            if (watched)
+                o.sum += levels(OF(m));
             bits >>= 1;
         }
         o.sum = mixed(o.sum, read_register(OF(m), BUF));
@@ -38,6 +41,13 @@ static struct outcome busy_host(uint32_t times)
     }
     o.sum = SEEN(m, o.sum);
     return o;
+}
+
+static struct outcome busy_host(uint32_t times) { return ticking(0, times); }
+
+static struct outcome watched_host(uint32_t times)
+{
+    return ticking(1, times);
 }
 
 /* The same of a frame host with FRMDLY 0. The first word's pulse takes a clock,
@@ -283,5 +293,5 @@ static struct outcome trace_long(uint32_t times)
 
 const struct side EITHER(library_side, plain_side) = {
     EITHER("library", "plain C"),
-    {busy_host, frame_host, client_8, client_16, linked_pair, registers,
-     trace_played, trace_long}};
+    {busy_host, watched_host, frame_host, client_8, client_16, linked_pair,
+     registers, trace_played, trace_long}};

@@ -13,6 +13,7 @@ struct outcome {
 
 enum {
     BUSY_HOST,
+    WATCHED_HOST,
     FRAME_HOST,
     CLIENT_8,
     CLIENT_16,

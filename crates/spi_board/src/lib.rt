@@ -106,9 +106,9 @@ pub fn count(w: &[u16; 96]) -> u32
     ensures { λ r. ⌜ (r ≡ countOf (moduleIn (now (w .entry)))) × (r ≤ 256) ⌝ }
 {
     let s = spi_memory::settings_in(w);
-    let t = spi_memory::transmit_in(w);
+    let waiting = spi_memory::waiting_in(w);
     let sh = spi_memory::shift_in(w);
-    t.count as u32 + in_shift(s, sh)
+    waiting as u32 + in_shift(s, sh)
 }
 
 // A total, where a count has become another: not below 0, and not above 65,535.

@@ -2,7 +2,6 @@
 --     after         what stands at a place after some writes
 --     engine-step   writes that leave the settings are a step of the engine
 --     settings-set  writes that leave the engine are a change of settings
---     eight         a list of eight words is the list of its elements
 -- Assumes nothing.
 use Prim.Native.Nat.{ℕ, _<_}
 use mathlib.Core.Bool.{Bool, true, _&&_}
@@ -17,7 +16,7 @@ use Rattle.laws.specs.Choice.{if_then_else_}
 use Rattle.laws.proofs.Keeps.{if-keeps, and-left, and-right}
 use Rattle.spi_types.specs.declared.Settings.{Settings}
 use Rattle.spi_types.specs.declared.Engine.{Engine}
-use Rattle.spi_memory.specs.Memory.{placeIn, wordsAt, settingsAt, engineAt, settingsIn, engineIn, Steps, Sets}
+use Rattle.spi_memory.specs.Memory.{placeIn, settingsAt, engineAt, settingsIn, engineIn, Steps, Sets}
 use Rattle.spi_memory.specs.Writes.{Write, writes}
 
 abbrev pub after : (ℕ → ℕ) → List Write → ℕ → ℕ
@@ -65,15 +64,3 @@ module _ (w : List ℕ) (xs : List Write) (whole : length w ≡ 96) (fit : withi
   pub settings-set : {f : Settings → Settings} → settingsAt (after (placeIn w) xs) ≡ f (settingsIn w) →
       engineAt (after (placeIn w) xs) ≡ engineIn w → Sets f w (writes w xs)
   settings-set s n = record { settings = settings-read ∙ s; engine = engine-read ∙ n }
-
-pub eight : (l : List ℕ) → length l ≡ 8 → wordsAt (placeIn l) ≡ l
-eight (a ∷ b ∷ c ∷ d ∷ e ∷ f ∷ g ∷ h ∷ []) n = refl
-eight [] n = absurd (omega arith)
-eight (a ∷ []) n = absurd (omega arith)
-eight (a ∷ b ∷ []) n = absurd (omega arith)
-eight (a ∷ b ∷ c ∷ []) n = absurd (omega arith)
-eight (a ∷ b ∷ c ∷ d ∷ []) n = absurd (omega arith)
-eight (a ∷ b ∷ c ∷ d ∷ e ∷ []) n = absurd (omega arith)
-eight (a ∷ b ∷ c ∷ d ∷ e ∷ f ∷ []) n = absurd (omega arith)
-eight (a ∷ b ∷ c ∷ d ∷ e ∷ f ∷ g ∷ []) n = absurd (omega arith)
-eight (a ∷ b ∷ c ∷ d ∷ e ∷ f ∷ g ∷ h ∷ i ∷ l) n = absurd (omega arith)

@@ -1,11 +1,11 @@
 -- A module in memory: which of 96 numbers of 16 bits holds what. Any numbers hold a module: a flag or a level is a number's
 -- lowest bit, a byte its low 8 bits. Numbers that nothing here names are spare.
-use Prim.Native.Nat.{ℕ, _+_, _%_}
+use Prim.Native.Nat.{ℕ, zero, suc, _+_, _%_}
 use mathlib.Core.Bool.{Bool, true}
 use mathlib.Core.List.{List, [], _∷_}
 use mathlib.Core.Path.{_≡_}
 use lib.Dec.{eqb}
-use lib.ListN.{getD}
+use lib.ListN.{getD, set}
 use Rattle.laws.specs.Choice.{if_then_else_}
 use Rattle.word_order.specs.Bits.{bitOf}
 use Rattle.spi_types.specs.declared.Con1.{Con1}
@@ -19,6 +19,7 @@ use Rattle.spi_types.specs.declared.Engine.{Engine}
 use Rattle.spi_types.specs.declared.Module.{Module}
 use Rattle.spi_types.specs.declared.Shift.the-variants.{Free, Loaded, Begun}
 use Rattle.spi_rules.specs.Changes.{withReceive, withShift}
+use Rattle.spi_rules.specs.Buffers.{capacity, cell}
 use Rattle.spi_rules.specs.Registers.{con1From, con2From}
 
 -- A bit and a byte in a number.
@@ -60,9 +61,14 @@ settingsAt place =
 abbrev pub from : ℕ → (ℕ → ℕ) → ℕ → ℕ
 from first place k = place (first + k)
 
--- The words of a buffer: its first 8 places, with room for as many again before its positions and its count.
+-- So many numbers, one after the other.
+abbrev pub cellsAt : ℕ → (ℕ → ℕ) → List ℕ
+cellsAt zero place = []
+cellsAt (suc n) place = place 0 ∷ cellsAt n (λ k. place (suc k))
+
+-- The words of a buffer: one in each of its cells. It has 16 places for them, before its positions and its count.
 abbrev pub wordsAt : (ℕ → ℕ) → List ℕ
-wordsAt place = place 0 ∷ place 1 ∷ place 2 ∷ place 3 ∷ place 4 ∷ place 5 ∷ place 6 ∷ place 7 ∷ []
+wordsAt place = cellsAt capacity place
 
 abbrev pub transmitAt : (ℕ → ℕ) → Transmit
 transmitAt place =
@@ -146,6 +152,35 @@ withMark marked n =
       marked = marked;
     })
     n
+
+-- A word is put into the transmit buffer at its write position, which moves on, with another count.
+abbrev pub pushed : ℕ → ℕ → ℕ → Transmit → Transmit
+pushed word on count t =
+    record {
+      words = set (t .words) (cell (t .write .0)) word;
+      write = record { 0 = on };
+      read = t .read;
+      count = count;
+    }
+
+-- The first word is gone from it: the read position has moved on, with another count.
+abbrev pub popped : ℕ → ℕ → Transmit → Transmit
+popped on count t = record { words = t .words; write = t .write; read = record { 0 = on }; count = count }
+
+-- The same two of the receive buffer, whose mark stays.
+abbrev pub arrived : ℕ → ℕ → ℕ → Receive → Receive
+arrived word on count r =
+    record {
+      words = set (r .words) (cell (r .write .0)) word;
+      write = record { 0 = on };
+      read = r .read;
+      count = count;
+      marked = r .marked;
+    }
+
+abbrev pub fetched : ℕ → ℕ → Receive → Receive
+fetched on count r =
+    record { words = r .words; write = r .write; read = record { 0 = on }; count = count; marked = r .marked }
 
 -- Memory before and after a step of the engine: the settings stay.
 pub record Steps (f : Settings → Engine → Engine) (before after : List ℕ) : Type 0 where

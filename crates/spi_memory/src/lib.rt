@@ -21,9 +21,10 @@ ghost use lib.ListN.{length};
 ghost use Rattle.spi_types.specs.declared.Shift.the-variants.{Free, Loaded, Begun};
 ghost use Rattle.spi_rules.specs.Changes.{withTransmit, withReceive, withShift, withSck, withSs, withSdo, withPulse, withSpirov, withInterrupt};
 ghost use Rattle.spi_rules.specs.Registers.{con1From, con2From, isFree, statSettings};
+ghost use Rattle.spi_rules.specs.Buffers.{firstWaiting, firstUnread};
 ghost use Rattle.spi_rules.specs.Loading.{isBegun};
 ghost use Rattle.spi_rules.specs.Calls.{poweredUp, withCon1, withCon2};
-ghost use Rattle.spi_memory.specs.Memory.{bitIn, byteIn, placeIn, from, wordsAt, progressAt, settingsIn, engineIn, moduleIn, goneOn, withMark, Steps, Sets};
+ghost use Rattle.spi_memory.specs.Memory.{bitIn, byteIn, placeIn, from, wordsAt, progressAt, settingsIn, engineIn, moduleIn, goneOn, withMark, pushed, popped, arrived, fetched, Steps, Sets};
 ghost use Rattle.spi_memory.specs.Writes.{writes, wordsWritten};
 
 // CON1.
@@ -88,6 +89,32 @@ pub fn transmit_in(w: &[u16; 96]) -> Transmit
     }
 }
 
+// Of the words waiting: how many, where the next is written, where the next to be sent is read, and that word.
+pub fn waiting_in(w: &[u16; 96]) -> u8
+    ensures { λ r. ⌜ r ≡ engineIn (now (w .entry)) .transmit .count ⌝ }
+{
+    (w[42] % 256) as u8
+}
+
+pub fn cpu_write_in(w: &[u16; 96]) -> u8
+    ensures { λ r. ⌜ r ≡ engineIn (now (w .entry)) .transmit .write .0 ⌝ }
+{
+    (w[40] % 256) as u8
+}
+
+pub fn spi_read_in(w: &[u16; 96]) -> u8
+    ensures { λ r. ⌜ r ≡ engineIn (now (w .entry)) .transmit .read .0 ⌝ }
+{
+    (w[41] % 256) as u8
+}
+
+pub fn first_waiting_in(w: &[u16; 96]) -> u16
+    ensures { λ r. ⌜ r ≡ firstWaiting (engineIn (now (w .entry)) .transmit) ⌝ }
+{
+    let at = (w[41] % 8) as usize;
+    w[24 + at]
+}
+
 // The words received and not read, and the mark.
 pub fn receive_in(w: &[u16; 96]) -> Receive
     ensures { λ r. ⌜ r ≡ engineIn (now (w .entry)) .receive ⌝ }
@@ -100,6 +127,39 @@ pub fn receive_in(w: &[u16; 96]) -> Receive
         count: (w[62] % 256) as u8,
         marked: w[75] % 2 == 1,
     }
+}
+
+// Of the words received: how many are unread, where the next is stored, where the next to be taken is read, that word, and
+// the mark.
+pub fn unread_in(w: &[u16; 96]) -> u8
+    ensures { λ r. ⌜ r ≡ engineIn (now (w .entry)) .receive .count ⌝ }
+{
+    (w[62] % 256) as u8
+}
+
+pub fn spi_write_in(w: &[u16; 96]) -> u8
+    ensures { λ r. ⌜ r ≡ engineIn (now (w .entry)) .receive .write .0 ⌝ }
+{
+    (w[60] % 256) as u8
+}
+
+pub fn cpu_read_in(w: &[u16; 96]) -> u8
+    ensures { λ r. ⌜ r ≡ engineIn (now (w .entry)) .receive .read .0 ⌝ }
+{
+    (w[61] % 256) as u8
+}
+
+pub fn first_unread_in(w: &[u16; 96]) -> u16
+    ensures { λ r. ⌜ r ≡ firstUnread (engineIn (now (w .entry)) .receive) ⌝ }
+{
+    let at = (w[61] % 8) as usize;
+    w[44 + at]
+}
+
+pub fn marked_in(w: &[u16; 96]) -> bool
+    ensures { λ r. ⌜ r ≡ engineIn (now (w .entry)) .receive .marked ⌝ }
+{
+    w[75] % 2 == 1
 }
 
 // The shift register.
@@ -280,6 +340,45 @@ pub fn store_transmit(w: &mut [u16; 96], t: Transmit)
     w[40] = byte_number(t.write.0);
     w[41] = byte_number(t.read.0);
     w[42] = byte_number(t.count);
+}
+
+// A word at the write position of the transmit buffer, which moves on, and another count. No other word is touched.
+pub fn store_written(w: &mut [u16; 96], word: u16, on: u8, count: u8)
+    ensures { λ _. ⌜ Steps (λ _ n. withTransmit (pushed word on count (n .transmit)) n) (now (w .entry)) (now (w .exit)) ⌝ }
+{
+    is_whole(w);
+    let at = (w[40] % 8) as usize;
+    w[24 + at] = word;
+    w[40] = byte_number(on);
+    w[42] = byte_number(count);
+}
+
+// The read position of the transmit buffer moved on, and another count.
+pub fn store_departed(w: &mut [u16; 96], on: u8, count: u8)
+    ensures { λ _. ⌜ Steps (λ _ n. withTransmit (popped on count (n .transmit)) n) (now (w .entry)) (now (w .exit)) ⌝ }
+{
+    is_whole(w);
+    w[41] = byte_number(on);
+    w[42] = byte_number(count);
+}
+
+// The same two of the receive buffer.
+pub fn store_appended(w: &mut [u16; 96], word: u16, on: u8, count: u8)
+    ensures { λ _. ⌜ Steps (λ _ n. withReceive (arrived word on count (n .receive)) n) (now (w .entry)) (now (w .exit)) ⌝ }
+{
+    is_whole(w);
+    let at = (w[60] % 8) as usize;
+    w[44 + at] = word;
+    w[60] = byte_number(on);
+    w[62] = byte_number(count);
+}
+
+pub fn store_taken(w: &mut [u16; 96], on: u8, count: u8)
+    ensures { λ _. ⌜ Steps (λ _ n. withReceive (fetched on count (n .receive)) n) (now (w .entry)) (now (w .exit)) ⌝ }
+{
+    is_whole(w);
+    w[61] = byte_number(on);
+    w[62] = byte_number(count);
 }
 
 // The receive buffer.

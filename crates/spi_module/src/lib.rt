@@ -98,7 +98,8 @@ fn free_edge(w: &mut [u16; 96], sck: bool, sdi: bool)
     ensures { λ _. ⌜ Steps (λ s. edgeAdvanced s sck sdi) (now (w .entry)) (now (w .exit)) ⌝ }
 {
     let s = spi_memory::settings_in(w);
-    let t = spi_memory::transmit_in(w);
+    let count = spi_memory::waiting_in(w);
+    let first = spi_memory::first_waiting_in(w);
     let none = begins_none(w, sck);
     spi_memory::store_sck(w, sck);
     if none {
@@ -107,8 +108,8 @@ fn free_edge(w: &mut [u16; 96], sck: bool, sdi: bool)
     if spi_settings::is_silent(s) {
         return;
     }
-    if spi_settings::ssen_client(s) & !(t.count == 0) {
-        begin(w, sdi, false, spi_buffers::first_waiting(t));
+    if spi_settings::ssen_client(s) & !(count == 0) {
+        begin(w, sdi, false, first);
     } else {
         begin(w, sdi, true, 0);
     }
@@ -156,9 +157,9 @@ fn pulse_after(w: &[u16; 96], sck: bool) -> bool
         }
         return pins.pulse;
     }
-    let t = spi_memory::transmit_in(w);
+    let count = spi_memory::waiting_in(w);
     let shift = spi_memory::shift_in(w);
-    !s.con2.spifsd & pulse_due(s, t.count, shift)
+    !s.con2.spifsd & pulse_due(s, count, shift)
 }
 
 // The end of an edge to the level `sck` of a framed module: its pulse.
@@ -341,16 +342,15 @@ fn read_buf(w: &mut [u16; 96]) -> Answer
     if !s.spien {
         return Answer::Refused(Refusal::Disabled);
     }
-    let r = spi_memory::receive_in(w);
-    let marked = r.marked;
-    let none = r.count == 0;
+    let marked = spi_memory::marked_in(w);
+    let count = spi_memory::unread_in(w);
     if marked {
         return Answer::Refused(Refusal::Overflowed);
     }
-    if none {
+    if count == 0 {
         return Answer::Refused(Refusal::ReceiveEmpty);
     }
-    let word = spi_bits::low_bits(s, spi_buffers::first_unread(r));
+    let word = spi_bits::low_bits(s, spi_memory::first_unread_in(w));
     spi_words::take_word(w);
     Answer::Value(word)
 }
@@ -392,8 +392,8 @@ fn write_buf(w: &mut [u16; 96], v: u16) -> Answer
     if !s.spien {
         return Answer::Refused(Refusal::Disabled);
     }
-    let t = spi_memory::transmit_in(w);
-    if spi_settings::depth(s) <= t.count {
+    let count = spi_memory::waiting_in(w);
+    if spi_settings::depth(s) <= count {
         return Answer::Refused(Refusal::TransmitFull);
     }
     spi_words::accept_word(w, spi_bits::low_bits(s, v));

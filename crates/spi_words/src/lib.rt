@@ -1,15 +1,16 @@
 // A word between the edges, in memory: it is written, loads, is finished, is read, and what SDO shows meanwhile. Only the
 // parts that a step changes are stored.
 use spi_types::Event;
-use spi_types::Settings;
 use spi_types::Shift;
-use spi_types::Transmit;
 ghost use mathlib.Core.Path.{_≡_};
+ghost use Rattle.spi_rules.specs.Changes.{withTransmit, withReceive};
+ghost use Rattle.spi_rules.specs.Settings.{depthOf};
+ghost use Rattle.spi_rules.specs.Buffers.{written, departed, appended, taken};
 ghost use Rattle.spi_rules.specs.Interrupts.{noted};
 ghost use Rattle.spi_rules.specs.Loading.{wordLeaves, loaded, nextTop, rested};
 ghost use Rattle.spi_rules.specs.Finish.{delivered, sentDropped, freed, finished};
 ghost use Rattle.spi_rules.specs.Calls.{wordTaken, wordWritten};
-ghost use Rattle.spi_memory.specs.Memory.{Steps};
+ghost use Rattle.spi_memory.specs.Memory.{settingsIn, engineIn, Steps};
 
 // An event is taken note of by the interrupt flag.
 fn note(w: &mut [u16; 96], e: Event)
@@ -21,15 +22,66 @@ fn note(w: &mut [u16; 96], e: Event)
     spi_memory::store_interrupt(w, flag);
 }
 
+// A word more in a buffer, or a word less: one position and one count are stored, and the word.
+fn push(w: &mut [u16; 96], word: u16)
+    ensures { λ _. ⌜ Steps (λ s n. withTransmit (written (depthOf s) word (n .transmit)) n) (now (w .entry)) (now (w .exit)) ⌝ }
+{
+    let s = spi_memory::settings_in(w);
+    let depth = spi_settings::depth(s);
+    let count = spi_memory::waiting_in(w);
+    let at = spi_memory::cpu_write_in(w);
+    if count < depth {
+        let on = spi_buffers::next_position(depth, at);
+        spi_memory::store_written(w, word, on, count + 1);
+    }
+}
+
+fn pop(w: &mut [u16; 96])
+    ensures { λ _. ⌜ Steps (λ s n. withTransmit (departed (depthOf s) (n .transmit)) n) (now (w .entry)) (now (w .exit)) ⌝ }
+{
+    let s = spi_memory::settings_in(w);
+    let depth = spi_settings::depth(s);
+    let count = spi_memory::waiting_in(w);
+    let at = spi_memory::spi_read_in(w);
+    if 0 < count {
+        let on = spi_buffers::next_position(depth, at);
+        spi_memory::store_departed(w, on, count - 1);
+    }
+}
+
+fn append(w: &mut [u16; 96], word: u16)
+    ensures { λ _. ⌜ Steps (λ s n. withReceive (appended (depthOf s) word (n .receive)) n) (now (w .entry)) (now (w .exit)) ⌝ }
+{
+    let s = spi_memory::settings_in(w);
+    let depth = spi_settings::depth(s);
+    let count = spi_memory::unread_in(w);
+    let at = spi_memory::spi_write_in(w);
+    if count < depth {
+        let on = spi_buffers::next_position(depth, at);
+        spi_memory::store_appended(w, word, on, count + 1);
+    }
+}
+
+fn fetch(w: &mut [u16; 96])
+    ensures { λ _. ⌜ Steps (λ s n. withReceive (taken (depthOf s) (n .receive)) n) (now (w .entry)) (now (w .exit)) ⌝ }
+{
+    let s = spi_memory::settings_in(w);
+    let depth = spi_settings::depth(s);
+    let count = spi_memory::unread_in(w);
+    let at = spi_memory::cpu_read_in(w);
+    if 0 < count {
+        let on = spi_buffers::next_position(depth, at);
+        spi_memory::store_taken(w, on, count - 1);
+    }
+}
+
 // The first waiting word leaves the transmit buffer.
 fn leave(w: &mut [u16; 96])
     ensures { λ _. ⌜ Steps wordLeaves (now (w .entry)) (now (w .exit)) ⌝ }
 {
-    let s = spi_memory::settings_in(w);
-    let t = spi_memory::transmit_in(w);
-    let less = spi_buffers::without_first_waiting(spi_settings::depth(s), t);
-    spi_memory::store_transmit(w, less);
-    note(w, Event::Left(less.count));
+    pop(w);
+    let left = spi_memory::waiting_in(w);
+    note(w, Event::Left(left));
 }
 
 // The first waiting word loads, if it can.
@@ -37,22 +89,25 @@ fn load(w: &mut [u16; 96])
     ensures { λ _. ⌜ Steps loaded (now (w .entry)) (now (w .exit)) ⌝ }
 {
     let s = spi_memory::settings_in(w);
-    let t = spi_memory::transmit_in(w);
-    if spi_memory::is_free(w) & (!spi_settings::ssen_client(s) & !(t.count == 0)) {
-        let word = spi_buffers::first_waiting(t);
+    let count = spi_memory::waiting_in(w);
+    if spi_memory::is_free(w) & (!spi_settings::ssen_client(s) & !(count == 0)) {
+        let word = spi_memory::first_waiting_in(w);
         spi_memory::store_loaded(w, word);
         leave(w);
     }
 }
 
 // The top bit of the word to be sent next, false if there is none.
-fn next_top(s: Settings, t: Transmit, shift: Shift) -> bool
-    ensures { λ r. ⌜ r ≡ nextTop s t shift ⌝ }
+fn next_top(w: &[u16; 96]) -> bool
+    ensures { λ r. ⌜ r ≡ nextTop (settingsIn (now (w .entry))) (engineIn (now (w .entry)) .transmit) (engineIn (now (w .entry)) .shift) ⌝ }
 {
+    let s = spi_memory::settings_in(w);
+    let shift = spi_memory::shift_in(w);
     match shift {
         Shift::Free => {
-            (spi_settings::ssen_client(s) & !(t.count == 0))
-                & spi_bits::top_bit(s, spi_buffers::first_waiting(t))
+            let count = spi_memory::waiting_in(w);
+            let first = spi_memory::first_waiting_in(w);
+            (spi_settings::ssen_client(s) & !(count == 0)) & spi_bits::top_bit(s, first)
         }
         Shift::Loaded(word) => spi_bits::top_bit(s, word),
         Shift::Begun(_) => false,
@@ -65,9 +120,7 @@ pub fn rest(w: &mut [u16; 96])
 {
     let s = spi_memory::settings_in(w);
     if spi_settings::cke(s) & !spi_memory::is_begun(w) {
-        let shift = spi_memory::shift_in(w);
-        let t = spi_memory::transmit_in(w);
-        let level = next_top(s, t, shift);
+        let level = next_top(w);
         spi_memory::store_sdo(w, level);
     }
 }
@@ -76,13 +129,10 @@ pub fn rest(w: &mut [u16; 96])
 pub fn accept_word(w: &mut [u16; 96], word: u16)
     ensures { λ _. ⌜ Steps (λ s. wordWritten s word) (now (w .entry)) (now (w .exit)) ⌝ }
 {
-    let s = spi_memory::settings_in(w);
-    let t = spi_memory::transmit_in(w);
-    let more = spi_buffers::with_written(spi_settings::depth(s), word, t);
-    spi_memory::store_transmit(w, more);
+    push(w, word);
     load(w);
-    let left = spi_memory::transmit_in(w);
-    note(w, Event::Written(left.count));
+    let left = spi_memory::waiting_in(w);
+    note(w, Event::Written(left));
     rest(w);
 }
 
@@ -92,15 +142,16 @@ fn deliver(w: &mut [u16; 96], word: u16)
     ensures { λ _. ⌜ Steps (λ s. delivered s word) (now (w .entry)) (now (w .exit)) ⌝ }
 {
     let s = spi_memory::settings_in(w);
-    let r = spi_memory::receive_in(w);
     let depth = spi_settings::depth(s);
-    if (depth <= r.count) | r.marked {
-        spi_memory::store_mark(w, r.marked | s.con2.spiben);
+    let count = spi_memory::unread_in(w);
+    let marked = spi_memory::marked_in(w);
+    if (depth <= count) | marked {
+        spi_memory::store_mark(w, marked | s.con2.spiben);
         spi_memory::store_spirov(w, true);
     } else {
-        let more = spi_buffers::with_appended(depth, word, r);
-        spi_memory::store_receive(w, more);
-        note(w, Event::Appended(more.count));
+        append(w, word);
+        let more = spi_memory::unread_in(w);
+        note(w, Event::Appended(more));
     }
 }
 
@@ -118,9 +169,9 @@ fn drop_sent(w: &mut [u16; 96], filler: bool)
 fn free_after_finish(w: &mut [u16; 96])
     ensures { λ _. ⌜ Steps freed (now (w .entry)) (now (w .exit)) ⌝ }
 {
-    let t = spi_memory::transmit_in(w);
+    let count = spi_memory::waiting_in(w);
     spi_memory::store_free(w);
-    note(w, Event::Finished(t.count));
+    note(w, Event::Finished(count));
 }
 
 // A word's last edge.
@@ -138,9 +189,7 @@ pub fn finish(w: &mut [u16; 96], filler: bool, word: u16)
 pub fn take_word(w: &mut [u16; 96])
     ensures { λ _. ⌜ Steps wordTaken (now (w .entry)) (now (w .exit)) ⌝ }
 {
-    let s = spi_memory::settings_in(w);
-    let r = spi_memory::receive_in(w);
-    let less = spi_buffers::without_first_unread(spi_settings::depth(s), r);
-    spi_memory::store_receive(w, less);
-    note(w, Event::Taken(less.count));
+    fetch(w);
+    let less = spi_memory::unread_in(w);
+    note(w, Event::Taken(less));
 }

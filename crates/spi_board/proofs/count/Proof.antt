@@ -4,7 +4,6 @@ use mathlib.Core.Path.{ap, _∙_}
 use native.Mathlib.Omega.{arith}
 use Rattle.spi_types.specs.declared.Settings.{Settings}
 use Rattle.spi_types.specs.declared.Shift.{Shift}
-use Rattle.spi_types.specs.declared.Transmit.{Transmit}
 use Rattle.spi_board_rules.specs.Owed.{inShift, countOf}
 use Rattle.spi_board.proofs.count.Statement.{statement}
 use Rattle.spi_board.proofs.count.Tie as tie
@@ -12,8 +11,9 @@ use Rattle.spi_board.proofs.count.Tie as tie
 returns : tie.Need-returns
 unfolding countOf
 returns c =
-    let shift = (c .in-shift .ensures .0) ∙ ap (λ (s : Settings). inShift s (c .before .before .shift-in .result)) (c .before .before .before .before .settings-in .ensures) ∙ ap (inShift _) (c .before .before .shift-in .ensures) in
-    (omega (arith, shift, ap (λ (t : Transmit). t .count) (c .before .before .before .transmit-in .ensures)), omega (arith, (c .in-shift .ensures .1)))
+    
+    let shift = (c .in-shift .ensures .0) ∙ ap (λ (s : Settings). inShift s ((c .before .shift-in .result))) (c .before .before .before .settings-in .ensures) ∙ ap (inShift _) (c .before .shift-in .ensures) in
+    (omega (arith, shift, (c .before .before .waiting-in .ensures)), omega (arith, (c .in-shift .ensures .1)))
 
 pub count-spec : {M : Type 1} → statement M
 count-spec =

@@ -11,61 +11,45 @@ use Rattle.spi_module.proofs.free_edge.Tie as tie
 returns : tie.Need-returns
 unfolding clocked
 returns c =
-    let given = c .before .before .before .before .before .before .before .before .before .pre in
-    let begins-none = c .before .before .before .begins-none .ensures in
-    alike (c .before .store-sck .ensures) (begins-free _ _ _ _ (unbegun _ _ _ given (sym begins-none ∙ (c .if1 .taken))))
+    alike (c .before .store-sck .ensures) (begins-free _ _ _ _ (unbegun _ _ _ (c .before .before .before .before .before .before .before .before .before .before .before .pre) (sym (c .before .before .before .begins-none .ensures) ∙ (c .if1 .taken))))
 
 returns-2 : tie.Need-returns-2
 unfolding clocked begun
 returns-2 c =
-    let store-sck = c .before .before .before .store-sck .ensures in
-    let given = c .before .before .before .before .before .before .before .before .before .before .before .pre in
-    let begins-none = c .before .before .before .before .before .begins-none .ensures in
-    let settings-in = c .before .before .before .before .before .before .before .before .before .settings-in .ensures in
-    alike store-sck
-    (begins-free _ _ _ _ (active _ _ _ given (sym begins-none ∙ (c .before .before .if1 .left)) (sym (so _ _ _ (rw ((c .before .is-silent .ensures), settings-in) at (c .if2 .taken)) refl))))
+    alike (c .before .before .before .store-sck .ensures)
+    (begins-free _ _ _ _ (active _ _ _ (c .before .before .before .before .before .before .before .before .before .before .before .before .before .pre) (sym (c .before .before .before .before .before .begins-none .ensures) ∙ (c .before .before .if1 .left))
+    (sym (so _ _ _ (rw ((c .before .is-silent .ensures), (c .before .before .before .before .before .before .before .before .before .before .before .settings-in .ensures)) at (c .if2 .taken)) refl))))
 
 returns-3 : tie.Need-returns-3
 unfolding clocked begun
 returns-3 c =
-    let store-sck = c .before .before .before .before .before .before .before .before .before .store-sck .ensures in
-    let given = c .before .before .before .before .before .before .before .before .before .before .before .before .before .before .before .before .before .pre in
-    let begins-none = c .before .before .before .before .before .before .before .before .before .before .before .begins-none .ensures in
-    let if1 = c .before .before .before .before .before .before .before .before .if1 .left in
-    let is-silent = c .before .before .before .before .before .before .before .is-silent .ensures in
-    let settings-in = c .before .before .before .before .before .before .before .before .before .before .before .before .before .before .before .settings-in .ensures in
-    let if2 = c .before .before .before .before .before .before .if2 .left in
-    let ssen-client = c .before .before .before .before .before .ssen-client .ensures in
-    let transmit-in = c .before .before .before .before .before .before .before .before .before .before .before .before .before .transmit-in .ensures in
-    let if3 = c .before .before .before .if3 .taken in
-    alike (store-sck then (c .begin .ensures))
-    (begins _ _ _ _ (active _ _ _ given (sym begins-none ∙ if1)
-    (sym (not-so _ _ _ (rw (is-silent, settings-in) at if2) (so _ _ _ (rw (ssen-client, settings-in, transmit-in) at if3) (rw ((c .before .first-waiting .ensures), transmit-in)))))))
+    alike ((c .before .before .before .before .before .before .before .store-sck .ensures) then (c .begin .ensures))
+    (begins _ _ _ _ (active _ _ _ (c .before .before .before .before .before .before .before .before .before .before .before .before .before .before .before .before .before .pre) (sym (c .before .before .before .before .before .before .before .before .before .begins-none .ensures) ∙ (c .before .before .before .before .before .before .if1 .left))
+    (sym (not-so _ _ _ (rw ((c .before .before .before .before .before .is-silent .ensures), (c .before .before .before .before .before .before .before .before .before .before .before .before .before .before .before .settings-in .ensures)) at (c .before .before .before .before .if2 .left))
+    (so _ _ _ (rw ((c .before .before .before .ssen-client .ensures), (c .before .before .before .before .before .before .before .before .before .before .before .before .before .before .before .settings-in .ensures), (c .before .before .before .before .before .before .before .before .before .before .before .before .before .waiting-in .ensures)) at (c .before .before .if3 .taken)) (rw (c .before .before .before .before .before .before .before .before .before .before .before .first-waiting-in .ensures)))))))
 
 returns-4 : tie.Need-returns-4
 unfolding clocked begun
 returns-4 c =
-    let store-sck = c .before .before .before .before .before .before .before .before .store-sck .ensures in
-    let given = c .before .before .before .before .before .before .before .before .before .before .before .before .before .before .before .before .pre in
-    let begins-none = c .before .before .before .before .before .before .before .before .before .before .begins-none .ensures in
-    let if1 = c .before .before .before .before .before .before .before .if1 .left in
-    let is-silent = c .before .before .before .before .before .before .is-silent .ensures in
-    let settings-in = c .before .before .before .before .before .before .before .before .before .before .before .before .before .before .settings-in .ensures in
-    let if2 = c .before .before .before .before .before .if2 .left in
-    let ssen-client = c .before .before .before .before .ssen-client .ensures in
-    let transmit-in = c .before .before .before .before .before .before .before .before .before .before .before .before .transmit-in .ensures in
-    alike (store-sck then (c .begin2 .ensures))
-    (begins _ _ _ _ (active _ _ _ given (sym begins-none ∙ if1)
-    (sym (not-so _ _ _ (rw (is-silent, settings-in) at if2) (not-so _ _ _ (rw (ssen-client, settings-in, transmit-in) at (c .before .before .if3 .left)) refl)))))
+    alike ((c .before .before .before .before .before .before .before .store-sck .ensures) then (c .begin2 .ensures))
+    (begins _ _ _ _ (active _ _ _ (c .before .before .before .before .before .before .before .before .before .before .before .before .before .before .before .before .before .pre) (sym (c .before .before .before .before .before .before .before .before .before .begins-none .ensures) ∙ (c .before .before .before .before .before .before .if1 .left))
+    (sym (not-so _ _ _ (rw ((c .before .before .before .before .before .is-silent .ensures), (c .before .before .before .before .before .before .before .before .before .before .before .before .before .before .before .settings-in .ensures)) at (c .before .before .before .before .if2 .left))
+    (not-so _ _ _ (rw ((c .before .before .before .ssen-client .ensures), (c .before .before .before .before .before .before .before .before .before .before .before .before .before .before .before .settings-in .ensures), (c .before .before .before .before .before .before .before .before .before .before .before .before .before .waiting-in .ensures)) at (c .before .before .if3 .left)) refl)))))
 
 pub free-edge-spec : {M : Type 1} → statement M
 free-edge-spec =
     tie.close
     (tie.spec
-    (λ c κs. search needs) (λ c κs. search needs) (λ c κs. search needs) (λ c κs. search needs)
+    (λ c κs. search needs)
+    (λ c κs. search needs)
+    (λ c κs. search needs)
+    (λ c κs. search needs)
+    (λ c κs. search needs)
     returns
     (λ c κs. search needs)
     returns-2
-    (λ c κs. search needs) (λ c κs. search needs) (λ c κs. search needs) (λ c κs. search needs)
+    (λ c κs. search needs)
+    (λ c κs. search needs)
+    (λ c κs. search needs)
     returns-3
     returns-4)

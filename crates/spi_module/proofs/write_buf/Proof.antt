@@ -15,22 +15,20 @@ returns c = kept (so _ _ _ (rw (c .before .before .settings-in .ensures) at (c .
 returns-2 : tie.Need-returns-2
 unfolding writeBuf refuse spitbf
 returns-2 c =
-    let settings-in = c .before .before .before .before .before .before .before .settings-in .ensures in
-    let if1 = c .before .before .before .before .before .if1 .left in
-    let transmit-in = c .before .before .before .transmit-in .ensures in
-    kept (not-so _ _ _ (rw settings-in at if1) (so-le _ _ _ _ (rw ((c .before .before .depth .ensures), settings-in, transmit-in) at (c .if2 .taken)) refl))
+    let settings-in = c .before .before .before .before .before .before .settings-in .ensures in
+    let depth = c .before .depth .ensures in
+    let count = c .before .before .waiting-in .ensures in
+    kept (not-so _ _ _ (rw settings-in at (c .before .before .before .before .if1 .left)) (so-le _ _ _ _ (rw (depth, settings-in, count) at (c .if2 .taken)) refl))
 
 returns-3 : tie.Need-returns-3
 unfolding writeBuf spitbf
 returns-3 c =
-    let settings-in = c .before .before .before .before .before .before .before .before .before .before .settings-in .ensures in
-    let if1 = c .before .before .before .before .before .before .before .before .if1 .left in
-    let depth = c .before .before .before .before .before .depth .ensures in
-    let transmit-in = c .before .before .before .before .before .before .transmit-in .ensures in
-    let if2 = c .before .before .before .if2 .left in
+    let settings-in = c .before .before .before .before .before .before .before .before .before .settings-in .ensures in
+    let depth = c .before .before .before .before .depth .ensures in
+    let count = c .before .before .before .before .before .waiting-in .ensures in
     changed refl
-    (not-so _ _ _ (rw settings-in at if1)
-    (not-so-le _ _ _ _ (rw (depth, settings-in, transmit-in) at if2)
+    (not-so _ _ _ (rw settings-in at (c .before .before .before .before .before .before .before .if1 .left))
+    (not-so-le _ _ _ _ (rw (depth, settings-in, count) at (c .before .before .before .if2 .left))
     (answered _ (c .accept-word .ensures) (rw ((c .before .low-bits .ensures), settings-in)))))
 
 pub write-buf-spec : {M : Type 1} → statement M
@@ -39,7 +37,9 @@ write-buf-spec =
     (tie.spec
     (λ c κs. search needs)
     returns
-    (λ c κs. search needs) (λ c κs. search needs)
+    (λ c κs. search needs)
+    (λ c κs. search needs)
     returns-2
-    (λ c κs. search needs) (λ c κs. search needs)
+    (λ c κs. search needs)
+    (λ c κs. search needs)
     returns-3)

@@ -13,25 +13,30 @@ returns c =
     let is-free = c .before .before .before .before .before .before .before .before .is-free .ensures in
     let ssen-client = c .before .before .before .before .before .before .before .ssen-client .ensures in
     let settings-in = c .before .before .before .before .before .before .before .before .before .before .before .before .settings-in .ensures in
-    let transmit-in = c .before .before .before .before .before .before .before .before .before .before .transmit-in .ensures in
-    let if1 = c .before .before .before .before .before .if1 .taken in
-    let first-waiting = c .before .before .before .before .first-waiting .ensures in
+    let count = c .before .before .before .before .before .before .before .before .before .before .waiting-in .ensures in
+    let first = c .before .before .before .before .first-waiting-in .ensures in
     alike ((c .before .before .store-loaded .ensures) then (c .leave .ensures))
-    (so _ _ _ (rw (is-free, ssen-client, settings-in, transmit-in) at if1) (rw (first-waiting, transmit-in)))
+    (so _ _ _ (rw (is-free, ssen-client, settings-in, count) at (c .before .before .before .before .before .before .if1 .taken)) (rw first))
 
 returns-2 : tie.Need-returns-2
 unfolding canLoad loaded
 returns-2 c =
-    let is-free = c .before .before .before .is-free .ensures in
-    let settings-in = c .before .before .before .before .before .before .before .settings-in .ensures in
-    let transmit-in = c .before .before .before .before .before .transmit-in .ensures in
-    stays (not-so _ _ _ (rw (is-free, (c .before .before .ssen-client .ensures), settings-in, transmit-in) at (c .if1 .left)) refl)
+    let is-free = c .before .before .is-free .ensures in
+    let ssen-client = c .before .ssen-client .ensures in
+    let settings-in = c .before .before .before .before .before .before .settings-in .ensures in
+    let count = c .before .before .before .before .waiting-in .ensures in
+    stays (not-so _ _ _ (rw (is-free, ssen-client, settings-in, count) at (c .if1 .left)) refl)
 
 pub load-spec : {M : Type 1} → statement M
 load-spec =
     tie.close
     (tie.spec
-    (λ c κs. search needs) (λ c κs. search needs) (λ c κs. search needs) (λ c κs. search needs)
-    (λ c κs. search needs) (λ c κs. search needs) (λ c κs. search needs)
+    (λ c κs. search needs)
+    (λ c κs. search needs)
+    (λ c κs. search needs)
+    (λ c κs. search needs)
+    (λ c κs. search needs)
+    (λ c κs. search needs)
+    (λ c κs. search needs)
     returns
     returns-2)

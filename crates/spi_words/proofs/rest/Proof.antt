@@ -12,31 +12,26 @@ use Rattle.spi_words.proofs.rest.Tie as tie
 returns : tie.Need-returns
 unfolding rested sdoAt
 returns c =
-    let w = c .before .before .before .before .before .before .before .before .before .before .before .before .before .args .w .now in
-    let settings-in = c .before .before .before .before .before .before .before .before .before .before .before .settings-in .ensures in
-    let cke = c .before .before .before .before .before .before .before .before .before .before .cke .ensures in
-    let is-begun = c .before .before .before .before .before .before .before .before .is-begun .ensures in
-    let if1 = c .before .before .before .before .before .before .before .if1 .taken in
-    let transmit-in = c .before .before .before .transmit-in .ensures in
-    let shift-in = c .before .before .before .before .before .shift-in .ensures in
+    
+    let w = (c .before .before .before .before .before .before .before .before .before .before .args .w .now) in
     alike (c .store-sdo .ensures)
-    (ap (λ (x : Bool). sdoAt x (engineIn w))
-    (so _ _ _ (rw (cke, settings-in, is-begun) at if1) (rw ((c .before .before .next-top .ensures), settings-in, transmit-in, shift-in))))
+    (ap (λ (x : Bool). sdoAt x (engineIn w)) (so _ _ _ (rw ((c .before .before .before .before .before .before .before .cke .ensures), (c .before .before .before .before .before .before .before .before .settings-in .ensures), (c .before .before .before .before .before .is-begun .ensures)) at (c .before .before .before .before .if1 .taken)) (c .before .before .next-top .ensures)))
 
 returns-2 : tie.Need-returns-2
 unfolding rested sdoAt
 returns-2 c =
-    let w = c .before .before .before .before .before .before .args .w .now in
-    let settings-in = c .before .before .before .before .settings-in .ensures in
-    let cke = c .before .before .before .cke .ensures in
-    stays
-    (ap (λ (x : Bool). sdoAt x (engineIn w)) (not-so _ _ _ (rw (cke, settings-in, (c .before .is-begun .ensures)) at (c .if1 .left)) refl))
+    
+    let w = (c .before .before .before .before .before .before .args .w .now) in
+    stays (ap (λ (x : Bool). sdoAt x (engineIn w)) (not-so _ _ _ (rw ((c .before .before .before .cke .ensures), (c .before .before .before .before .settings-in .ensures), (c .before .is-begun .ensures)) at (c .if1 .left)) refl))
 
 pub rest-spec : {M : Type 1} → statement M
 rest-spec =
     tie.close
     (tie.spec
-    (λ c κs. search needs) (λ c κs. search needs) (λ c κs. search needs) (λ c κs. search needs)
-    (λ c κs. search needs) (λ c κs. search needs) (λ c κs. search needs)
+    (λ c κs. search needs)
+    (λ c κs. search needs)
+    (λ c κs. search needs)
+    (λ c κs. search needs)
+    (λ c κs. search needs)
     returns
     returns-2)
