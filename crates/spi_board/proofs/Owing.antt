@@ -1,6 +1,8 @@
 -- The total, beside what is told of the board's calls.
 --     filler-counts-none, client-counts-none, host-counts     a begun word, by the tests one after the other
 --     asks-list, asks-total                    the question, by what it finds
+--     owed-asked                               a call by its kind
+--     within-owed                              the total within a word
 --     makes-owed, links-owed                   a call between two counts, and a linked run between two of each end
 --     owed-inside, owed-refused, owed-made     a call of one module of the list
 --     owed-insides, owed-pair-refused, owed-pair-made     a linked run of two
@@ -16,19 +18,24 @@ use lib.Ieee.{Float}
 use lib.ListN.{length, length-set}
 use lib.Seq.{getD-set-same, getD-set-other}
 use Rattle.laws.specs.Choice.{if_then_else_}
+use Rattle.laws.proofs.Choices.{so-le}
 use Rattle.laws.proofs.Keeps.{if-true, if-false, by-test}
 use Rattle.spi_types.specs.declared.Settings.{Settings}
+use Rattle.spi_types.specs.declared.Transmit.{Transmit}
+use Rattle.spi_types.specs.declared.Shift.{Shift}
+use Rattle.spi_types.specs.declared.Shift.the-variants.{Free, Loaded, Begun}
 use Rattle.spi_types.specs.declared.Module.{Module}
 use Rattle.spi_rules.specs.Settings.{ssenClient}
 use Rattle.spi_link_rules.specs.Link.{linkedOf}
 use Rattle.spi_board_rules.specs.declared.BoardCall.{BoardCall}
 use Rattle.spi_board_rules.specs.Board.{boardNumberOf, badList, moduleAt, boardOf, pairOf}
-use Rattle.spi_board_rules.specs.Owed.{countOf, atMost65535, totalMoved, owesOf}
+use Rattle.spi_board_rules.specs.Owed.{inShift, countOf, atMost65535, totalMoved, owesOf}
 use Rattle.spi_board_rules.proofs.OwedMoves.{call-total-stays, call-total-moves, run-total-stays, run-total-moves}
-use Rattle.spi_memory.specs.Memory.{moduleIn}
+use Rattle.spi_memory.specs.Memory.{settingsIn, engineIn, moduleIn, wentOn}
+use Rattle.spi_module.specs.Answered.{GoesOn}
 use Rattle.spi_numbers.specs.Told.{LinkTells}
 use Rattle.spi_board.specs.declared.Cells.{Cells}
-use Rattle.spi_board.specs.Boards.{modulesIn, numbersAt, withNumbers, boardNumber, pairNumber, callFault, pairFault, MakeTells}
+use Rattle.spi_board.specs.Boards.{modulesIn, numbersAt, withNumbers, askedOf, boardNumber, pairNumber, callFault, pairFault, MakeTells}
 use Rattle.spi_board.specs.Owing.{boardIn, bothIn, owedNumber, Asks, refusedNumber, refusedCall, refusedPair, MakesOwed, LinksOwed, OwedTells, OwedPairTells}
 use Rattle.spi_board.proofs.Asks.{bad}
 use Rattle.spi_board.proofs.Boarding.{holds-at, some, none, row-is, inside, refused-number, refused-leaves, made-answer, made-leaves, pair-row-is, insides, pair-refused-number, pair-refused-leaves, pair-made-answer, pair-made-leaves}
@@ -81,6 +88,33 @@ links-owed {owed} {limit} {first = first} {host = host} {host' = host'} {client 
           (linked .number);
       linked = subst (λ (x : ℕ). LinkTells (linkedOf (moduleIn host) (moduleIn client) limit) x host host' client client') (linked .number) linked;
     }
+
+-- A kind that is a number asks what that number asks.
+pub owed-asked : {owed r : ℕ} {floats floatsAt : List Float} {before after : List ℕ} (k x y z : ℕ) {kind : ℕ} → kind ≡ k →
+    MakesOwed owed (askedOf k x y z) r floats floatsAt before after → MakesOwed owed (askedOf kind x y z) r floats floatsAt before after
+owed-asked {owed} {r} {floats} {floatsAt} {before} {after} k x y z e h =
+    subst (λ (j : ℕ). MakesOwed owed (askedOf j x y z) r floats floatsAt before after) (sym e) h
+
+-- A word that goes on counts as it did, so that the total stays.
+goes-counts : (s : Settings) (edges received : ℕ) (x : Shift) → inShift s (wentOn edges received x) ≡ inShift s x
+unfolding inShift wentOn
+goes-counts s edges received Free = refl
+goes-counts s edges received (Loaded word) = refl
+goes-counts s edges received (Begun p) = refl
+
+within-counts : {a b : List ℕ} → GoesOn a b → countOf (moduleIn b) ≡ countOf (moduleIn a)
+unfolding countOf
+within-counts {a} on =
+    ap₂ (λ (x y : ℕ). x + y) (ap (λ (t : Transmit). t .count) (on .transmit))
+    (ap₂ inShift (on .settings) (on .shift) ∙ goes-counts (settingsIn a) (on .edges) (on .received) (engineIn a .shift))
+
+pub within-owed : (owed : ℕ) {a b : List ℕ} → GoesOn a b →
+    owed % 65536 ≡ atMost65535 (owed % 65536 + countOf (moduleIn b) - countOf (moduleIn a))
+unfolding atMost65535
+within-owed owed {a} {b} on =
+    let same = within-counts on in
+    let whole : owed % 65536 + countOf (moduleIn b) - countOf (moduleIn a) ≡ owed % 65536 = omega arith in
+    so-le (owed % 65536 + countOf (moduleIn b) - countOf (moduleIn a)) 65535 _ _ (omega arith) (sym whole)
 
 positive : (n : ℕ) → eqb n 0 ≡ false → 0 < n
 positive n off = by-test (ltb 0 n) (λ h. ltb-true 0 n h) (λ h. absurd (eqb-false n 0 off (omega (arith, ltb-false 0 n h))))

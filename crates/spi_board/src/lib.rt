@@ -3,7 +3,11 @@
 use spi_types::Settings;
 use spi_types::Shift;
 ghost use Prim.Native.Nat.{_+_, _-_, _≤_};
+ghost use mathlib.Core.List.{List};
 ghost use mathlib.Core.Path.{_≡_};
+ghost use lib.Ieee.{Float};
+ghost use Rattle.spi_types.specs.declared.Call.the-variants.{Tick};
+ghost use Rattle.spi_board_rules.specs.declared.BoardCall.the-variants.{Make};
 ghost use Rattle.spi_board_rules.specs.Owed.{inShift, countOf, atMost65535};
 ghost use Rattle.spi_memory.specs.Memory.{moduleIn};
 ghost use Rattle.spi_board.specs.Boards.{askedOf, callFault, pairFault, MakeTells};
@@ -134,6 +138,19 @@ fn both(total: u32, answer: u32) -> u64
     total as u64 * 4294967296 + answer as u64
 }
 
+// A tick of one module, with the board's total moved by it. Within a word no count moves, so that none is counted.
+fn tick_counted(w: &mut [u16; 96], owed: u32, sdi: bool, ss: bool) -> u64
+    ensures { λ r. ⌜ ((floats : List Float) → MakesOwed owed (Make (Tick sdi ss)) r floats floats (now (w .entry)) (now (w .exit))) ⌝ }
+{
+    if spi_module::tick_within(w, sdi, ss) {
+        return both(owed % 65536, 1);
+    }
+    let was = count(w);
+    let answer = spi_numbers::tick(w, sdi, ss);
+    let is = count(w);
+    both(moved(owed % 65536, was, is), answer)
+}
+
 // A call of one module, with the board's total moved by it.
 pub fn make_counted(
     w: &mut [u16; 96],
@@ -146,6 +163,9 @@ pub fn make_counted(
 ) -> u64
     ensures { λ r. ⌜ MakesOwed owed (askedOf kind x y z) r (now (report .entry)) (now (report .exit)) (now (w .entry)) (now (w .exit)) ⌝ }
 {
+    if kind == 3 {
+        return tick_counted(w, owed, x != 0, y != 0);
+    }
     let was = count(w);
     let answer = make(w, kind, x, y, z, report);
     let is = count(w);

@@ -1,5 +1,5 @@
 -- What a call on a module in memory comes to, and the edge that calls share.
-use Prim.Native.Nat.{ℕ}
+use Prim.Native.Nat.{ℕ, _+_, _<_}
 use mathlib.Core.Bool.{Bool, true, false, not}
 use mathlib.Core.List.{List}
 use mathlib.Core.Path.{_≡_}
@@ -8,8 +8,10 @@ use Rattle.spi_types.specs.declared.Engine.{Engine}
 use Rattle.spi_types.specs.declared.Answer.{Answer}
 use Rattle.spi_types.specs.declared.Answer.the-variants.{Refused, Done, Value, NoEdge, Edge}
 use Rattle.spi_types.specs.declared.Outcome.{Outcome}
-use Rattle.spi_rules.specs.Edge.{underWay, advancedIfBegun, pulsed, clocked}
-use Rattle.spi_memory.specs.Memory.{moduleIn}
+use Rattle.spi_rules.specs.Settings.{framed}
+use Rattle.spi_rules.specs.Loading.{isBegun}
+use Rattle.spi_rules.specs.Edge.{wordEdges, underWay, advancedIfBegun, pulsed, clocked}
+use Rattle.spi_memory.specs.Memory.{placeIn, progressAt, settingsIn, engineIn, moduleIn, wentOn, Steps}
 
 -- An answer with the module that memory holds.
 abbrev pub outcomeIn : Answer → List ℕ → Outcome
@@ -38,3 +40,30 @@ edgeCounted s sck sdi n = pulsed s sck (edgeAdvanced s sck sdi n)
 -- An edge to the other level of its own clock.
 unfoldable pub turned : Settings → Bool → Engine → Engine
 turned s sdi n = edgeCounted s (not (n .pins .sck)) sdi n
+
+-- The next edge is one within a begun word, which it does not finish.
+pub record Midword (w : List ℕ) : Type 0 where
+  pub begun : isBegun (engineIn w .shift) ≡ true
+  pub short : progressAt (placeIn w) .edges + 1 < wordEdges (settingsIn w)
+
+-- A word goes on: the settings, the words waiting and the word itself stay.
+pub record GoesOn (before after : List ℕ) : Type 0 where
+  pub settings : settingsIn after ≡ settingsIn before
+  pub transmit : engineIn after .transmit ≡ engineIn before .transmit
+  pub edges : ℕ
+  pub received : ℕ
+  pub shift : engineIn after .shift ≡ wentOn edges received (engineIn before .shift)
+
+-- The short way, which makes such edges alone: it tells whether it made a step, and if not, memory is as it was.
+pub record Shortens (f : Settings → Engine → Engine) (made : Bool) (before after : List ℕ) : Type 0 where
+  pub plain : made ≡ true → framed (settingsIn before) ≡ false
+  pub begun : made ≡ true → isBegun (engineIn before .shift) ≡ true
+  pub steps : made ≡ true → Steps f before after
+  pub goes : made ≡ true → GoesOn before after
+  pub left : made ≡ false → after ≡ before
+
+-- A call by the short way: it tells whether it was made, with this answer.
+pub record Shortly (o : Outcome) (a : Answer) (made : Bool) (before after : List ℕ) : Type 0 where
+  pub taken : made ≡ true → Answers o a before after
+  pub goes : made ≡ true → GoesOn before after
+  pub left : made ≡ false → after ≡ before

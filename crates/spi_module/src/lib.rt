@@ -11,6 +11,7 @@ ghost use mathlib.Core.Bool.{true, false, _||_, Bool·beq};
 ghost use mathlib.Core.Path.{_≡_};
 ghost use Rattle.laws.specs.Choice.{if_then_else_};
 ghost use Rattle.spi_types.specs.declared.Shift.the-variants.{Free, Loaded};
+ghost use Rattle.spi_types.specs.declared.Answer.the-variants.{Done, Edge};
 ghost use Rattle.spi_rules.specs.Changes.{withPulse};
 ghost use Rattle.spi_rules.specs.Settings.{framed, frameClient, ckeOf, ssenClient};
 ghost use Rattle.spi_rules.specs.Registers.{con1From, con2From, statValue};
@@ -19,7 +20,7 @@ ghost use Rattle.spi_rules.specs.Select.{deselected, selectRemembered, selectSe
 ghost use Rattle.spi_rules.specs.Edge.{fresh, advanced, advancedIfBegun, awaitsPulse, pulseDue, pulseAfter, levels, stepped};
 ghost use Rattle.spi_rules.specs.Calls.{readBuf, readOf, statWritten, writeStat, withCon1, withCon2, configured, writeBuf, writeOf, tickOf, pinsOf, clearOf, performOf, sdoOf, ssOf};
 ghost use Rattle.spi_memory.specs.Memory.{settingsIn, engineIn, moduleIn, Steps};
-ghost use Rattle.spi_module.specs.Answered.{Answers, edgeAdvanced, edgeCounted, turned};
+ghost use Rattle.spi_module.specs.Answered.{Answers, edgeAdvanced, edgeCounted, turned, Midword, GoesOn, Shortens, Shortly};
 
 // The first edge of a word: it begins.
 fn begin(w: &mut [u16; 96], sdi: bool, filler: bool, word: u16)
@@ -296,6 +297,136 @@ fn hear_select(w: &mut [u16; 96], ss: bool)
     }
 }
 
+// The short way: an edge within a begun word, which it does not finish. It samples SDI or changes SDO, and no buffer is looked at.
+// Whether the next edge is one, and that edge, to the level `sck`, before a pulse is decided.
+fn is_midword(w: &[u16; 96]) -> bool
+    ensures { λ r. ⌜ (r ≡ true → Midword (now (w .entry))) ⌝ }
+{
+    let s = spi_memory::settings_in(w);
+    let p = spi_memory::progress_in(w);
+    if !spi_memory::is_begun(w) {
+        return false;
+    }
+    (p.edges as u16 + 1) < 2 * spi_settings::width(s) as u16
+}
+
+fn go_within(w: &mut [u16; 96], sck: bool, sdi: bool)
+    requires { ⌜ Midword (now w) ⌝ }
+    ensures { λ _. ⌜ Steps (λ s. edgeAdvanced s sck sdi) (now (w .entry)) (now (w .exit)) × GoesOn (now (w .entry)) (now (w .exit)) ⌝ }
+{
+    let s = spi_memory::settings_in(w);
+    let p = spi_memory::progress_in(w);
+    let edge = p.edges as u16 + 1;
+    let last = 2 * spi_settings::width(s) as u16;
+    spi_memory::store_sck(w, sck);
+    if spi_bits::is_sampling(spi_settings::cke(s), edge) {
+        let received = spi_bits::shift_in(p.received, sdi);
+        spi_memory::store_gone(w, edge as u8, received);
+    } else {
+        let at = if edge < last { (last - 1 - edge) / 2 } else { 0 };
+        let sdo = spi_bits::bit(p.word, at);
+        spi_memory::store_gone(w, edge as u8, p.received);
+        spi_memory::store_sdo(w, sdo);
+    }
+}
+
+// The levels SCK, SDI and SS are given to an unframed module, as a tick if it has its own clock and else as a pin call: if they
+// make an edge within a word and no select acts, it is made. Whether it was.
+fn within(w: &mut [u16; 96], own: bool, sck: bool, sdi: bool, ss: bool) -> bool
+    ensures { λ r. ⌜ Shortens (λ s n. if own then turned s sdi n else stepped s (levels sck sdi ss) n) r (now (w .entry)) (now (w .exit)) ⌝ }
+{
+    let s = spi_memory::settings_in(w);
+    let pins = spi_memory::pins_in(w);
+    if spi_settings::is_framed(s) {
+        return false;
+    }
+    if !is_midword(w) {
+        return false;
+    }
+    if own {
+        go_within(w, !pins.sck, sdi);
+        return true;
+    }
+    if sck == pins.sck {
+        return false;
+    }
+    if spi_settings::is_deselected(s, ss) {
+        return false;
+    }
+    spi_memory::store_ss(w, ss);
+    go_within(w, sck, sdi);
+    true
+}
+
+// A tick by the short way, and a pin call: whether it was made.
+pub fn tick_within(w: &mut [u16; 96], sdi: bool, ss: bool) -> bool
+    ensures { λ r. ⌜ Shortly (tickOf (moduleIn (now (w .entry))) sdi ss) Edge r (now (w .entry)) (now (w .exit)) ⌝ }
+{
+    let s = spi_memory::settings_in(w);
+    if !s.spien {
+        return false;
+    }
+    if !spi_settings::own_clock(s) {
+        return false;
+    }
+    within(w, true, false, sdi, ss)
+}
+
+pub fn pins_within(w: &mut [u16; 96], sck: bool, sdi: bool, ss: bool) -> bool
+    ensures { λ r. ⌜ Shortly (pinsOf (moduleIn (now (w .entry))) sck sdi ss) Done r (now (w .entry)) (now (w .exit)) ⌝ }
+{
+    let s = spi_memory::settings_in(w);
+    if !s.spien {
+        return false;
+    }
+    if spi_settings::own_clock(s) {
+        return false;
+    }
+    within(w, false, sck, sdi, ss)
+}
+
+// A frame host's pulse after an edge to the level `sck` at which it gives none: at the active level it ends.
+fn end_pulse(w: &mut [u16; 96], sck: bool)
+    ensures { λ _. ⌜ Steps (λ s n. withPulse (if Bool·beq sck (s .con1 .ckp) then n .pins .pulse else false) n) (now (w .entry)) (now (w .exit)) ⌝ }
+{
+    let s = spi_memory::settings_in(w);
+    if sck == s.con1.ckp {
+        return;
+    }
+    spi_memory::store_pulse(w, false);
+}
+
+// A tick of a frame host by its short way, which leaves the edges at which a pulse may begin: a word's first and its last two.
+pub fn frame_within(w: &mut [u16; 96], sdi: bool, ss: bool) -> bool
+    ensures { λ r. ⌜ Shortly (tickOf (moduleIn (now (w .entry))) sdi ss) Edge r (now (w .entry)) (now (w .exit)) ⌝ }
+{
+    let s = spi_memory::settings_in(w);
+    let p = spi_memory::progress_in(w);
+    let pins = spi_memory::pins_in(w);
+    if !s.spien {
+        return false;
+    }
+    if !spi_settings::own_clock(s) {
+        return false;
+    }
+    if !spi_settings::is_frame_host(s) {
+        return false;
+    }
+    if !is_midword(w) {
+        return false;
+    }
+    if p.edges < 1 {
+        return false;
+    }
+    if 2 * spi_settings::width(s) as u16 <= p.edges as u16 + 2 {
+        return false;
+    }
+    let sck = !pins.sck;
+    go_within(w, sck, sdi);
+    end_pulse(w, sck);
+    true
+}
+
 // A tick of a host's own clock, with the levels SDI and SS: one edge, or none of an unframed host with no word loaded.
 pub fn tick(w: &mut [u16; 96], sdi: bool, ss: bool) -> Answer
     ensures { λ r. ⌜ Answers (tickOf (moduleIn (now (w .entry))) sdi ss) r (now (w .entry)) (now (w .exit)) ⌝ }
@@ -310,6 +441,12 @@ pub fn tick(w: &mut [u16; 96], sdi: bool, ss: bool) -> Answer
     if spi_settings::is_framed(s) {
         hear_select(w, ss);
         framed_turn(w, sdi);
+        return Answer::Edge;
+    }
+    if spi_memory::is_begun(w) {
+        let pins = spi_memory::pins_in(w);
+        spi_memory::store_sck(w, !pins.sck);
+        go_on(w, sdi, s.con1.cke);
         return Answer::Edge;
     }
     if spi_memory::is_free(w) {

@@ -1,11 +1,10 @@
 // The calls of modules in memory, each answered by one number.
 use spi_link_rules::LinkAnswer;
 use spi_types::Answer;
-use spi_types::Output;
 ghost use Prim.Native.Nat.{_≤_};
 ghost use mathlib.Core.Path.{_≡_};
 ghost use Rattle.laws.specs.Choice.{if_then_else_};
-ghost use Rattle.spi_rules.specs.Calls.{readOf, writeOf, tickOf, pinsOf, clearOf};
+ghost use Rattle.spi_rules.specs.Calls.{readOf, writeOf, tickOf, pinsOf, clearOf, sdoOf, ssOf};
 ghost use Rattle.spi_link_rules.specs.Link.{linkedOf};
 ghost use Rattle.spi_clock_rules.specs.Clock.{reportOf, saidClock};
 ghost use Rattle.spi_memory.specs.Memory.{moduleIn};
@@ -64,17 +63,6 @@ pub fn clear(w: &mut [u16; 96]) -> u32
     answer_number(answer)
 }
 
-// A pin that the module may drive: its level, and whether it is driven.
-fn output_bits(pin: Output) -> u32
-    ensures { λ r. ⌜ (r ≡ outputBits pin) × (r ≤ 3) ⌝ }
-{
-    match pin {
-        Output::Low => 2,
-        Output::High => 3,
-        Output::Undriven => 0,
-    }
-}
-
 // A bit of a number, if it is set.
 fn weight(bit: bool, w: u32) -> u32
     ensures { λ r. ⌜ (r ≡ (if bit then w else 0)) × (r ≤ w) ⌝ }
@@ -85,6 +73,38 @@ fn weight(bit: bool, w: u32) -> u32
     0
 }
 
+// A pin that the module may drive, SDO and SS: its level, and whether it is driven.
+fn sdo_bits(w: &[u16; 96]) -> u32
+    ensures { λ r. ⌜ (r ≡ outputBits (sdoOf (moduleIn (now (w .entry))))) × (r ≤ 3) ⌝ }
+{
+    let s = spi_memory::settings_in(w);
+    let pins = spi_memory::pins_in(w);
+    if !s.spien {
+        return 0;
+    }
+    if s.con1.dissdo {
+        return 0;
+    }
+    if spi_settings::is_deselected(s, pins.ss) {
+        return 0;
+    }
+    2 + weight(pins.sdo, 1)
+}
+
+fn ss_bits(w: &[u16; 96]) -> u32
+    ensures { λ r. ⌜ (r ≡ outputBits (ssOf (moduleIn (now (w .entry))))) × (r ≤ 3) ⌝ }
+{
+    let s = spi_memory::settings_in(w);
+    let pins = spi_memory::pins_in(w);
+    if !s.spien {
+        return 0;
+    }
+    if !spi_settings::is_frame_host(s) {
+        return 0;
+    }
+    2 + weight(pins.pulse == s.con2.frmpol, 1)
+}
+
 // The interrupt flag and the levels of SCK, SDO and SS.
 pub fn levels(w: &[u16; 96]) -> u32
     ensures { λ r. ⌜ r ≡ levelsNumber (moduleIn (now (w .entry))) ⌝ }
@@ -92,8 +112,8 @@ pub fn levels(w: &[u16; 96]) -> u32
     let pins = spi_memory::pins_in(w);
     let flag = weight(spi_memory::interrupt_in(w), 1);
     let sck = weight(pins.sck, 2);
-    let sdo = output_bits(spi_module::sdo(w));
-    let ss = output_bits(spi_module::ss(w));
+    let sdo = sdo_bits(w);
+    let ss = ss_bits(w);
     flag + sck + sdo * 4 + ss * 16
 }
 

@@ -5,6 +5,7 @@ use spi_types::Refusal;
 use spi_types::Settings;
 ghost use mathlib.Core.Path.{_≡_};
 ghost use Rattle.spi_rules.specs.Settings.{widthOf, depthOf, framed, frameHost, frameClient, ckeOf, silent, ssenClient, ownClock};
+ghost use Rattle.spi_rules.specs.Select.{deselected};
 ghost use Rattle.spi_rules.specs.Refusals.{undivided, lateSampling, unselectedCke, causes, badSettings, firstGiven};
 ghost use Rattle.spi_rules.specs.Interrupts.{enhancedRaises, standardRaises, raises};
 
@@ -65,6 +66,16 @@ pub fn ssen_client(s: Settings) -> bool
     ensures { λ r. ⌜ r ≡ ssenClient s ⌝ }
 {
     !s.con1.msten & (!s.con2.frmen & s.con1.ssen)
+}
+
+// Whether this select level deselects the module.
+pub fn is_deselected(s: Settings, ss: bool) -> bool
+    ensures { λ r. ⌜ r ≡ deselected s ss ⌝ }
+{
+    if ss {
+        return ssen_client(s);
+    }
+    false
 }
 
 // Whether the module is a host with its own clock.

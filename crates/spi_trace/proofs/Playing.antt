@@ -1,4 +1,5 @@
 -- Playing makes a file's calls one behind the other.
+--     leaves, bit-0                what the call of a record leaves, and its lowest bit
 --     repeated, repeated-none      one repeat of a section, and the others
 --     section-records              the calls of a section are those of its records
 --     here, upcoming               a record of a section, and the next one that is not idle
@@ -33,6 +34,15 @@ use Rattle.spi_trace_files.proofs.Records.{entries-more, entries-none, section-
 use Rattle.spi_trace_files.proofs.Idle.{landing-step, Lands, lands, passing}
 use Rattle.spi_memory.specs.Memory.{moduleIn}
 use Rattle.spi_trace.specs.Playing.{entryCalls, Plays}
+
+-- What the call of a record leaves.
+pub leaves : (m : Module) {after : Module} (x : Call) (e : Entry) → after ≡ performOf m x .after → x ≡ callOf e →
+    after ≡ performOf m (callOf e) .after
+leaves m x e h is = h ∙ ap (λ (y : Call). performOf m y .after) is
+
+-- Bit 0 has the weight 1.
+pub bit-0 : (n : ℕ) → n ≡ n / 1
+bit-0 n = omega arith
 
 -- Calls one behind the other.
 after-append : (m : Module) (x y : List Call) → afterCalls m (x ++ y) ≡ afterCalls (afterCalls m x) y

@@ -29,10 +29,16 @@ fn make(w: &mut [u16; 96], e: Entry)
         return;
     }
     if kind == 2 {
+        if spi_module::tick_within(w, sdi, ss) {
+            return;
+        }
         spi_numbers::tick(w, sdi, ss);
         return;
     }
     if kind == 3 {
+        if spi_module::pins_within(w, sck, sdi, ss) {
+            return;
+        }
         spi_numbers::pins(w, sck, sdi, ss);
         return;
     }

@@ -43,6 +43,12 @@ pub extern "C" fn thurafeqa_write(w: &mut [u16; 96], register: u32, value: u32) 
 pub extern "C" fn thurafeqa_tick(w: &mut [u16; 96], sdi: u32, ss: u32) -> u32
     ensures { λ r. ⌜ Tells (tickOf (moduleIn (now (w .entry))) (levelIn sdi) (levelIn ss)) r (now (w .entry)) (now (w .exit)) ⌝ }
 {
+    if spi_module::tick_within(w, sdi != 0, ss != 0) {
+        return 1;
+    }
+    if spi_module::frame_within(w, sdi != 0, ss != 0) {
+        return 1;
+    }
     spi_numbers::tick(w, sdi != 0, ss != 0)
 }
 
@@ -51,6 +57,9 @@ pub extern "C" fn thurafeqa_tick(w: &mut [u16; 96], sdi: u32, ss: u32) -> u32
 pub extern "C" fn thurafeqa_pins(w: &mut [u16; 96], sck: u32, sdi: u32, ss: u32) -> u32
     ensures { λ r. ⌜ Tells (pinsOf (moduleIn (now (w .entry))) (levelIn sck) (levelIn sdi) (levelIn ss)) r (now (w .entry)) (now (w .exit)) ⌝ }
 {
+    if spi_module::pins_within(w, sck != 0, sdi != 0, ss != 0) {
+        return 0;
+    }
     spi_numbers::pins(w, sck != 0, sdi != 0, ss != 0)
 }
 

@@ -11,7 +11,6 @@ use Rattle.spi_board.proofs.count.Tie as tie
 returns : tie.Need-returns
 unfolding countOf
 returns c =
-    
     let shift = (c .in-shift .ensures .0) ∙ ap (λ (s : Settings). inShift s ((c .before .shift-in .result))) (c .before .before .before .settings-in .ensures) ∙ ap (inShift _) (c .before .shift-in .ensures) in
     (omega (arith, shift, (c .before .before .waiting-in .ensures)), omega (arith, (c .in-shift .ensures .1)))
 

@@ -10,7 +10,6 @@ use Rattle.spi_words.proofs.next_top.Tie as tie
 returns : tie.Need-returns
 unfolding nextTop
 returns c =
-    
     let w = (c .before .before .before .before .before .before .before .before .args .w .now) in
     by-case (nextTop (settingsIn w) (engineIn w .transmit)) (sym (c .before .before .before .before .before .before .shift-in .ensures) ∙ (c .before .before .before .before .enum-told .given .1))
     (rw ((c .before .ssen-client .ensures), (c .top-bit .ensures), (c .before .before .before .before .before .before .before .settings-in .ensures), (c .before .before .before .waiting-in .ensures), (c .before .before .first-waiting-in .ensures)))
@@ -18,14 +17,12 @@ returns c =
 returns-2 : tie.Need-returns-2
 unfolding nextTop
 returns-2 c =
-    
     let w = (c .before .before .before .before .before .before .args .w .now) in
     by-case (nextTop (settingsIn w) (engineIn w .transmit)) (sym (c .before .before .before .before .shift-in .ensures) ∙ (c .before .before .shift .given .1)) (rw ((c .top-bit2 .ensures), (c .before .before .before .before .before .settings-in .ensures)))
 
 returns-3 : tie.Need-returns-3
 unfolding nextTop
 returns-3 c =
-    
     let w = (c .before .before .before .before .args .w .now) in
     by-case (nextTop (settingsIn w) (engineIn w .transmit)) (sym (c .before .before .shift-in .ensures) ∙ (c .enum-told2 .given .1)) refl
 

@@ -12,7 +12,6 @@ use Rattle.spi_words.proofs.rest.Tie as tie
 returns : tie.Need-returns
 unfolding rested sdoAt
 returns c =
-    
     let w = (c .before .before .before .before .before .before .before .before .before .before .args .w .now) in
     alike (c .store-sdo .ensures)
     (ap (λ (x : Bool). sdoAt x (engineIn w)) (so _ _ _ (rw ((c .before .before .before .before .before .before .before .cke .ensures), (c .before .before .before .before .before .before .before .before .settings-in .ensures), (c .before .before .before .before .before .is-begun .ensures)) at (c .before .before .before .before .if1 .taken)) (c .before .before .next-top .ensures)))
@@ -20,7 +19,6 @@ returns c =
 returns-2 : tie.Need-returns-2
 unfolding rested sdoAt
 returns-2 c =
-    
     let w = (c .before .before .before .before .before .before .args .w .now) in
     stays (ap (λ (x : Bool). sdoAt x (engineIn w)) (not-so _ _ _ (rw ((c .before .before .before .cke .ensures), (c .before .before .before .before .settings-in .ensures), (c .before .is-begun .ensures)) at (c .if1 .left)) refl))
 

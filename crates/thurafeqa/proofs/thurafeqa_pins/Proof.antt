@@ -1,12 +1,18 @@
--- What the call tells, its levels being numbers.
+-- A pin call by the short way, or what the whole call tells, its levels being numbers.
 use borrow.Author.Needs.{needs}
-use Rattle.spi_numbers.specs.Told.{levelIn}
+use mathlib.Core.Path.{refl}
+use Rattle.spi_numbers.specs.Told.{answerNumber, levelIn}
+use Rattle.spi_numbers.proofs.Answers.{told}
 use Rattle.thurafeqa.proofs.thurafeqa_pins.Statement.{statement}
 use Rattle.thurafeqa.proofs.thurafeqa_pins.Tie as tie
 
 returns : tie.Need-returns
+unfolding answerNumber levelIn
+returns c = told ((c .before .pins-within .ensures .taken) (c .if1 .taken)) refl
+
+returns-2 : tie.Need-returns-2
 unfolding levelIn
-returns c = c .pins .ensures
+returns-2 c = rw ((c .before .before .before .pins-within .ensures .left) (c .before .before .if1 .left)) at (c .pins .ensures)
 
 pub thurafeqa-pins-spec : {M : Type 1} → statement M
-thurafeqa-pins-spec = tie.close (tie.spec (λ c κs. search needs) returns)
+thurafeqa-pins-spec = tie.close (tie.spec (λ c κs. search needs) returns (λ c κs. search needs) returns-2)

@@ -1,12 +1,26 @@
--- What the call tells, its levels being numbers.
+-- A tick by a short way, or what the whole call tells, its levels being numbers.
 use borrow.Author.Needs.{needs}
-use Rattle.spi_numbers.specs.Told.{levelIn}
+use mathlib.Core.Path.{refl, _∙_}
+use Rattle.spi_numbers.specs.Told.{answerNumber, levelIn}
+use Rattle.spi_numbers.proofs.Answers.{told}
 use Rattle.thurafeqa.proofs.thurafeqa_tick.Statement.{statement}
 use Rattle.thurafeqa.proofs.thurafeqa_tick.Tie as tie
 
 returns : tie.Need-returns
+unfolding answerNumber levelIn
+returns c = told ((c .before .tick-within .ensures .taken) (c .if1 .taken)) refl
+
+returns-2 : tie.Need-returns-2
+unfolding answerNumber levelIn
+returns-2 c =
+    rw ((c .before .before .before .before .tick-within .ensures .left) (c .before .before .before .if1 .left)) at (told ((c .before .frame-within .ensures .taken) (c .if2 .taken)) refl)
+
+returns-3 : tie.Need-returns-3
 unfolding levelIn
-returns c = c .tick .ensures
+returns-3 c =
+    rw ((c .before .before .before .frame-within .ensures .left) (c .before .before .if2 .left) ∙ (c .before .before .before .before .before .before .tick-within .ensures .left) (c .before .before .before .before .before .if1 .left)) at (c .tick .ensures)
 
 pub thurafeqa-tick-spec : {M : Type 1} → statement M
-thurafeqa-tick-spec = tie.close (tie.spec (λ c κs. search needs) returns)
+thurafeqa-tick-spec =
+    tie.close
+    (tie.spec (λ c κs. search needs) returns (λ c κs. search needs) returns-2 (λ c κs. search needs) returns-3)
