@@ -1,10 +1,12 @@
 // Bits of words and of registers, over the width. Nothing here asks whether the width is 8 or 16.
 use spi_types::Settings;
 ghost use mathlib.Core.Path.{_≡_};
-ghost use Prim.Native.Nat.{_-_};
+ghost use Prim.Native.Nat.{_+_, _-_};
+ghost use lib.Dec.{ltb};
 ghost use Rattle.word_order.specs.Bits.{bitOf};
 ghost use Rattle.spi_rules.specs.Settings.{widthOf};
 ghost use Rattle.spi_rules.specs.Registers.{lowBits};
+ghost use Rattle.spi_rules.specs.Edge.{wordEdges};
 ghost use Rattle.spi_rules.specs.Bits.{samples, shiftedIn, receivedAfter, shownBit, sdoAfter};
 
 // Bit `i` of a word.
@@ -27,6 +29,13 @@ pub fn low_bits(s: Settings, v: u16) -> u16
 {
     let w = spi_settings::width(s);
     ((v as u32) % (1u32 << w)) as u16
+}
+
+// Whether the next edge of a word that has been given so many does not finish it.
+pub fn goes_on(s: Settings, edges: u8) -> bool
+    ensures { λ r. ⌜ r ≡ ltb (edges + 1) (wordEdges s) ⌝ }
+{
+    (edges as u16 + 1) < 2 * spi_settings::width(s) as u16
 }
 
 // Whether an edge samples SDI, by CKE as the edge rules see it; any other edge changes SDO.

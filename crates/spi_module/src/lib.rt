@@ -307,7 +307,7 @@ fn is_midword(w: &[u16; 96]) -> bool
     if !spi_memory::is_begun(w) {
         return false;
     }
-    (p.edges as u16 + 1) < 2 * spi_settings::width(s) as u16
+    spi_bits::goes_on(s, p.edges)
 }
 
 fn go_within(w: &mut [u16; 96], sck: bool, sdi: bool)
@@ -323,7 +323,11 @@ fn go_within(w: &mut [u16; 96], sck: bool, sdi: bool)
         let received = spi_bits::shift_in(p.received, sdi);
         spi_memory::store_gone(w, edge as u8, received);
     } else {
-        let at = if edge < last { (last - 1 - edge) / 2 } else { 0 };
+        let at = if edge < last {
+            (last - 1 - edge) / 2
+        } else {
+            0
+        };
         let sdo = spi_bits::bit(p.word, at);
         spi_memory::store_gone(w, edge as u8, p.received);
         spi_memory::store_sdo(w, sdo);

@@ -71,12 +71,13 @@ returns c =
     let short = given .short in
     let word = begun-there w (given .begun) ∙ ap Begun (sym (c .before .before .before .before .before .before .before .before .before .before .progress-in .ensures)) in
     let step = (c .before .before .before .before .before .before .store-sck .ensures) then (c .store-gone .ensures) in (
-    alike step
-    (on-begun _ (clocked _ (engineIn w)) word _
-    (so-lt (p .edges + 1) (wordEdges (settingsIn w)) _ _ (omega arith)
-    (sampled _ _ word _ (rw ((c .before .before .before .before .is-sampling .ensures), (c .before .before .before .before .before .cke .ensures), (c .before .before .before .before .before .before .before .before .before .before .before .before .settings-in .ensures)) at (c .before .before .before .if1 .taken)) (c .before .before .shift-in .ensures)))
-    ∙ goes-on _ _ _ _ (given .begun)),
-    goes (p .edges + 1) (c .before .before .shift-in .result) step refl refl)
+      alike step
+          (on-begun _ (clocked _ (engineIn w)) word _
+          (so-lt (p .edges + 1) (wordEdges (settingsIn w)) _ _ (omega arith)
+          (sampled _ _ word _ (rw ((c .before .before .before .before .is-sampling .ensures), (c .before .before .before .before .before .cke .ensures), (c .before .before .before .before .before .before .before .before .before .before .before .before .settings-in .ensures)) at (c .before .before .before .if1 .taken)) (c .before .before .shift-in .ensures)))
+          ∙ goes-on _ _ _ _ (given .begun)),
+      goes (p .edges + 1) (c .before .before .shift-in .result) step refl refl,
+    )
 
 returns-2 : tie.Need-returns-2
 unfolding advanced clocked shownBit
@@ -91,12 +92,13 @@ returns-2 c =
     let at : (c .before .before .before .before .before .if2 .at) ≡ widthOf (settingsIn w) - 1 - (p .edges + 1) / 2 =
     ⊎-elim (λ k. omega arith) (λ k. omega arith) (c .before .before .before .before .before .if2 .came) in
     let step = (c .before .before .before .before .before .before .before .before .before .store-sck .ensures) then (c .before .before .store-gone2 .ensures) then (c .store-sdo .ensures) in (
-    alike step
-    (on-begun _ (clocked _ (engineIn w)) word _
-    (so-lt (p .edges + 1) (wordEdges (settingsIn w)) _ _ (omega arith)
-    (shown _ _ word _ (rw ((c .before .before .before .before .before .before .before .is-sampling .ensures), (c .before .before .before .before .before .before .before .before .cke .ensures), (c .before .before .before .before .before .before .before .before .before .before .before .before .before .before .before .settings-in .ensures)) at (c .before .before .before .before .before .before .if1 .left)) ((c .before .before .before .before .bit .ensures) ∙ ap (bitOf (p .word)) at)))
-    ∙ goes-on _ _ _ _ (given .begun)),
-    goes (p .edges + 1) (p .received) step refl refl)
+      alike step
+          (on-begun _ (clocked _ (engineIn w)) word _
+          (so-lt (p .edges + 1) (wordEdges (settingsIn w)) _ _ (omega arith)
+          (shown _ _ word _ (rw ((c .before .before .before .before .before .before .before .is-sampling .ensures), (c .before .before .before .before .before .before .before .before .cke .ensures), (c .before .before .before .before .before .before .before .before .before .before .before .before .before .before .before .settings-in .ensures)) at (c .before .before .before .before .before .before .if1 .left)) ((c .before .before .before .before .bit .ensures) ∙ ap (bitOf (p .word)) at)))
+          ∙ goes-on _ _ _ _ (given .begun)),
+      goes (p .edges + 1) (p .received) step refl refl,
+    )
 
 pub go-within-spec : {M : Type 1} → statement M
 go-within-spec =

@@ -2,11 +2,12 @@
 use borrow.Author.Needs.{needs}
 use native.Mathlib.Omega.{arith}
 use borrow.Author.Tests.{not-false, ltb-true}
-use Prim.Native.Nat.{_+_, _*_}
+use Prim.Native.Nat.{_+_}
 use mathlib.Core.Bool.{false}
 use mathlib.Core.Path.{refl, sym, _∙_, ap}
 use Rattle.laws.proofs.Keeps.{clash}
 use Rattle.spi_types.specs.declared.Progress.{Progress}
+use Rattle.spi_rules.specs.Settings.{widthOf}
 use Rattle.spi_rules.specs.Edge.{wordEdges}
 use Rattle.spi_module.proofs.is_midword.Statement.{statement}
 use Rattle.spi_module.proofs.is_midword.Tie as tie
@@ -17,10 +18,10 @@ returns c = λ e. clash false e refl
 returns-2 : tie.Need-returns-2
 returns-2 c =
     λ e.
-    let edges = ap (λ (x : Progress). x .edges) (c .before .before .before .before .progress-in .ensures) in
-    let width = rw (c .before .before .before .before .before .settings-in .ensures) at (c .width .ensures) in
-    let below = ltb-true ((c .before .before .before .before .progress-in .result) .edges + 1) (2 * (c .width .result)) e in
-    record { begun = sym (c .before .before .before .is-begun .ensures) ∙ not-false _ (c .before .before .if1 .left); short = omega arith }
+    let edges = ap (λ (x : Progress). x .edges) (c .before .before .before .progress-in .ensures) in
+    let width = ap widthOf (c .before .before .before .before .settings-in .ensures) in
+    let below = ltb-true ((c .before .before .before .progress-in .result) .edges + 1) (wordEdges (c .before .before .before .before .settings-in .result)) (sym (c .goes-on .ensures) ∙ e) in
+    record { begun = sym (c .before .before .is-begun .ensures) ∙ not-false _ (c .before .if1 .left); short = omega arith }
 
 pub is-midword-spec : {M : Type 1} → statement M
 is-midword-spec =
@@ -30,9 +31,5 @@ is-midword-spec =
     (λ c κs. search needs)
     (λ c κs. search needs)
     returns
-    (λ c. search needs)
-    (λ c. search needs)
     (λ c κs. search needs)
-    (λ c. search needs)
-    (λ c. search needs)
     returns-2)

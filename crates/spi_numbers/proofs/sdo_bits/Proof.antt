@@ -15,20 +15,18 @@ returns-2 c =
     (sdo-kept (moduleIn (c .before .before .before .before .before .args .w .now)) (rw (c .before .before .before .before .settings-in .ensures) at (c .before .if1 .left)) (rw (c .before .before .before .before .settings-in .ensures) at (c .if2 .taken)), omega arith)
 
 returns-3 : tie.Need-returns-3
-returns-3 c =
-    (
-      sdo-away (moduleIn (c .before .before .before .before .before .before .before .args .w .now)) (rw (c .before .before .before .before .before .before .settings-in .ensures) at (c .before .before .before .if1 .left)) (rw (c .before .before .before .before .before .before .settings-in .ensures) at (c .before .before .if2 .left))
-          (rw ((c .before .is-deselected .ensures), (c .before .before .before .before .before .before .settings-in .ensures), (c .before .before .before .before .before .pins-in .ensures)) at (c .if3 .taken)),
-      omega arith,
-    )
+returns-3 c = (
+  sdo-away (moduleIn (c .before .before .before .before .before .before .before .args .w .now)) (rw (c .before .before .before .before .before .before .settings-in .ensures) at (c .before .before .before .if1 .left)) (rw (c .before .before .before .before .before .before .settings-in .ensures) at (c .before .before .if2 .left))
+      (rw ((c .before .is-deselected .ensures), (c .before .before .before .before .before .before .settings-in .ensures), (c .before .before .before .before .before .pins-in .ensures)) at (c .if3 .taken)),
+  omega arith,
+)
 
 returns-4 : tie.Need-returns-4
-returns-4 c =
-    (
-      sdo-on (moduleIn (c .before .before .before .before .before .before .before .before .args .w .now)) (rw (c .before .before .before .before .before .before .before .settings-in .ensures) at (c .before .before .before .before .if1 .left)) (rw (c .before .before .before .before .before .before .before .settings-in .ensures) at (c .before .before .before .if2 .left))
-          (rw ((c .before .before .is-deselected .ensures), (c .before .before .before .before .before .before .before .settings-in .ensures), (c .before .before .before .before .before .before .pins-in .ensures)) at (c .before .if3 .left)) (rw (c .before .before .before .before .before .before .pins-in .ensures) at (c .weight .ensures .0)),
-      omega (arith, (c .weight .ensures .1)),
-    )
+returns-4 c = (
+  sdo-on (moduleIn (c .before .before .before .before .before .before .before .before .args .w .now)) (rw (c .before .before .before .before .before .before .before .settings-in .ensures) at (c .before .before .before .before .if1 .left)) (rw (c .before .before .before .before .before .before .before .settings-in .ensures) at (c .before .before .before .if2 .left))
+      (rw ((c .before .before .is-deselected .ensures), (c .before .before .before .before .before .before .before .settings-in .ensures), (c .before .before .before .before .before .before .pins-in .ensures)) at (c .before .if3 .left)) (rw (c .before .before .before .before .before .before .pins-in .ensures) at (c .weight .ensures .0)),
+  omega (arith, (c .weight .ensures .1)),
+)
 
 pub sdo-bits-spec : {M : Type 1} → statement M
 sdo-bits-spec =

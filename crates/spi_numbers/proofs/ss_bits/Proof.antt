@@ -15,12 +15,11 @@ returns-2 c =
     (ss-none (moduleIn (c .before .before .before .before .before .before .args .w .now)) (rw (c .before .before .before .before .before .settings-in .ensures) at (c .before .before .if1 .left)) (rw ((c .before .is-frame-host .ensures), (c .before .before .before .before .before .settings-in .ensures)) at (c .if2 .taken)), omega arith)
 
 returns-3 : tie.Need-returns-3
-returns-3 c =
-    (
-      ss-on (moduleIn (c .before .before .before .before .before .before .before .before .before .args .w .now)) (rw (c .before .before .before .before .before .before .before .before .settings-in .ensures) at (c .before .before .before .before .before .if1 .left)) (rw ((c .before .before .before .before .is-frame-host .ensures), (c .before .before .before .before .before .before .before .before .settings-in .ensures)) at (c .before .before .before .if2 .left))
-          (rw ((c .before .before .before .before .before .before .before .pins-in .ensures), (c .before .before .before .before .before .before .before .before .settings-in .ensures)) at (c .weight .ensures .0)),
-      omega (arith, (c .weight .ensures .1)),
-    )
+returns-3 c = (
+  ss-on (moduleIn (c .before .before .before .before .before .before .before .before .before .args .w .now)) (rw (c .before .before .before .before .before .before .before .before .settings-in .ensures) at (c .before .before .before .before .before .if1 .left)) (rw ((c .before .before .before .before .is-frame-host .ensures), (c .before .before .before .before .before .before .before .before .settings-in .ensures)) at (c .before .before .before .if2 .left))
+      (rw ((c .before .before .before .before .before .before .before .pins-in .ensures), (c .before .before .before .before .before .before .before .before .settings-in .ensures)) at (c .weight .ensures .0)),
+  omega (arith, (c .weight .ensures .1)),
+)
 
 pub ss-bits-spec : {M : Type 1} → statement M
 ss-bits-spec =
