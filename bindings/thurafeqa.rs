@@ -390,7 +390,7 @@ impl Module {
 
     /// Plays a trace file: this module is powered up, then section 0 is played on it. How many calls were made, refused ones
     /// and each repeat of a section included? A call in it that is refused changes nothing, and play goes on. If the trace
-    /// itself is refused, this module is as it was.
+    /// itself is refused, this module is as it was. It needs about 35 kB of stack.
     ///
     /// Refused: `BadContents`, `BadRecord`, `TooManyCalls`.
     pub fn play(&mut self, file: &[u8]) -> Result<u16, Refusal> {

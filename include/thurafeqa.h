@@ -256,7 +256,7 @@ uint32_t thurafeqa_clock(const thurafeqa *m, uint32_t rate,
  * the number of calls made, refused ones and each repeat of a section included.
  * A call in it that is refused changes nothing, and play goes on.
  * All is tested before anything is played: a refused play leaves the module as
- * it was, without power-up.
+ * it was, without power-up. It needs about 35 kB of stack.
  * Refusals: 17 (the section count, the table of contents or the file's length),
  * then 18 (a record), then 19 (it would make more than 65,535 calls). */
 uint32_t thurafeqa_play(thurafeqa *m, const uint8_t *file, size_t length);

@@ -36,9 +36,6 @@ fn make(w: &mut [u16; 96], e: Entry)
         return;
     }
     if kind == 3 {
-        if spi_module::pins_within(w, sck, sdi, ss) {
-            return;
-        }
         spi_numbers::pins(w, sck, sdi, ss);
         return;
     }

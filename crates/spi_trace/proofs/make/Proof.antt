@@ -51,30 +51,17 @@ returns-4 c =
 returns-5 : tie.Need-returns-5
 unfolding callOf performOf wireIn
 returns-5 c =
-    let e = (c .before .before .before .before .before .before .before .args .e) in
+    let e = (c .before .before .before .before .before .before .args .e) in
     let wires = e .argument in
-    leaves (moduleIn (c .before .before .before .before .before .before .before .args .w .now)) (Pin (eqb (wires / 2 % 2) 1) (eqb (wires % 2) 1) (eqb (wires / 4 % 2) 1)) e
-    (ap (λ (o : Outcome). o .after) ((c .before .pins-within .ensures .taken) (c .if6 .taken) .outcome))
-    (not-so-eq _ 0 _ _ (c .before .before .before .before .before .before .if1 .left)
-    (not-so-eq _ 1 _ _ (c .before .before .before .before .before .if2 .left)
-    (not-so-eq _ 2 _ _ (c .before .before .before .before .if3 .left)
-    (so-eq _ 3 _ _ (c .before .before .before .if5 .taken) (ap (λ (n : ℕ). Pin (eqb (wires / 2 % 2) 1) (eqb (n % 2) 1) (eqb (wires / 4 % 2) 1)) (bit-0 wires))))))
+    leaves (moduleIn (c .before .before .before .before .before .before .args .w .now)) (Pin (eqb (wires / 2 % 2) 1) (eqb (wires % 2) 1) (eqb (wires / 4 % 2) 1)) e (c .pins .ensures .holds)
+    (not-so-eq _ 0 _ _ (c .before .before .before .before .before .if1 .left)
+    (not-so-eq _ 1 _ _ (c .before .before .before .before .if2 .left)
+    (not-so-eq _ 2 _ _ (c .before .before .before .if3 .left)
+    (so-eq _ 3 _ _ (c .before .before .if5 .taken) (ap (λ (n : ℕ). Pin (eqb (wires / 2 % 2) 1) (eqb (n % 2) 1) (eqb (wires / 4 % 2) 1)) (bit-0 wires))))))
 
 returns-6 : tie.Need-returns-6
-unfolding callOf performOf wireIn
-returns-6 c =
-    let e = (c .before .before .before .before .before .before .before .before .before .args .e) in
-    let wires = e .argument in
-    let told = rw ((c .before .before .before .pins-within .ensures .left) (c .before .before .if6 .left)) at (c .pins .ensures) in
-    leaves (moduleIn (c .before .before .before .before .before .before .before .before .before .args .w .now)) (Pin (eqb (wires / 2 % 2) 1) (eqb (wires % 2) 1) (eqb (wires / 4 % 2) 1)) e (told .holds)
-    (not-so-eq _ 0 _ _ (c .before .before .before .before .before .before .before .before .if1 .left)
-    (not-so-eq _ 1 _ _ (c .before .before .before .before .before .before .before .if2 .left)
-    (not-so-eq _ 2 _ _ (c .before .before .before .before .before .before .if3 .left)
-    (so-eq _ 3 _ _ (c .before .before .before .before .before .if5 .taken) (ap (λ (n : ℕ). Pin (eqb (wires / 2 % 2) 1) (eqb (n % 2) 1) (eqb (wires / 4 % 2) 1)) (bit-0 wires))))))
-
-returns-7 : tie.Need-returns-7
 unfolding callOf performOf
-returns-7 c =
+returns-6 c =
     let e = (c .before .before .before .before .before .before .args .e) in
     leaves (moduleIn (c .before .before .before .before .before .before .args .w .now)) Clear e ((c .clear .ensures .holds))
     (not-so-eq _ 0 _ _ (c .before .before .before .before .before .if1 .left)
@@ -98,6 +85,4 @@ make-spec =
     (λ c κs. search needs)
     returns-5
     (λ c κs. search needs)
-    returns-6
-    (λ c κs. search needs)
-    returns-7)
+    returns-6)
