@@ -18,6 +18,7 @@ static const struct {
 } cases[CASES] = {
     {"busy host, 16 bits", "edge", 2000},
     {"tick and levels at every edge", "edge", 2000},
+    {"clock steps, all levels looked at", "edge", 2000},
     {"frame host, 16 bits", "edge", 2000},
     {"SSEN client, 8 bits", "edge", 4000},
     {"SSEN client, 16 bits, CKE 1", "edge", 2000},

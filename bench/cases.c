@@ -16,9 +16,12 @@ static uint32_t next(uint32_t seed) { return seed * 1664525u + 1013904223u; }
     mixed(mixed(sum, read_register(OF(m), STAT)), levels(OF(m)))
 
 /* A host with its own clock, 16 bits: four words waiting throughout, each
- * received word is read when it has come in, and one is written for it. If it
- * is watched, its levels are looked at behind every edge. */
-static inline struct outcome ticking(int watched, uint32_t times)
+ * received word is read when it has come in, and one is written for it. Its
+ * edges are made by ticks; by ticks with a look at its levels behind each; or by
+ * clock steps, whose answers have the levels. */
+enum edges { TICKS, LOOKS, STEPS };
+
+static inline struct outcome busy(enum edges by, uint32_t times)
 {
     struct outcome o = {0, 0};
     uint32_t seed = 1, bits;
@@ -31,8 +34,13 @@ static inline struct outcome ticking(int watched, uint32_t times)
     while (times-- > 0) {
         bits = seed = next(seed);
         for (i = 0; i < 32; i++) {
-            o.units += tick(OF(m), bits & 1, 0);
-            if (watched)
+            if (by == STEPS) {
+                o.sum += clock_step(OF(m), 0, bits & 1, 0);
+                o.units++;
+            } else {
+                o.units += tick(OF(m), bits & 1, 0);
+            }
+            if (by == LOOKS)
                 o.sum += levels(OF(m));
             bits >>= 1;
         }
@@ -43,11 +51,16 @@ static inline struct outcome ticking(int watched, uint32_t times)
     return o;
 }
 
-static struct outcome busy_host(uint32_t times) { return ticking(0, times); }
+static struct outcome busy_host(uint32_t times) { return busy(TICKS, times); }
 
 static struct outcome watched_host(uint32_t times)
 {
-    return ticking(1, times);
+    return busy(LOOKS, times);
+}
+
+static struct outcome stepped_host(uint32_t times)
+{
+    return busy(STEPS, times);
 }
 
 /* The same of a frame host with FRMDLY 0. The first word's pulse takes a clock,
@@ -293,5 +306,5 @@ static struct outcome trace_long(uint32_t times)
 
 const struct side EITHER(library_side, plain_side) = {
     EITHER("library", "plain C"),
-    {busy_host, watched_host, frame_host, client_8, client_16, linked_pair,
-     registers, trace_played, trace_long}};
+    {busy_host, watched_host, stepped_host, frame_host, client_8, client_16,
+     linked_pair, registers, trace_played, trace_long}};

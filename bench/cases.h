@@ -14,6 +14,7 @@ struct outcome {
 enum {
     BUSY_HOST,
     WATCHED_HOST,
+    STEPPED_HOST,
     FRAME_HOST,
     CLIENT_8,
     CLIENT_16,

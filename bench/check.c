@@ -24,6 +24,7 @@ enum kind {
     WRITE,
     TICK,
     PINS,
+    STEP,
     CLEAR,
     LEVELS,
     LINKED,
@@ -32,8 +33,8 @@ enum kind {
     KINDS
 };
 static const char *const names[KINDS] = {
-    "read", "write", "tick", "pins", "clear", "levels", "linked", "clock",
-    "play"};
+    "read",   "write",  "tick",  "pins", "clock step", "clear",
+    "levels", "linked", "clock", "play"};
 
 /* The file of a play, made from the call's first number. */
 static uint8_t file[SOME_TRACE_BYTES];
@@ -65,6 +66,17 @@ static struct ref_spi ref[MODULES];
 static unsigned long refused[20], plays, edges, overflows, fillers, aborts;
 static unsigned long given, sampled, framed_words, marks, unmarked;
 
+static unsigned ref_levels(const struct ref_spi *m)
+{
+    unsigned value = (unsigned)ref_flag(m) | (unsigned)ref_sck(m) << 1;
+
+    if (ref_sdo(m) != REF_UNDRIVEN)
+        value |= 8u | (unsigned)ref_sdo(m) << 2;
+    if (ref_ss(m) != REF_UNDRIVEN)
+        value |= 32u | (unsigned)ref_ss(m) << 4;
+    return value;
+}
+
 static uint64_t ask_ref(const struct call *c)
 {
     struct ref_spi *m = &ref[c->i];
@@ -86,15 +98,15 @@ static uint64_t ask_ref(const struct call *c)
     case PINS:
         number = ref_pins(m, c->a != 0, c->b != 0, c->c != 0);
         break;
+    case STEP:
+        number = ref_step(m, c->a != 0, c->b != 0, c->c != 0);
+        value = ref_levels(m) | (number == REF_NO_EDGE ? 64u : 0u);
+        break;
     case CLEAR:
         ref_clear(m);
         break;
     case LEVELS:
-        value = (unsigned)ref_flag(m) | (unsigned)ref_sck(m) << 1;
-        if (ref_sdo(m) != REF_UNDRIVEN)
-            value |= 8u | (unsigned)ref_sdo(m) << 2;
-        if (ref_ss(m) != REF_UNDRIVEN)
-            value |= 32u | (unsigned)ref_ss(m) << 4;
+        value = ref_levels(m);
         break;
     case LINKED:
         number = ref_linked(m, &ref[c->j], c->a, &value);
@@ -132,6 +144,8 @@ static uint64_t ask_plain(const struct call *c)
         return plain_tick(m, c->a, c->b);
     case PINS:
         return plain_pins(m, c->a, c->b, c->c);
+    case STEP:
+        return plain_clock_step(m, c->a, c->b, c->c);
     case CLEAR:
         plain_clear(m);
         return 0;
@@ -166,6 +180,8 @@ static uint64_t ask_library(const struct call *c)
         return thurafeqa_tick(m, c->a, c->b);
     case PINS:
         return thurafeqa_pins(m, c->a, c->b, c->c);
+    case STEP:
+        return thurafeqa_clock_step(m, c->a, c->b, c->c);
     case CLEAR:
         thurafeqa_clear(m);
         return 0;
@@ -295,11 +311,11 @@ static void edge(int i)
     uint32_t ss = level(before.frmen ? one_in(4) != !before.frmpol
                                      : one_in(60));
 
-    if (own != one_in(50)) {
+    if (own != one_in(50) && !one_in(3)) {
         ask(TICK, i, 0, sdi, ss, 0);
     } else {
         uint32_t sck = level(one_in(5) ? before.sck : !before.sck);
-        ask(PINS, i, 0, sck, sdi, ss);
+        ask(own || one_in(3) ? STEP : PINS, i, 0, sck, sdi, ss);
         aborts += ss && before.begun && !ref[i].begun && before.ssen &&
                   !before.msten && !before.frmen;
     }

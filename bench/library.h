@@ -13,6 +13,8 @@ uint32_t thurafeqa_read(uint16_t *m, uint32_t reg);
 uint32_t thurafeqa_write(uint16_t *m, uint32_t reg, uint32_t value);
 uint32_t thurafeqa_tick(uint16_t *m, uint32_t sdi, uint32_t ss);
 uint32_t thurafeqa_pins(uint16_t *m, uint32_t sck, uint32_t sdi, uint32_t ss);
+uint32_t thurafeqa_clock_step(uint16_t *m, uint32_t sck, uint32_t sdi,
+                              uint32_t ss);
 void thurafeqa_clear(uint16_t *m);
 uint32_t thurafeqa_levels(const uint16_t *m);
 uint32_t thurafeqa_linked(uint16_t *host, uint16_t *client, uint32_t limit);

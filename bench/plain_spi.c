@@ -267,6 +267,31 @@ uint32_t plain_pins(struct plain_spi *m, uint32_t sck, uint32_t sdi,
     return 0;
 }
 
+uint32_t plain_clock_step(struct plain_spi *m, uint32_t sck, uint32_t sdi,
+                          uint32_t ss)
+{
+    switch (m->clock) {
+    case OWN:
+        if (!m->loaded)
+            return plain_levels(m) | 64;
+        m->sck ^= 1;
+        edge(m, sdi != 0);
+        break;
+    case PIN:
+        shown(m, sck != 0, sdi != 0, ss != 0);
+        break;
+    case OWN_FRAMED:
+        framed_tick(m, sdi != 0, ss != 0);
+        break;
+    case PIN_FRAMED:
+        framed_pins(m, sck != 0, sdi != 0, ss != 0);
+        break;
+    default:
+        return refuse(2);
+    }
+    return plain_levels(m);
+}
+
 /* ---- registers ---------------------------------------------------------- */
 
 static uint32_t read_stat(const struct plain_spi *m)

@@ -56,6 +56,9 @@ uint32_t plain_write(struct plain_spi *m, uint32_t reg, uint32_t value);
 uint32_t plain_tick(struct plain_spi *m, uint32_t sdi, uint32_t ss);
 uint32_t plain_pins(struct plain_spi *m, uint32_t sck, uint32_t sdi,
                     uint32_t ss);
+/* Bits as plain_levels has them, and bit 6 if there was no edge. */
+uint32_t plain_clock_step(struct plain_spi *m, uint32_t sck, uint32_t sdi,
+                          uint32_t ss);
 void plain_clear(struct plain_spi *m);
 uint32_t plain_linked(struct plain_spi *host, struct plain_spi *client,
                       uint32_t limit);

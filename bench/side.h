@@ -13,6 +13,7 @@ typedef uint16_t module[THURAFEQA_NUMBERS];
 #define write_register thurafeqa_write
 #define tick thurafeqa_tick
 #define pins thurafeqa_pins
+#define clock_step thurafeqa_clock_step
 #define clear thurafeqa_clear
 #define levels thurafeqa_levels
 #define linked thurafeqa_linked
@@ -27,6 +28,7 @@ typedef struct plain_spi module;
 #define write_register plain_write
 #define tick plain_tick
 #define pins plain_pins
+#define clock_step plain_clock_step
 #define clear plain_clear
 #define levels plain_levels
 #define linked plain_linked

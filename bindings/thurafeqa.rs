@@ -58,7 +58,7 @@ pub mod register {
 
 /// The version of this file: major, minor and patch numbers. [`version`] tells the library's.
 #[allow(dead_code)]
-pub const VERSION: (u8, u8, u8) = (5, 2, 0);
+pub const VERSION: (u8, u8, u8) = (5, 3, 0);
 
 /// The format of a module's words. It rises wherever their meaning changes, so save it beside them.
 #[allow(dead_code)]
@@ -85,6 +85,7 @@ unsafe extern "C" {
     safe fn thurafeqa_power_up(m: &mut Module);
     safe fn thurafeqa_read(m: &mut Module, register: u32) -> u32;
     safe fn thurafeqa_write(m: &mut Module, register: u32, value: u32) -> u32;
+    safe fn thurafeqa_clock_step(m: &mut Module, sck: u32, sdi: u32, ss: u32) -> u32;
     safe fn thurafeqa_tick(m: &mut Module, sdi: u32, ss: u32) -> u32;
     safe fn thurafeqa_pins(m: &mut Module, sck: u32, sdi: u32, ss: u32) -> u32;
     safe fn thurafeqa_clear(m: &mut Module);
@@ -230,6 +231,21 @@ pub enum Ss {
     Undriven,
 }
 
+/// What a clock step tells, of every module alike: done or no edge, and what is seen after it.
+#[derive(Clone, Copy, Debug, PartialEq, Eq)]
+pub struct Step {
+    /// Whether the step was done. It is not where a host's own clock stands still, unframed and with nothing to send.
+    pub done: bool,
+    /// The interrupt flag.
+    pub interrupt: bool,
+    /// The clock level, last made here or seen at the pin.
+    pub sck: bool,
+    /// The SDO pin.
+    pub sdo: Sdo,
+    /// The SS pin.
+    pub ss: Ss,
+}
+
 /// What a clock report says. With the instruction rate in hertz, rates are in hertz and the bit time is in seconds.
 #[derive(Clone, Copy, Debug, PartialEq)]
 pub enum Clock {
@@ -266,6 +282,17 @@ fn ss(levels: u32) -> Ss {
         (false, _) => Ss::Undriven,
         (true, false) => Ss::Low,
         (true, true) => Ss::High,
+    }
+}
+
+fn step(levels: u16) -> Step {
+    let levels = u32::from(levels);
+    Step {
+        done: levels & 64 == 0,
+        interrupt: levels & 1 != 0,
+        sck: levels & 2 != 0,
+        sdo: sdo(levels),
+        ss: ss(levels),
     }
 }
 
@@ -338,6 +365,16 @@ impl Module {
     /// `Undivided`, `LateSampling`, `UnselectedCke`.
     pub fn write(&mut self, register: u32, value: u16) -> Result<(), Refusal> {
         done(thurafeqa_write(self, register, value.into()))
+    }
+
+    /// One step of the clock, for whatever module it is, with the levels at its pins: what is seen after it? A host with its own
+    /// clock makes its next edge: it does not look at SCK, and at SS as a frame client alone. An unframed one with nothing to
+    /// send makes none. Any other module sees the levels: an SCK level unlike the last is an edge, and SS counts for a client with
+    /// SSEN, as its select, and for a frame client.
+    ///
+    /// Refused: `Disabled`.
+    pub fn clock_step(&mut self, sck: bool, sdi: bool, ss: bool) -> Result<Step, Refusal> {
+        value(thurafeqa_clock_step(self, sck.into(), sdi.into(), ss.into())).map(step)
     }
 
     /// One tick of a host with its own clock, with the levels at SDI and SS: did it make an edge? It makes none with nothing to
@@ -439,6 +476,7 @@ const PINS: u32 = 4;
 const CLEAR: u32 = 5;
 const CLOCK: u32 = 6;
 const LEVELS: u32 = 7;
+const CLOCK_STEP: u32 = 8;
 
 #[allow(dead_code)] // a program need not make every call
 impl<'a> Board<'a> {
@@ -508,6 +546,11 @@ impl<'a> Board<'a> {
     /// See [`Module::write`].
     pub fn write(&mut self, n: u32, register: u32, value: u16) -> Result<(), Refusal> {
         self.call(n, WRITE, register, value.into(), 0).map(|_| ())
+    }
+
+    /// See [`Module::clock_step`].
+    pub fn clock_step(&mut self, n: u32, sck: bool, sdi: bool, ss: bool) -> Result<Step, Refusal> {
+        self.call(n, CLOCK_STEP, sck.into(), sdi.into(), ss.into()).map(step)
     }
 
     /// See [`Module::tick`].
@@ -738,6 +781,8 @@ mod thurafeqa_tests {
         assert_eq!([0x15_0000, 0x16_0000].map(value), [Err(Refusal::BadList), Err(Refusal::NoModule)]);
         assert_eq!([3, 7, 8, 11, 12].map(sdo), [Sdo::Undriven, Sdo::Undriven, Sdo::Low, Sdo::Low, Sdo::High]);
         assert_eq!([15, 31, 32, 47, 48].map(ss), [Ss::Undriven, Ss::Undriven, Ss::Low, Ss::Low, Ss::High]);
+        let seen = Step { done: true, interrupt: true, sck: false, sdo: Sdo::High, ss: Ss::Low };
+        assert_eq!([value(45).map(step), value(109).map(step)], [Ok(seen), Ok(Step { done: false, ..seen })]);
         let said = |answer| clock(answer, ClockReport { rate: 5e6, bittime: 2e-7, below: 4e7 });
         assert_eq!((said(8 << 16), said(0)), (Err(Refusal::NoRate), Ok(Clock::None)));
         assert_eq!(said(1), Ok(Clock::Internal { rate: 5e6, bit_time: 2e-7 }));

@@ -15,7 +15,8 @@
  *     if (thurafeqa_refusal(answer) == 0)
  *         answer = thurafeqa_write(&m, THURAFEQA_BUF, 0xA5);
  *     if (thurafeqa_refusal(answer) == 0) {
- *         while (thurafeqa_tick(&m, sdi_level(), 0) == 1)
+ *         while (thurafeqa_clock_step(&m, 0, sdi_level(), 0) <
+ *                THURAFEQA_NO_EDGE)
  *             ;
  *         answer = thurafeqa_read(&m, THURAFEQA_BUF);
  *     }
@@ -66,7 +67,7 @@ extern "C" {
  * must have the same major number, and the library's minor number must not be
  * lower. */
 #define THURAFEQA_VERSION_MAJOR 5u
-#define THURAFEQA_VERSION_MINOR 2u
+#define THURAFEQA_VERSION_MINOR 3u
 #define THURAFEQA_VERSION_PATCH 0u
 #define THURAFEQA_VERSION                                                      \
     (THURAFEQA_VERSION_MAJOR << 16 | THURAFEQA_VERSION_MINOR << 8 |            \
@@ -192,7 +193,25 @@ uint32_t thurafeqa_read(thurafeqa *m, uint32_t register_number);
 uint32_t thurafeqa_write(thurafeqa *m, uint32_t register_number,
                          uint32_t value);
 
-/* One tick of a host with its own clock, with the levels at SDI and SS; the
+/* One step of the clock, for whatever module it is, with the levels at its
+ * pins. A host with its own clock makes its next edge: it does not look at SCK,
+ * and at SS as a frame client alone. An unframed one with no word to send has
+ * no next edge, and then the answer's value has THURAFEQA_NO_EDGE. Any other
+ * module sees the levels; an SCK level unlike the last is an edge, and SS
+ * counts for a client under SSEN, as its select, and for a frame client. Then
+ * the module is looked at: the answer's value has the bits of thurafeqa_levels
+ * below, as they are after the step.
+ * Refusal: 2. */
+uint32_t thurafeqa_clock_step(thurafeqa *m, uint32_t sck, uint32_t sdi,
+                              uint32_t ss);
+
+#define THURAFEQA_NO_EDGE 64u /* of a clock step: its clock stands still; a
+                               * step that is done answers less than this */
+
+/* The two kinds of a clock step by themselves, which ask what module it is: a
+ * step of its own clock, and levels at its pins. They tell less and refuse the
+ * other kind of module.
+ * One tick of a host with its own clock, with the levels at SDI and SS; the
  * answer's value is 1 if it made an edge, 0 if there was no word to send. A
  * framed host makes an edge at every tick. SS counts for a frame client alone.
  * Refusals: 2, then 7 (a client, or a host under DISSCK). */
@@ -308,7 +327,7 @@ typedef struct {
  * Use the functions over thurafeqa_board below. They call three of the library,
  * which a program need not call itself: thurafeqa_board_owed for the question,
  * thurafeqa_board_linked for the linked run, and thurafeqa_board_call for all
- * others. That one takes a kind of call, a kind above 7 counting as 7, and its
+ * others. That one takes a kind of call, a kind above 8 counting as 7, and its
  * arguments in their order, those left over having no effect. Only a clock
  * report that is not refused writes to *report. Both answer in 64 bits: in the
  * lower 32 what the call answers, in the upper 32 the number of words owed
@@ -321,6 +340,7 @@ typedef struct {
 #define THURAFEQA_BOARD_CLEAR 5u
 #define THURAFEQA_BOARD_CLOCK 6u  /* rate */
 #define THURAFEQA_BOARD_LEVELS 7u
+#define THURAFEQA_BOARD_CLOCK_STEP 8u /* SCK, SDI, SS */
 uint64_t thurafeqa_board_call(thurafeqa *modules, size_t count, uint32_t owed,
                               uint32_t n, uint32_t kind, uint32_t x, uint32_t y,
                               uint32_t z, thurafeqa_clock_report *report);
@@ -376,6 +396,13 @@ static inline uint32_t thurafeqa_board_write(thurafeqa_board *b, uint32_t n,
 {
     return thurafeqa_board_ask(b, n, THURAFEQA_BOARD_WRITE, register_number,
                                value, 0);
+}
+
+static inline uint32_t thurafeqa_board_clock_step(thurafeqa_board *b,
+                                                  uint32_t n, uint32_t sck,
+                                                  uint32_t sdi, uint32_t ss)
+{
+    return thurafeqa_board_ask(b, n, THURAFEQA_BOARD_CLOCK_STEP, sck, sdi, ss);
 }
 
 static inline uint32_t thurafeqa_board_tick(thurafeqa_board *b, uint32_t n,

@@ -65,14 +65,15 @@ static void send_text(thurafeqa_board *b, const char *text)
 static void send_round(thurafeqa_board *b, uint8_t byte)
 {
     int edges = 0;
+    uint16_t seen;
 
     told("BUF write", thurafeqa_board_write(b, SPI3, THURAFEQA_BUF, byte));
     print_board(b);
+    seen = told("levels", thurafeqa_board_levels(b, SPI3));
     for (;;) {
-        uint16_t levels = told("levels", thurafeqa_board_levels(b, SPI3));
-
-        if (told("tick", thurafeqa_board_tick(
-                             b, SPI3, levels & THURAFEQA_LEVELS_SDO, 0)) == 0)
+        seen = told("step", thurafeqa_board_clock_step(
+                                b, SPI3, 0, seen & THURAFEQA_LEVELS_SDO, 0));
+        if (seen & THURAFEQA_NO_EDGE)
             break;
         edges++;
     }

@@ -51,11 +51,13 @@ fn send_round(b: &mut Board, byte: u8) -> Result<(), Refusal> {
     let mut edges = 0;
     b.write(SPI3, BUF, byte.into())?;
     print_board(b)?;
+    let mut sdi = b.sdo(SPI3)? == Sdo::High;
     loop {
-        let sdi = b.sdo(SPI3)? == Sdo::High;
-        if !b.tick(SPI3, sdi, false)? {
+        let step = b.clock_step(SPI3, false, sdi, false)?;
+        if !step.done {
             break;
         }
+        sdi = step.sdo == Sdo::High;
         edges += 1;
     }
     println!("SPI3 read {:02X} after {edges} edges", b.read(SPI3, BUF)?);

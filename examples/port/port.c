@@ -24,26 +24,24 @@ struct board {
 static const char *const name[] = {"STAT", "CON1", "CON2", "BUF"};
 
 /* Shows the module's levels and the port pin to the memory. */
-static void show_wires(struct board *b)
+static void show_wires(struct board *b, uint32_t levels)
 {
-    uint32_t levels = thurafeqa_levels(&b->spi);
-
     eeprom_pins(&b->memory, b->cs, levels & THURAFEQA_LEVELS_SCK,
                 levels & THURAFEQA_LEVELS_SDO);
 }
 
 /* One edge: SDI has the level from before it, the memory sees the levels after
- * it. A resistor pulls SDI up while the memory does not drive it. SS counts for
- * a frame client alone, which this host is not. */
+ * it, which the answer tells. A resistor pulls SDI up while the memory does not
+ * drive it. SCK and SS do not count at this host. */
 static void edge(struct board *b)
 {
     bool sdi = b->memory.driven ? b->memory.so : true;
-    uint32_t answer = thurafeqa_tick(&b->spi, sdi, 0);
+    uint32_t answer = thurafeqa_clock_step(&b->spi, 0, sdi, 0);
 
     if (thurafeqa_refusal(answer) != 0)
-        printf("port: tick refused with %d\n", thurafeqa_refusal(answer));
-    else if (thurafeqa_value(answer) == 1)
-        show_wires(b);
+        printf("port: step refused with %d\n", thurafeqa_refusal(answer));
+    else if (!(answer & THURAFEQA_NO_EDGE))
+        show_wires(b, answer);
 }
 
 /* One instruction cycle. Two edges fall into a bit's cycles. */
@@ -80,7 +78,7 @@ static void power_up(struct board *b, const uint8_t *bytes)
     b->cs = true;
     b->cycles = 0;
     set_clock(b);
-    show_wires(b);
+    show_wires(b, thurafeqa_levels(&b->spi));
 }
 
 /* ---- the CPU's bus --------------------------------------------------- */
@@ -115,7 +113,7 @@ static void store(struct board *b, uint32_t number, uint16_t value)
     }
     if (number == THURAFEQA_STAT)
         set_clock(b);
-    show_wires(b);
+    show_wires(b, thurafeqa_levels(&b->spi));
 }
 
 /* A store to the port pin. */
@@ -123,7 +121,7 @@ static void store_cs(struct board *b, bool level)
 {
     cycle(b);
     b->cs = level;
-    show_wires(b);
+    show_wires(b, thurafeqa_levels(&b->spi));
 }
 
 /* ---- the firmware ---------------------------------------------------- */

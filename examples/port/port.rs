@@ -38,14 +38,14 @@ impl Board {
         self.memory.pins(self.cs, self.spi.sck(), self.spi.sdo() == Sdo::High);
     }
 
-    /// One edge: SDI has the level from before it, the memory sees the levels after it. A resistor pulls SDI up while the
-    /// memory does not drive it. SS counts for a frame client alone, which this host is not.
+    /// One edge: SDI has the level from before it, the memory sees the levels after it, which the step tells. A resistor pulls
+    /// SDI up while the memory does not drive it. SCK and SS do not count at this host.
     fn edge(&mut self) {
         let sdi = self.memory.so().unwrap_or(true);
-        match self.spi.tick(sdi, false) {
-            Ok(true) => self.show_wires(),
-            Ok(false) => (),
-            Err(refusal) => println!("port: tick refused with {}", refusal as u32),
+        match self.spi.clock_step(false, sdi, false) {
+            Ok(step) if step.done => self.memory.pins(self.cs, step.sck, step.sdo == Sdo::High),
+            Ok(_) => (),
+            Err(refusal) => println!("port: step refused with {}", refusal as u32),
         }
     }
 

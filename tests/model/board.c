@@ -126,6 +126,19 @@ int board_pins(struct board *b, uint32_t n, int sck, int sdi, int ss)
     return r;
 }
 
+int board_step(struct board *b, uint32_t n, int sck, int sdi, int ss)
+{
+    int r = named(b, n);
+    unsigned before;
+
+    if (r != 0)
+        return r;
+    before = board_owes(&b->module[n]);
+    r = ref_step(&b->module[n], sck, sdi, ss);
+    keep_total(b, before, board_owes(&b->module[n]));
+    return r;
+}
+
 /* The interrupt flag, the clock and the levels have no part in it. */
 
 int board_clear(struct board *b, uint32_t n)

@@ -195,6 +195,9 @@ static void order(void)
     EXPECT(board_pins(&five, 0, 1, 0, 0) == 21);
     EXPECT(board_pins(&two, 2, 1, 0, 0) == 22);
     EXPECT(board_pins(&two, 0, 1, 0, 0) == 7);
+    EXPECT(board_step(&five, 2, 1, 0, 0) == 21); /* before 2 */
+    EXPECT(board_step(&two, 2, 1, 0, 0) == 22);
+    EXPECT(board_step(&b, 2, 1, 0, 0) == 2);
     EXPECT(board_power_up(&five, 0) == 21 && board_power_up(&b, 4) == 22);
     EXPECT(board_clear(&none, 0) == 21 && board_clear(&one, 1) == 22);
     EXPECT(board_see(&five, 9, &seen) == 21 && board_see(&b, 9, &seen) == 22);
@@ -391,11 +394,11 @@ static unsigned rnd(unsigned n)
 static int one_in(unsigned n) { return rnd(n) == 0; }
 
 enum kind {
-    POWER_UP, READ, WRITE, TICK, PINS, CLEAR, CLOCK, SEE, LINKED, KINDS
+    POWER_UP, READ, WRITE, TICK, PINS, STEP, CLEAR, CLOCK, SEE, LINKED, KINDS
 };
 static const char *const kind_name[KINDS] = {
-    "power-up", "read", "write", "tick", "pins", "clear",
-    "clock",    "levels", "linked"};
+    "power-up", "read",  "write",  "tick",  "pins",
+    "step",     "clear", "clock",  "levels", "linked"};
 
 struct call {
     enum kind kind;
@@ -422,6 +425,9 @@ static void ask_board(struct board *b, const struct call *c, struct told *t)
     case PINS:
         t->answer = board_pins(b, c->n, (int)c->x, (int)c->y, (int)c->z);
         break;
+    case STEP:
+        t->answer = board_step(b, c->n, (int)c->x, (int)c->y, (int)c->z);
+        break;
     case CLEAR: t->answer = board_clear(b, c->n); break;
     case CLOCK:
         t->answer = board_clock(b, c->n, c->x, &t->kind, &t->rate,
@@ -445,6 +451,9 @@ static void ask_alone(struct ref_spi *m, struct ref_spi *other,
     case TICK: t->answer = ref_tick(m, (int)c->x, (int)c->y); break;
     case PINS:
         t->answer = ref_pins(m, (int)c->x, (int)c->y, (int)c->z);
+        break;
+    case STEP:
+        t->answer = ref_step(m, (int)c->x, (int)c->y, (int)c->z);
         break;
     case CLEAR: ref_clear(m); break;
     case CLOCK:
@@ -582,7 +591,8 @@ static void enter(const struct call *c, int answer, const struct ref_spi *was)
         }
         break;
     case TICK:
-    case PINS: enter_edge(&was[c->n], &alone[c->n], &ledger[c->n]); break;
+    case PINS:
+    case STEP: enter_edge(&was[c->n], &alone[c->n], &ledger[c->n]); break;
     case LINKED:
         h = alone[c->n];
         o = alone[c->other];
@@ -769,6 +779,10 @@ static void any_call(void)
         for (i = 0; i < 3; i++)
             call(WRITE, n, 3, rnd(0x10000), 0);
         break;
+    case 9:
+        for (i = 0; i < 18; i++)
+            call(STEP, n, (unsigned)i & 1, rnd(2), one_in(40));
+        break;
     default:
         for (i = 0; i < 18; i++) {
             if (n < 6 && alone[n].msten && !alone[n].dissck)
@@ -823,12 +837,13 @@ static void print_met(const char *what, unsigned long n)
 
 static void print_totals(void)
 {
-    static const enum kind falls[] = {POWER_UP, WRITE, TICK, PINS, LINKED};
+    static const enum kind falls[] = {POWER_UP, WRITE, TICK,
+                                      PINS,     STEP,  LINKED};
     int k;
 
     printf("totals:");
     print_met("up", up);
-    for (k = 0; k < 5; k++) {
+    for (k = 0; k < 6; k++) {
         printf(" down by");
         print_met(kind_name[falls[k]], down[falls[k]]);
     }

@@ -74,6 +74,7 @@ static unsigned long st_sent, st_kept, st_lost, st_filler, st_abort, st_linked,
     st_enable, st_drain, st_refused[17], st_noedge, st_flagset[9];
 
 static unsigned long st_together; /* enabling with more than one mistake */
+static unsigned long st_step[2][2]; /* merged calls: own clock, framed */
 
 /* Framed modules: pulses shown by FRMDLY, those of them on the last bit of a
  * word, those that came a clock late; pulses seen, those of them at the last
@@ -611,11 +612,13 @@ static void l_framed_edge(struct pair *p, int sdi, int sdo_before)
         l_looks(l, l->n_received > words);
 }
 
-static int do_tick(struct pair *p, int sdi, int ss)
+/* A tick has come, or the merged call to a module with its own clock; r is the
+ * answer. The merged call has no wrong kind of module. */
+static int ticked(struct pair *p, const struct ref_spi *was, int r, int sdi,
+                  int ss)
 {
-    struct ref_spi before = p->m;
+    struct ref_spi before = *was;
     struct ledger *l = &p->l;
-    int r = ref_tick(&p->m, sdi, ss);
     int want = 0;
 
     calls++;
@@ -642,11 +645,19 @@ static int do_tick(struct pair *p, int sdi, int ss)
     return r;
 }
 
-static void do_pins(struct pair *p, int sck, int sdi, int ss)
+static int do_tick(struct pair *p, int sdi, int ss)
 {
     struct ref_spi before = p->m;
+
+    return ticked(p, &before, ref_tick(&p->m, sdi, ss), sdi, ss);
+}
+
+/* The same for levels at the pins. */
+static void shown(struct pair *p, const struct ref_spi *was, int r, int sck,
+                  int sdi, int ss)
+{
+    struct ref_spi before = *was;
     struct ledger *l = &p->l;
-    int r = ref_pins(&p->m, sck, sdi, ss);
     int want = 0;
 
     calls++;
@@ -685,6 +696,32 @@ static void do_pins(struct pair *p, int sck, int sdi, int ss)
         }
     }
     demand3(p);
+}
+
+static void do_pins(struct pair *p, int sck, int sdi, int ss)
+{
+    struct ref_spi before = p->m;
+
+    shown(p, &before, ref_pins(&p->m, sck, sdi, ss), sck, sdi, ss);
+}
+
+/* Request Eleven: the merged call is entered as what it stands for. A module
+ * with its own clock does the same whatever SCK is, and whatever SS is unless
+ * it is a frame client. */
+static void do_step(struct pair *p, int sck, int sdi, int ss)
+{
+    struct ref_spi before = p->m, other = p->m;
+    struct ledger *l = &p->l;
+    int own = l_own(l);
+    int r = ref_step(&p->m, sck, sdi, ss);
+
+    CHECK(ref_step(&other, sck != own, sdi, ss != (own && !l_fclient(l))) == r);
+    CHECK(memcmp(&other, &p->m, sizeof other) == 0);
+    st_step[own][l_framed(l)]++;
+    if (own)
+        (void)ticked(p, &before, r, sdi, ss);
+    else
+        shown(p, &before, r, sck, sdi, ss);
 }
 
 static void do_clear(struct pair *p)
@@ -856,16 +893,17 @@ static void random_call(struct pair *p, unsigned mood)
         do_write(p, 3, rnd(0x10000));
     } else if (x < q[0] + q[1]) {
         int n = one_in(2) ? 1 : 1 + (int)rnd(40);
-        int same = one_in(4), often = one_in(3);
+        int same = one_in(4), often = one_in(3), step = one_in(3);
         int i;
         for (i = 0; i < n; i++) {
             int ss = some_ss(l, often);
-            if (l_own(l) ? !one_in(200) : one_in(200)) {
+            int sck = same ? (int)rnd(2) : !l->sck;
+            if (step)
+                do_step(p, l_own(l) ? (int)rnd(2) : sck, (int)rnd(2), ss);
+            else if (l_own(l) ? !one_in(200) : one_in(200))
                 do_tick(p, (int)rnd(2), ss);
-            } else {
-                int sck = same ? (int)rnd(2) : !l->sck;
+            else
                 do_pins(p, sck, (int)rnd(2), ss);
-            }
         }
     } else if (x < q[0] + q[1] + q[2]) {
         do_read(p, 3);
@@ -1012,6 +1050,9 @@ int main(int argc, char **argv)
     for (i = 0; i < 8; i++)
         printf(" %d:%lu", i, st_flagset[i]);
     printf(" standard:%lu\n", st_flagset[8]);
+    printf("merged calls: own clock %lu, framed %lu, pin clock %lu, framed "
+           "%lu\n",
+           st_step[1][0], st_step[1][1], st_step[0][0], st_step[0][1]);
     print_marks();
     print_framed();
     return 0;

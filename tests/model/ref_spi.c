@@ -702,6 +702,17 @@ int ref_pins(struct ref_spi *m, int sck, int sdi, int ss)
     return 0;
 }
 
+/* Request Eleven: one call for a clock step, which asks nobody what kind of
+ * module it is for. One that makes its own clock does what its clock does next,
+ * whatever is at the SCK pin; the levels at the pins move any other. Of the
+ * refusals 2 is left. Here it is made of the two calls above. */
+int ref_step(struct ref_spi *m, int sck, int sdi, int ss)
+{
+    if (own_clock(m))
+        return ref_tick(m, sdi, ss);
+    return ref_pins(m, sck, sdi, ss);
+}
+
 /* ---- Two modules on one wire ----------------------------------------- */
 
 /* What the other end reads: a pin that is let go counts as low. */

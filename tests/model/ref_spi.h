@@ -1,7 +1,7 @@
 /* A second model of the SPI module, written from document 01 of the purchase,
- * with requests One, Three and Four of document 02, and from nothing else. It
- * keeps plain lists and takes one small step for each rule, so that it can be
- * read beside the paper. */
+ * with requests One, Three, Four and Eleven of document 02, and from nothing
+ * else. It keeps plain lists and takes one small step for each rule, so that it
+ * can be read beside the paper. */
 #ifndef REF_SPI_H
 #define REF_SPI_H
 
@@ -52,12 +52,14 @@ struct ref_spi {
 };
 
 /* The calls. Each answers 0 or the papers' refusal number, 1 to 16 but never 4
- * or 12; a tick of an unframed module may also answer REF_NO_EDGE. */
+ * or 12; a tick of an unframed module may also answer REF_NO_EDGE, and so may a
+ * step of one that has its own clock. */
 void ref_power_up(struct ref_spi *m);
 int ref_read(struct ref_spi *m, unsigned reg, unsigned *value);
 int ref_write(struct ref_spi *m, unsigned reg, unsigned value);
 int ref_tick(struct ref_spi *m, int sdi, int ss);
 int ref_pins(struct ref_spi *m, int sck, int sdi, int ss);
+int ref_step(struct ref_spi *m, int sck, int sdi, int ss);
 void ref_clear(struct ref_spi *m);
 
 /* What can be seen from outside without changing anything. */

@@ -9,9 +9,9 @@
 #include <string.h>
 
 const char *const kind_name[KINDS] = {"power-up", "read",   "write",
-                                      "tick",     "pins",   "clear",
-                                      "linked",   "clock",  "levels",
-                                      "play",     "save"};
+                                      "tick",     "pins",   "clock step",
+                                      "clear",    "linked", "clock",
+                                      "levels",   "play",   "save"};
 const char *const view_name[VIEWS] = {"STAT", "CON1", "CON2", "BUF", "levels"};
 
 const thurafeqa_clock_report no_report = {-1, -2, -3};
@@ -85,6 +85,7 @@ uint32_t board_kind(enum kind kind)
     case WRITE: return THURAFEQA_BOARD_WRITE;
     case TICK: return THURAFEQA_BOARD_TICK;
     case PINS: return THURAFEQA_BOARD_PINS;
+    case STEP: return THURAFEQA_BOARD_CLOCK_STEP;
     case CLEAR: return THURAFEQA_BOARD_CLEAR;
     case CLOCK: return THURAFEQA_BOARD_CLOCK;
     default: return THURAFEQA_BOARD_LEVELS;
@@ -93,9 +94,9 @@ uint32_t board_kind(enum kind kind)
 
 void put_on_board(struct call *c, int first, size_t count)
 {
-    static const uint32_t look[] = {8, 9, 255, 256, 0x10000, 0x80000000u,
+    static const uint32_t look[] = {9, 10, 255, 256, 0x10000, 0x80000000u,
                                     0xFFFFFFFFu};
-    static const int arguments[] = {0, 1, 2, 2, 3, 0, 1, 1, 0};
+    static const int arguments[] = {0, 1, 2, 2, 3, 3, 0, 1, 1, 0};
 
     c->board = 1;
     c->first = first;
@@ -161,6 +162,7 @@ static uint32_t ask_header(thurafeqa_board *b, const struct call *c,
     case WRITE: return thurafeqa_board_write(b, c->n, c->x, c->y);
     case TICK: return thurafeqa_board_tick(b, c->n, c->x, c->y);
     case PINS: return thurafeqa_board_pins(b, c->n, c->x, c->y, c->z);
+    case STEP: return thurafeqa_board_clock_step(b, c->n, c->x, c->y, c->z);
     case CLEAR: return thurafeqa_board_clear(b, c->n);
     case LINKED: return thurafeqa_board_run(b, c->n, c->n_other, c->x);
     case CLOCK: return thurafeqa_board_clock(b, c->n, c->x, &o->report);
@@ -234,6 +236,7 @@ void print_call(const struct call *c)
     case TICK: printf(" %" PRIu32 " %" PRIu32, c->x, c->y); break;
     case WRITE: printf(" %" PRIu32 " %04" PRIX32, c->x, c->y); break;
     case PINS:
+    case STEP:
         printf(" %" PRIu32 " %" PRIu32 " %" PRIu32, c->x, c->y, c->z);
         break;
     case LINKED:
@@ -260,6 +263,7 @@ void ask_library(thurafeqa *m, thurafeqa *other, const struct call *c,
     case WRITE: o->answer = thurafeqa_write(m, c->x, c->y); break;
     case TICK: o->answer = thurafeqa_tick(m, c->x, c->y); break;
     case PINS: o->answer = thurafeqa_pins(m, c->x, c->y, c->z); break;
+    case STEP: o->answer = thurafeqa_clock_step(m, c->x, c->y, c->z); break;
     case CLEAR: thurafeqa_clear(m); break;
     case LINKED: o->answer = thurafeqa_linked(m, other, c->x); break;
     case CLOCK: o->answer = thurafeqa_clock(m, c->x, &o->report); break;

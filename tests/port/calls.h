@@ -13,6 +13,7 @@ enum kind {
     WRITE,
     TICK,
     PINS,
+    STEP,
     CLEAR,
     LINKED,
     CLOCK,

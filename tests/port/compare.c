@@ -125,6 +125,13 @@ static int model_save(const struct call *c, unsigned *value)
     return r;
 }
 
+/* What a clock step tells, unless it is refused: the levels after it, and
+ * whether there was no edge. */
+static unsigned as_step(int r, unsigned levels)
+{
+    return levels | (r == REF_NO_EDGE ? THURAFEQA_NO_EDGE : 0u);
+}
+
 static void ask_model(struct ref_spi *m, struct ref_spi *other,
                       const struct call *c, struct outcome *o)
 {
@@ -141,6 +148,10 @@ static void ask_model(struct ref_spi *m, struct ref_spi *other,
         value = r == 0;
         break;
     case PINS: r = ref_pins(m, c->x != 0, c->y != 0, c->z != 0); break;
+    case STEP:
+        r = ref_step(m, c->x != 0, c->y != 0, c->z != 0);
+        value = as_step(r, model_levels(m));
+        break;
     case CLEAR: ref_clear(m); break;
     case LINKED: r = ref_linked(m, other, c->x, &value); break;
     case CLOCK: r = model_report(m, c->x, &value, &o->report); break;
@@ -173,6 +184,11 @@ static void ask_model_board(struct ref_spi *list, uint32_t owed,
         break;
     case PINS:
         r = board_pins(&b, c->n, c->x != 0, c->y != 0, c->z != 0);
+        break;
+    case STEP:
+        r = board_step(&b, c->n, c->x != 0, c->y != 0, c->z != 0);
+        if (board_see(&b, c->n, &seen) == 0)
+            value = as_step(r, as_levels(&seen));
         break;
     case CLEAR: r = board_clear(&b, c->n); break;
     case LINKED:
@@ -544,6 +560,8 @@ static struct {
      * operation reads of a full buffer, and reads with SPIROV up */
     unsigned long lost_standard, read_lost, read_full, read_rov;
     unsigned long edge, no_edge, linked_edges, clock[3];
+    /* clock steps by role: unframed, frame host, frame client; no edge */
+    unsigned long step[ROLES][3], step_no_edge;
     /* finished words: enhanced, role, 16 bits, CKE, CKP */
     unsigned long words[2][ROLES][2][2][2];
     /* those of framed modules: role, frame client, 16 bits, FRMDLY, FRMPOL;
@@ -955,6 +973,7 @@ static uint32_t refusal_behind(const struct call *c, const struct ref_spi *pool)
     case READ:
     case WRITE: return c->x > THURAFEQA_BUF ? THURAFEQA_NO_SUCH_REGISTER : 0;
     case CLOCK: return c->x == 0 ? THURAFEQA_NO_RATE : 0;
+    case STEP: return there && !m->spien ? THURAFEQA_DISABLED : 0;
     case TICK:
     case PINS:
         if (!there)
@@ -1014,10 +1033,11 @@ static void count_carried(const struct call *c, const struct outcome *o,
         reached.fell_disabled += c->kind == WRITE;
         reached.fell_to_none += o->owed == 0;
     }
-    if (c->kind == PINS && before->begun && !after->begun &&
-        before->edges < word_edges(before) - 1 && total_before > 0)
+    if ((c->kind == PINS || c->kind == STEP) && before->begun &&
+        !after->begun && before->edges < word_edges(before) - 1 &&
+        total_before > 0)
         reached.kept_abort += !was_filler && o->owed == total_before;
-    if (c->kind == PINS || c->kind == TICK) {
+    if (c->kind == PINS || c->kind == TICK || c->kind == STEP) {
         reached.kept_filler += !was_filler && is_filler(after) &&
                                o->owed == total_before;
         reached.kept_filler_end += was_filler && !after->begun &&
@@ -1121,6 +1141,11 @@ static void count(const struct call *c, const struct outcome *o,
         count_edge(&before[0], m);
         break;
     case PINS: count_edge(&before[0], m); break;
+    case STEP:
+        reached.step[role_of(m)][is_frame_client(m) ? 2 : is_frame_host(m)]++;
+        reached.step_no_edge += (o->answer & THURAFEQA_NO_EDGE) != 0;
+        count_edge(&before[0], m);
+        break;
     case LINKED:
         reached.linked_edges += edges;
         count_words(m, ((unsigned)before[0].edges + edges) /
@@ -1391,7 +1416,8 @@ static void print_boards(void)
 
 static void print_totals(void)
 {
-    static const enum kind falls[] = {POWER_UP, WRITE, TICK, PINS, LINKED};
+    static const enum kind falls[] = {POWER_UP, WRITE, TICK,
+                                      PINS,     STEP,  LINKED};
     int k;
 
     printf("\nwords owed, handed from call to call:");
@@ -1401,7 +1427,7 @@ static void print_totals(void)
     printf("\n ");
     print_count("rose", reached.rose);
     printf(" fell by");
-    for (k = 0; k < 5; k++)
+    for (k = 0; k < 6; k++)
         print_count(kind_name[falls[k]], reached.fell[falls[k]]);
     print_count("by several", reached.fell_more);
     print_count("by disabling", reached.fell_disabled);
@@ -1418,6 +1444,21 @@ static void print_totals(void)
     print_count("refused", reached.total_refused);
     print_count("stopped at 0", reached.at_none);
     print_count("at 65,535", reached.at_most);
+}
+
+static void print_steps(void)
+{
+    int i;
+
+    printf("\nclock steps: of a");
+    for (i = 0; i < ROLES; i++) {
+        print_count(role_name[i], reached.step[i][0]);
+        if (i == SSEN_CLIENT)
+            continue; /* SSEN does not count in a framed module */
+        print_count("as frame host", reached.step[i][1]);
+        print_count("as frame client", reached.step[i][2]);
+    }
+    print_count("no edge", reached.step_no_edge);
 }
 
 static void print_reached(void)
@@ -1449,6 +1490,7 @@ static void print_reached(void)
     print_count("an edge", reached.edge);
     print_count("no edge", reached.no_edge);
     print_count("edges in linked runs", reached.linked_edges);
+    print_steps();
     printf("\nclock reports:");
     print_count("none", reached.clock[THURAFEQA_CLOCK_NONE]);
     print_count("internal", reached.clock[THURAFEQA_CLOCK_INTERNAL]);
@@ -1622,6 +1664,11 @@ static void tick(int i, int ss)
     make(TICK, i, i, any_level(), some_level(ss), 0);
 }
 
+static void clock_step(int i, int sck, int ss)
+{
+    make(STEP, i, i, some_level(sck), any_level(), some_level(ss));
+}
+
 static void pins(int i, int sck, int ss)
 {
     make(PINS, i, i, some_level(sck), any_level(), some_level(ss));
@@ -1788,7 +1835,9 @@ static void give_edge(int i, uint32_t apart)
         ss = m->ss ? one_in(8) : one_in(150);
     if (is_frame_client(m))
         ss = one_in(apart) ? m->frmpol : !m->frmpol;
-    if (role_of(m) == OWN_CLOCK)
+    if (one_in(3))
+        clock_step(i, role_of(m) == OWN_CLOCK ? (int)below(2) : sck, ss);
+    else if (role_of(m) == OWN_CLOCK)
         tick(i, ss);
     else
         pins(i, sck, ss);

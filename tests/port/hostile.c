@@ -539,6 +539,7 @@ static uint32_t table_refusal(const struct call *c,
     switch (c->kind) {
     case READ:
     case WRITE: return register_refusal(c, seen[0]);
+    case STEP: return enabled(seen[0]) ? 0 : THURAFEQA_DISABLED;
     case TICK:
     case PINS:
         if (!enabled(seen[0]))
@@ -644,6 +645,10 @@ static void hold_answer(const struct call *c, const struct outcome *o,
         hold(value == 1, "a framed host's tick made no edge");
     else if (c->kind == TICK)
         hold(value <= 1, "a tick made more than one edge");
+    else if (c->kind == STEP && (framed(seen[0]) || !own_clock(seen[0])))
+        hold(value < THURAFEQA_NO_EDGE, "a clock step tells no edge");
+    else if (c->kind == STEP)
+        hold(value < 2 * THURAFEQA_NO_EDGE, "a clock step tells other bits");
     else if (c->kind == LINKED)
         hold(value <= c->x, "a linked run made more edges than its limit");
     else if (c->kind == PLAY)
@@ -685,7 +690,8 @@ static void hold_mark(const struct call *c, const uint32_t *before,
     if (!enabled(before) || !enabled(after) || marked(before) == marked(after))
         return;
     hold(marked(after), "a mark went without disabling");
-    hold(c->kind == TICK || c->kind == PINS || c->kind == LINKED,
+    hold(c->kind == TICK || c->kind == PINS || c->kind == STEP ||
+             c->kind == LINKED,
          "a call without an edge set the mark");
     hold((after[STAT] & THURAFEQA_STAT_SPIROV) &&
              (after[CON2] & THURAFEQA_CON2_SPIBEN),
@@ -734,6 +740,8 @@ static int no_effect(const struct call *c, const struct outcome *o)
         return 1;
     if (c->kind == READ)
         return c->x != THURAFEQA_BUF;
+    if (c->kind == STEP)
+        return (o->answer & THURAFEQA_NO_EDGE) != 0;
     return c->kind == TICK && thurafeqa_value(o->answer) == 0;
 }
 
@@ -766,6 +774,9 @@ static void make(void)
              "a call before this one had an effect that it should not have");
     }
     see_both(after);
+    if (now.kind == STEP && thurafeqa_refusal(o[0].answer) == 0)
+        hold((o[0].answer & ~THURAFEQA_NO_EDGE) == after[0][LEVELS],
+             "a clock step tells other levels than a look");
     if (now.kind == PLAY && !spared)
         hold_play(after[0]);
     for (i = 0; i < 2; i++) {
@@ -794,9 +805,9 @@ static uint32_t some_argument(void)
 /* An edge of the module's own kind, seldom with SS high. */
 static void choose_edge(void)
 {
-    now.kind = own_clock(seen[0]) ? TICK : PINS;
+    now.kind = one_in(3) ? STEP : own_clock(seen[0]) ? TICK : PINS;
     now.x = now.y = below(2);
-    if (now.kind == PINS)
+    if (now.kind == PINS || (now.kind == STEP && !own_clock(seen[0])))
         now.x = !(seen[0][LEVELS] & THURAFEQA_LEVELS_SCK);
     now.z = one_in(8);
 }
@@ -959,7 +970,7 @@ static void hold_move(const struct outcome *o, const uint32_t *shown, long move)
         hold(move == 0, "a call moved the total, and should not have");
     else if (now.kind == WRITE && now.x == THURAFEQA_BUF)
         hold(move == 1, "an accepted word did not move the total by one");
-    else if (now.kind == TICK || now.kind == PINS)
+    else if (now.kind == TICK || now.kind == PINS || now.kind == STEP)
         hold(move == 0 || move == -1, "an edge moved the total by more");
     else if (now.kind == LINKED || now.kind == POWER_UP)
         hold(move <= 0, "the total rose without an accepted word");

@@ -1,7 +1,7 @@
 -- Calls by their kind, and what is told of each kind.
 --     asked-as     a kind that is a number asks what that number asks
 --     asked-look   any other kind is a look
---     made, powered, reported, looked   what is told of each
+--     made, powered, reported, looked, stepped   what is told of each
 --     few, many, right                            whether a list of so many is wrong
 --     refuses-list, refuses-module, refuses-not   the board's test, by what it finds
 --     pair-first, pair-twice, pair-second          that of a linked run, by the tests of its two modules
@@ -18,14 +18,14 @@ use Rattle.laws.specs.Choice.{if_then_else_}
 use Rattle.laws.proofs.Choices.{so, not-so, not-so-eq}
 use Rattle.spi_types.specs.declared.Call.{Call}
 use Rattle.spi_rules.specs.RefusalTable.{row, firstNumber}
-use Rattle.spi_rules.specs.Calls.{poweredUp, performOf}
+use Rattle.spi_rules.specs.Calls.{poweredUp, clockStepOf, performOf}
 use Rattle.spi_clock_rules.specs.Clock.{reportOf, saidClock}
 use Rattle.spi_board_rules.specs.declared.BoardCall.{BoardCall}
-use Rattle.spi_board_rules.specs.declared.BoardCall.the-variants.{PowerUp, Make, Report, Look}
+use Rattle.spi_board_rules.specs.declared.BoardCall.the-variants.{PowerUp, Make, Report, Look, StepAndLook}
 use Rattle.spi_board_rules.specs.Board.{answerAlone, afterAlone, seenOf}
 use Rattle.spi_board_rules.specs.BoardDemands.{boardRows}
 use Rattle.spi_memory.specs.Memory.{moduleIn}
-use Rattle.spi_numbers.specs.Told.{Tells, levelsNumber, ClockTells}
+use Rattle.spi_numbers.specs.Told.{Tells, levelsNumber, StepTells, ClockTells}
 use Rattle.spi_board.specs.Boards.{askedOf, boardNumber, floatsAfter, callFault, pairFault, MakeTells}
 
 module _ {r : ℕ} {floats floatsAt : List Float} {before after : List ℕ} where
@@ -34,12 +34,12 @@ module _ {r : ℕ} {floats floatsAt : List Float} {before after : List ℕ} wher
   asked-as k x y z e h = subst (λ (j : ℕ). MakeTells (askedOf j x y z) r floats floatsAt before after) (sym e) h
 
   pub asked-look : (x y z : ℕ) {kind : ℕ} → (kind ≡ 0 → ⊥) → (kind ≡ 1 → ⊥) → (kind ≡ 2 → ⊥) → (kind ≡ 3 → ⊥) → (kind ≡ 4 → ⊥) →
-      (kind ≡ 5 → ⊥) → (kind ≡ 6 → ⊥) → MakeTells Look r floats floatsAt before after → MakeTells (askedOf kind x y z) r floats floatsAt before after
+      (kind ≡ 5 → ⊥) → (kind ≡ 6 → ⊥) → (kind ≡ 8 → ⊥) → MakeTells Look r floats floatsAt before after → MakeTells (askedOf kind x y z) r floats floatsAt before after
   unfolding askedOf
-  asked-look x y z {kind} n0 n1 n2 n3 n4 n5 n6 h =
+  asked-look x y z {kind} n0 n1 n2 n3 n4 n5 n6 n8 h =
       let is : Look ≡ askedOf kind x y z =
       not-so-eq kind 0 _ _ n0 (not-so-eq kind 1 _ _ n1 (not-so-eq kind 2 _ _ n2 (not-so-eq kind 3 _ _ n3 (not-so-eq kind 4 _ _ n4
-      (not-so-eq kind 5 _ _ n5 (not-so-eq kind 6 _ _ n6 refl))))))
+      (not-so-eq kind 5 _ _ n5 (not-so-eq kind 6 _ _ n6 (not-so-eq kind 8 _ _ n8 refl)))))))
       in
       subst (λ (c : BoardCall). MakeTells c r floats floatsAt before after) is h
 
@@ -60,6 +60,12 @@ reported h = record { number = h .number; holds = refl; report = h .report; unto
 pub looked : {r : ℕ} {floats : List Float} {before : List ℕ} → r ≡ levelsNumber (moduleIn before) → MakeTells Look r floats floats before before
 unfolding boardNumber answerAlone afterAlone floatsAfter seenOf levelsNumber
 looked e = record { number = e; holds = refl; report = refl; untouched = λ _. refl }
+
+pub stepped : {sck sdi ss : Bool} {r : ℕ} {floats : List Float} {before after : List ℕ} →
+    StepTells (clockStepOf (moduleIn before) sck sdi ss) r before after →
+    MakeTells (StepAndLook sck sdi ss) r floats floats before after
+unfolding boardNumber answerAlone afterAlone floatsAfter seenOf levelsNumber
+stepped h = record { number = h .number; holds = h .holds; report = refl; untouched = h .untouched }
 
 -- The board's test.
 unfoldable pub bad : ℕ → Bool

@@ -12,16 +12,16 @@ use Rattle.spi_types.specs.declared.Call.the-variants.{Read, Write, Tick, Pin, 
 use Rattle.spi_rules.specs.RefusalTable.{firstNumber}
 use Rattle.spi_clock_rules.specs.Clock.{saidClock}
 use Rattle.spi_board_rules.specs.declared.BoardCall.{BoardCall}
-use Rattle.spi_board_rules.specs.declared.BoardCall.the-variants.{PowerUp, Make, Report, Look}
+use Rattle.spi_board_rules.specs.declared.BoardCall.the-variants.{PowerUp, Make, Report, Look, StepAndLook}
 use Rattle.spi_board_rules.specs.declared.BoardAnswer.{BoardAnswer}
-use Rattle.spi_board_rules.specs.declared.BoardAnswer.the-variants.{Refused, Powered, Made, Told, Shown}
+use Rattle.spi_board_rules.specs.declared.BoardAnswer.the-variants.{Refused, Powered, Made, Told, Shown, Stepped}
 use Rattle.spi_board_rules.specs.declared.PairAnswer.{PairAnswer}
 use Rattle.spi_board_rules.specs.Board.{boardNumberOf, answerAlone, afterAlone, boardOf, pairOf}
 use Rattle.spi_board_rules.specs.BoardDemands.{boardRows, pairRows}
 use Rattle.spi_memory.specs.Memory.{moduleIn}
 use Rattle.spi_module.specs.Answered.{untouching}
 use Rattle.spi_link.specs.Wire.{isRefused}
-use Rattle.spi_numbers.specs.Told.{answerNumber, levelIn, seenNumber, clockNumber, clockFloats, linkNumber}
+use Rattle.spi_numbers.specs.Told.{answerNumber, levelIn, seenNumber, stepNumber, clockNumber, clockFloats, linkNumber}
 use Rattle.spi_board.specs.declared.Cells.{Cells}
 use Rattle.spi_board_rules.specs.declared.PairAnswer.the-variants as pair
 
@@ -50,6 +50,7 @@ askedOf kind x y z =
     else if eqb kind 4 then Make (Pin (levelIn x) (levelIn y) (levelIn z))
     else if eqb kind 5 then Make Clear
     else if eqb kind 6 then Report x
+    else if eqb kind 8 then StepAndLook (levelIn x) (levelIn y) (levelIn z)
     else Look
 
 -- An answer as one number: the upper 16 bits are the refusal number, 0 if it was not refused, the lower 16 bits what the same call
@@ -60,6 +61,7 @@ boardNumber Powered = 0
 boardNumber (Made a) = answerNumber a
 boardNumber (Told r) = clockNumber (saidClock r)
 boardNumber (Shown s) = seenNumber (s .interrupt) (s .sck) (s .sdo) (s .ss)
+boardNumber (Stepped a s) = stepNumber a (seenNumber (s .interrupt) (s .sck) (s .sdo) (s .ss))
 
 unfoldable pub pairNumber : PairAnswer → ℕ
 pairNumber (pair.Refused w) = boardNumberOf w * 65536
@@ -72,6 +74,7 @@ floatsAfter Powered before = before
 floatsAfter (Made a) before = before
 floatsAfter (Told r) before = clockFloats (saidClock r) before
 floatsAfter (Shown s) before = before
+floatsAfter (Stepped a s) before = before
 
 -- The answers of calls that leave every number of every record as it was.
 abbrev pub keepsAll : BoardAnswer → Bool
@@ -80,6 +83,7 @@ keepsAll Powered = false
 keepsAll (Made a) = untouching a
 keepsAll (Told r) = true
 keepsAll (Shown s) = true
+keepsAll (Stepped a s) = untouching a
 
 abbrev pub pairKeepsAll : PairAnswer → Bool
 pairKeepsAll (pair.Refused w) = true
@@ -100,7 +104,7 @@ pub record MakeTells (c : BoardCall) (r : ℕ) (floats floatsAt : List Float) (b
   pub untouched : keepsAll (answerAlone (moduleIn before) c) ≡ true → after ≡ before
 
 -- After a call of module `n` the list holds the definition's modules, and the lent memory the floats of a report. A call that is
--- refused, a tick with no edge, a report and a look leave every number of the list as it was; any other call leaves those of every
+-- refused, a tick or a clock step with no edge, a report and a look leave every number of the list as it was; any other call leaves those of every
 -- other record.
 pub record BoardLeaves (n : ℕ) (c : BoardCall) (floats floatsAt : List Float) (before after : List Cells) : Type 0 where
   pub holds : modulesIn after ≡ boardOf (modulesIn before) n c .after

@@ -64,6 +64,9 @@ pub fn make(w: &mut [u16; 96], kind: u32, x: u32, y: u32, z: u32, report: &mut [
     if kind == 4 {
         return spi_numbers::pins(w, x != 0, y != 0, z != 0);
     }
+    if kind == 8 {
+        return spi_numbers::clock_step(w, x != 0, y != 0, z != 0);
+    }
     if kind == 1 {
         return spi_numbers::read(w, x);
     }

@@ -19,11 +19,11 @@ use Rattle.laws.specs.Choice.{if_then_else_}
 use Rattle.laws.proofs.Keeps.{if-false, by-test, or-left, or-right}
 use Rattle.spi_types.specs.declared.Module.{Module}
 use Rattle.spi_rules.specs.RefusalTable.{row, firstNumber}
-use Rattle.spi_rules.specs.Calls.{poweredUp}
+use Rattle.spi_rules.specs.Calls.{poweredUp, performOf}
 use Rattle.spi_link_rules.specs.declared.Linked.{Linked}
 use Rattle.spi_link_rules.specs.Link.{linkedOf}
 use Rattle.spi_board_rules.specs.declared.BoardCall.{BoardCall}
-use Rattle.spi_board_rules.specs.declared.BoardCall.the-variants.{PowerUp, Make, Report, Look}
+use Rattle.spi_board_rules.specs.declared.BoardCall.the-variants.{PowerUp, Make, Report, Look, StepAndLook}
 use Rattle.spi_board_rules.specs.declared.BoardFault.the-variants.{BadList, NoModule}
 use Rattle.spi_board_rules.specs.Board.{Boarded, Paired, boardNumberOf, badList, noModule, noPair, moduleAt, seenOf, answerAlone, afterAlone, refuseCall, refusePair, boardOf, ranOf, pairOf}
 use Rattle.spi_board_rules.specs.BoardDemands.{faultIn, pairFaultIn, boardRows, pairRows, at, Alone, Joined}
@@ -66,6 +66,7 @@ no-fault m PowerUp = refl
 no-fault m (Make c) = refl
 no-fault m (Report f) = refl
 no-fault m Look = refl
+no-fault m (StepAndLook sck sdi ss) = refl
 
 module _ (ms : List Module) (n : ℕ) (c : BoardCall) where
   pub call-refused-exactly : faultIn (boardOf ms n c .answer) ≡ firstNumber (boardRows (length ms) n)
@@ -149,7 +150,7 @@ module _ (ms : List Module) (n : ℕ) (m : Module) where
   stays-at k h = getD-set-other ms n k m poweredUp (λ e. h (sym e))
 
 pub alone : (ms : List Module) (n : ℕ) → firstNumber (boardRows (length ms) n) ≡ 0 → Alone ms n
-unfolding answerAlone afterAlone moduleAt seenOf
+unfolding answerAlone afterAlone moduleAt seenOf performOf
 alone ms n e =
     let here = named-below ms n e in
     let does : (c : BoardCall) → (boardOf ms n c .answer ≡ answerAlone (at ms n) c) × (at (boardOf ms n c .after) n ≡ afterAlone (at ms n) c) =
@@ -159,6 +160,7 @@ alone ms n e =
       made = λ c. does (Make c);
       reported = λ f. does (Report f);
       shown = does Look;
+      stepped = λ sck sdi ss. does (StepAndLook sck sdi ss);
       others = λ c. record {
         same = ap length (call-is ms n c e .1) ∙ length-set ms n _;
         stay = λ k off. ap (λ (l : List Module). at l k) (call-is ms n c e .1) ∙ stays-at ms n _ k (eqb-false n k off);

@@ -11,6 +11,7 @@ use lib.ListN.{length, replicate, getD-replicate}
 use Rattle.laws.proofs.Keeps.{if-keeps, by-test, and-left, and-right, and-rest}
 use Rattle.spi_types.specs.declared.Module.{Module}
 use Rattle.spi_types.specs.declared.Call.{Call}
+use Rattle.spi_types.specs.declared.Call.the-variants.{ClockStep}
 use Rattle.spi_rules.specs.RefusalTable.{firstNumber}
 use Rattle.spi_rules.specs.Calls.{poweredUp, performOf, afterCalls}
 use Rattle.spi_rules.specs.Lives.{powerUp, begins, life}
@@ -19,7 +20,7 @@ use Rattle.spi_link_rules.specs.LinkDemands.{runHostCalls, runClientCalls, refu
 use Rattle.spi_link_rules.proofs.LinkRuns.{link-calls}
 use Rattle.spi_link_rules.proofs.LinkDemandsHold.{linked-runs, made}
 use Rattle.spi_board_rules.specs.declared.BoardCall.{BoardCall}
-use Rattle.spi_board_rules.specs.declared.BoardCall.the-variants.{PowerUp, Make, Report, Look}
+use Rattle.spi_board_rules.specs.declared.BoardCall.the-variants.{PowerUp, Make, Report, Look, StepAndLook}
 use Rattle.spi_board_rules.specs.Board.{boardOf, pairOf, Step, one, two, boardStepped, boardAfter}
 use Rattle.spi_board_rules.specs.BoardDemands.{boardRows, pairRows, at, ownAfterCall, ownAfterRun, ownAfter, ownCalls}
 use Rattle.spi_board_rules.proofs.BoardCalls.{some, or-both, call-refused-exactly, call-refused-unchanged, pair-refused-exactly, pair-refused-unchanged, alone, joined}
@@ -33,6 +34,9 @@ module _ (ms : List Module) (k : ℕ) (own : List Call) (here : at ms k ≡ afte
       alone ms k e .made c .1 ∙ ap (λ (m : Module). performOf m c .after) here ∙ sym (reaches-append own (c ∷ []) poweredUp)
   named (Report f) e = alone ms k e .reported f .1 ∙ here
   named Look e = alone ms k e .shown .1 ∙ here
+  named (StepAndLook sck sdi ss) e =
+      let c : Call = ClockStep sck sdi ss in
+      alone ms k e .stepped sck sdi ss .1 ∙ ap (λ (m : Module). performOf m c .after) here ∙ sym (reaches-append own (c ∷ []) poweredUp)
 
   -- It is not named, or the call is refused.
   not-named : (n : ℕ) (c : BoardCall) → (eqb (firstNumber (boardRows (length ms) n)) 0 && eqb n k) ≡ false → at (boardOf ms n c .after) k ≡ at ms k

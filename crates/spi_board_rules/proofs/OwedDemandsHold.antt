@@ -14,13 +14,14 @@ use Rattle.laws.proofs.Keeps.{if-true, if-false, by-test, clash, or-left, or-ri
 use Rattle.spi_types.specs.declared.Module.{Module}
 use Rattle.spi_rules.specs.RefusalTable.{row, firstNumber}
 use Rattle.spi_rules.specs.Invariant.{ModuleHolds}
-use Rattle.spi_rules.specs.Calls.{poweredUp}
+use Rattle.spi_types.specs.declared.Call.the-variants.{ClockStep}
+use Rattle.spi_rules.specs.Calls.{poweredUp, performOf}
 use Rattle.spi_rules.specs.Lives.{powerUp}
 use Rattle.spi_invariant.proofs.Holds.{call-keeps, reached-holds}
 use Rattle.spi_link_rules.specs.Link.{linkedOf}
 use Rattle.spi_link_rules.proofs.LinkRuns.{link-holds}
 use Rattle.spi_board_rules.specs.declared.BoardCall.{BoardCall}
-use Rattle.spi_board_rules.specs.declared.BoardCall.the-variants.{PowerUp, Make, Report, Look}
+use Rattle.spi_board_rules.specs.declared.BoardCall.the-variants.{PowerUp, Make, Report, Look, StepAndLook}
 use Rattle.spi_board_rules.specs.declared.BoardFault.the-variants.{BadList}
 use Rattle.spi_board_rules.specs.declared.OwedAnswer.the-variants.{Refused, Owes}
 use Rattle.spi_board_rules.specs.Board.{boardNumberOf, badList, noModule, noPair, moduleAt, afterAlone, ranOf, boardOf, pairOf, Paired, Step, one, two, boardStepped, boardAfter}
@@ -46,11 +47,12 @@ tells-law false n e = refl
 
 -- What a call makes of a module that calls reach.
 alone-holds : (m : Module) (c : BoardCall) → ModuleHolds m → ModuleHolds (afterAlone m c)
-unfolding afterAlone
+unfolding afterAlone performOf
 alone-holds m PowerUp h = reached-holds []
 alone-holds m (Make c) h = call-keeps m c h
 alone-holds m (Report f) h = h
 alone-holds m Look h = h
+alone-holds m (StepAndLook sck sdi ss) h = call-keeps m (ClockStep sck sdi ss) h
 
 -- The list's length is right, and the module is there: the rows of the table do not apply.
 rows-off : (a b : Bool) → (a || b) ≡ false → firstNumber (row 21 a ∷ row 22 b ∷ []) ≡ 0

@@ -7,17 +7,18 @@ use lib.Dec.{eqb, leb, ltb}
 use lib.ListN.{length, getD, set}
 use Rattle.laws.specs.Choice.{if_then_else_}
 use Rattle.spi_types.specs.declared.Module.{Module}
-use Rattle.spi_rules.specs.Calls.{poweredUp, performOf, interruptOf, sckOf, sdoOf, ssOf}
+use Rattle.spi_types.specs.declared.Outcome.{Outcome}
+use Rattle.spi_rules.specs.Calls.{poweredUp, clockStepOf, performOf, interruptOf, sckOf, sdoOf, ssOf}
 use Rattle.spi_link_rules.specs.declared.Linked.{Linked}
 use Rattle.spi_link_rules.specs.Link.{linkedOf}
 use Rattle.spi_clock_rules.specs.Clock.{reportOf}
 use Rattle.spi_board_rules.specs.declared.BoardCall.{BoardCall}
-use Rattle.spi_board_rules.specs.declared.BoardCall.the-variants.{PowerUp, Make, Report, Look}
+use Rattle.spi_board_rules.specs.declared.BoardCall.the-variants.{PowerUp, Make, Report, Look, StepAndLook}
 use Rattle.spi_board_rules.specs.declared.Seen.{Seen}
 use Rattle.spi_board_rules.specs.declared.BoardFault.{BoardFault}
 use Rattle.spi_board_rules.specs.declared.BoardFault.the-variants.{BadList, NoModule}
 use Rattle.spi_board_rules.specs.declared.BoardAnswer.{BoardAnswer}
-use Rattle.spi_board_rules.specs.declared.BoardAnswer.the-variants.{Refused, Powered, Made, Told, Shown}
+use Rattle.spi_board_rules.specs.declared.BoardAnswer.the-variants.{Refused, Powered, Made, Told, Shown, Stepped}
 use Rattle.spi_board_rules.specs.declared.PairAnswer.{PairAnswer}
 use Rattle.spi_board_rules.specs.declared.PairAnswer.the-variants as pair
 
@@ -57,18 +58,24 @@ moduleAt ms n = getD ms n poweredUp
 unfoldable pub seenOf : Module → Seen
 seenOf m = record { interrupt = interruptOf m; sck = sckOf m; sdo = sdoOf m; ss = ssOf m }
 
+-- A clock step answers, of every module alike, no edge or done, and what is seen after it (document 02, Eleven).
+abbrev pub steppedAs : Outcome → BoardAnswer
+steppedAs o = Stepped (o .answer) (seenOf (o .after))
+
 -- What a module alone answers to a call, and the module after it. A report and a look change nothing.
 unfoldable pub answerAlone : Module → BoardCall → BoardAnswer
 answerAlone m PowerUp = Powered
 answerAlone m (Make c) = Made (performOf m c .answer)
 answerAlone m (Report f) = Told (reportOf m f)
 answerAlone m Look = Shown (seenOf m)
+answerAlone m (StepAndLook sck sdi ss) = steppedAs (clockStepOf m sck sdi ss)
 
 unfoldable pub afterAlone : Module → BoardCall → Module
 afterAlone m PowerUp = poweredUp
 afterAlone m (Make c) = performOf m c .after
 afterAlone m (Report f) = m
 afterAlone m Look = m
+afterAlone m (StepAndLook sck sdi ss) = clockStepOf m sck sdi ss .after
 
 -- A refusal leaves the list as it was.
 unfoldable pub refuseCall : List Module → BoardFault → Boarded

@@ -8,6 +8,7 @@ use lib.ListN.{length, getD, replicate}
 use Rattle.laws.specs.Choice.{if_then_else_}
 use Rattle.spi_types.specs.declared.Module.{Module}
 use Rattle.spi_types.specs.declared.Call.{Call}
+use Rattle.spi_types.specs.declared.Call.the-variants.{ClockStep}
 use Rattle.spi_rules.specs.RefusalTable.{Row, row, firstNumber}
 use Rattle.spi_rules.specs.Calls.{poweredUp, performOf, interruptOf, sckOf, sdoOf, ssOf}
 use Rattle.spi_rules.specs.Lives.{powerUp, life}
@@ -15,9 +16,10 @@ use Rattle.spi_link_rules.specs.Link.{linkedOf}
 use Rattle.spi_link_rules.specs.LinkDemands.{runHostCalls, runClientCalls, refusalOf}
 use Rattle.spi_clock_rules.specs.Clock.{reportOf}
 use Rattle.spi_board_rules.specs.declared.BoardCall.{BoardCall}
-use Rattle.spi_board_rules.specs.declared.BoardCall.the-variants.{PowerUp, Make, Report, Look}
+use Rattle.spi_board_rules.specs.declared.BoardCall.the-variants.{PowerUp, Make, Report, Look, StepAndLook}
+use Rattle.spi_board_rules.specs.declared.Seen.{Seen}
 use Rattle.spi_board_rules.specs.declared.BoardAnswer.{BoardAnswer}
-use Rattle.spi_board_rules.specs.declared.BoardAnswer.the-variants.{Refused, Powered, Made, Told, Shown}
+use Rattle.spi_board_rules.specs.declared.BoardAnswer.the-variants.{Refused, Powered, Made, Told, Shown, Stepped}
 use Rattle.spi_board_rules.specs.declared.PairAnswer.{PairAnswer}
 use Rattle.spi_board_rules.specs.Board.{Boarded, Paired, boardNumberOf, boardOf, pairOf, Step, one, two, boardStepped, boardAfter}
 use Rattle.spi_board_rules.specs.BoardExamples.{boardExamples}
@@ -30,6 +32,7 @@ faultIn Powered = 0
 faultIn (Made a) = 0
 faultIn (Told r) = 0
 faultIn (Shown s) = 0
+faultIn (Stepped a s) = 0
 
 abbrev pub pairFaultIn : PairAnswer → ℕ
 pairFaultIn (pair.Refused w) = boardNumberOf w
@@ -61,6 +64,10 @@ pub record Others (named : ℕ → Bool) (before after : List Module) : Type 0 w
   pub same : length after ≡ length before
   pub stay : (k : ℕ) → named k ≡ false → at after k ≡ at before k
 
+-- What is seen of a module: the interrupt flag, SCK, and the pins SDO and SS.
+abbrev pub seenIn : Module → Seen
+seenIn m = record { interrupt = interruptOf m; sck = sckOf m; sdo = sdoOf m; ss = ssOf m }
+
 -- What a call of one module, which the board hands on, answers and does: that of the module alone.
 pub record Alone (ms : List Module) (n : ℕ) : Type 0 where
   pub powered : (boardOf ms n PowerUp .answer ≡ Powered) × (at (boardOf ms n PowerUp .after) n ≡ poweredUp)
@@ -69,10 +76,11 @@ pub record Alone (ms : List Module) (n : ℕ) : Type 0 where
       × (at (boardOf ms n (Make c) .after) n ≡ performOf (at ms n) c .after)
   pub reported : (f : ℕ) →
       (boardOf ms n (Report f) .answer ≡ Told (reportOf (at ms n) f)) × (at (boardOf ms n (Report f) .after) n ≡ at ms n)
-  pub shown :
-      (boardOf ms n Look .answer
-      ≡ Shown (record { interrupt = interruptOf (at ms n); sck = sckOf (at ms n); sdo = sdoOf (at ms n); ss = ssOf (at ms n) }))
-      × (at (boardOf ms n Look .after) n ≡ at ms n)
+  pub shown : (boardOf ms n Look .answer ≡ Shown (seenIn (at ms n))) × (at (boardOf ms n Look .after) n ≡ at ms n)
+  pub stepped : (sck sdi ss : Bool) →
+      (boardOf ms n (StepAndLook sck sdi ss) .answer
+      ≡ Stepped (performOf (at ms n) (ClockStep sck sdi ss) .answer) (seenIn (performOf (at ms n) (ClockStep sck sdi ss) .after)))
+      × (at (boardOf ms n (StepAndLook sck sdi ss) .after) n ≡ performOf (at ms n) (ClockStep sck sdi ss) .after)
   pub others : (c : BoardCall) → Others (eqb n) ms (boardOf ms n c .after)
 
 -- What a linked run of two modules, which the board hands on, answers and does: that of the two alone.
@@ -89,6 +97,7 @@ ownAfterCall own PowerUp = []
 ownAfterCall own (Make c) = own ++ (c ∷ [])
 ownAfterCall own (Report f) = own
 ownAfterCall own Look = own
+ownAfterCall own (StepAndLook sck sdi ss) = own ++ (ClockStep sck sdi ss ∷ [])
 
 abbrev pub ownAfterRun : ℕ → List Module → List Call → ℕ → ℕ → ℕ → List Call
 ownAfterRun k ms own a b limit =

@@ -13,9 +13,9 @@ use Rattle.spi_rules.specs.Calls.{poweredUp}
 use Rattle.spi_link_rules.specs.Link.{linkSaidOf}
 use Rattle.spi_clock_rules.specs.Clock.{saidClock}
 use Rattle.spi_board_rules.specs.declared.BoardCall.{BoardCall}
-use Rattle.spi_board_rules.specs.declared.BoardCall.the-variants.{PowerUp, Make, Report, Look}
+use Rattle.spi_board_rules.specs.declared.BoardCall.the-variants.{PowerUp, Make, Report, Look, StepAndLook}
 use Rattle.spi_board_rules.specs.declared.BoardAnswer.{BoardAnswer}
-use Rattle.spi_board_rules.specs.declared.BoardAnswer.the-variants.{Refused, Powered, Made, Told, Shown}
+use Rattle.spi_board_rules.specs.declared.BoardAnswer.the-variants.{Refused, Powered, Made, Told, Shown, Stepped}
 use Rattle.spi_board_rules.specs.declared.PairAnswer.{PairAnswer}
 use Rattle.spi_board_rules.specs.Board.{boardNumberOf, boardOf, pairOf, Step, one, two, boardAfter}
 use Rattle.spi_board_rules.specs.declared.PairAnswer.the-variants as pair
@@ -34,6 +34,7 @@ refusedWith Powered = 0
 refusedWith (Made a) = saidOf a .number
 refusedWith (Told r) = saidClock r .number
 refusedWith (Shown s) = 0
+refusedWith (Stepped a s) = saidOf a .number
 
 abbrev pub valueOf : BoardAnswer → ℕ
 valueOf (Refused w) = 0
@@ -41,6 +42,7 @@ valueOf Powered = 0
 valueOf (Made a) = saidOf a .value
 valueOf (Told r) = 0
 valueOf (Shown s) = 0
+valueOf (Stepped a s) = 0
 
 abbrev pub pairRefusedWith : PairAnswer → ℕ
 pairRefusedWith (pair.Refused w) = boardNumberOf w
@@ -106,6 +108,12 @@ boardExamples =
     ∷ gives (fresh 2) 1 (Report 0) 8
     ∷ gives (fresh 1) 1 Look 22
     ∷ gives [] 9 Look 21
+    -- a clock step (document 02, Eleven): 21, 22, then 2
+    ∷ gives (fresh 5) 5 (StepAndLook true true true) 21
+    ∷ gives (fresh 4) 4 (StepAndLook true true true) 22
+    ∷ gives (fresh 4) 3 (StepAndLook true true true) 2
+    ∷ gives (after 4 ready) 1 (StepAndLook true true true) 0
+    ∷ gives (after 4 ready) 3 (StepAndLook true true true) 0
     -- no such module, and the same one twice, before 11; and after 21
     ∷ pairGives (fresh 4) 4 0 289 22
     ∷ pairGives (fresh 4) 0 4 289 22

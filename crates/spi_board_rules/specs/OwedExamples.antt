@@ -6,7 +6,7 @@ use lib.Dec.{eqb}
 use lib.ListN.{replicate}
 use Rattle.spi_types.specs.declared.Call.the-variants.{Tick, Pin}
 use Rattle.spi_board_rules.specs.declared.BoardCall.{BoardCall}
-use Rattle.spi_board_rules.specs.declared.BoardCall.the-variants.{PowerUp, Make}
+use Rattle.spi_board_rules.specs.declared.BoardCall.the-variants.{PowerUp, Make, StepAndLook}
 use Rattle.spi_board_rules.specs.declared.OwedAnswer.{OwedAnswer}
 use Rattle.spi_board_rules.specs.declared.OwedAnswer.the-variants.{Refused, Owes}
 use Rattle.spi_board_rules.specs.Board.{boardNumberOf, Step, one, two, boardAfter}
@@ -45,6 +45,9 @@ tick = Make (Tick false false)
 abbrev pub pins : Bool → Bool → BoardCall
 pins sck ss = Make (Pin sck false ss)
 
+abbrev pub step : Bool → Bool → BoardCall
+step sck ss = StepAndLook sck false ss
+
 -- A host in enhanced operation at 1 with three words.
 abbrev pub host : List Step
 host = calls 1 (write 1 0x0020 ∷ write 2 0x0001 ∷ write 0 0x8000 ∷ write 3 0x00A5 ∷ write 3 0x003C ∷ write 3 0x0081 ∷ [])
@@ -70,6 +73,11 @@ owedExamples =
     ∷ owes 4 (host ++ calls 1 (replicate 16 tick)) 2
     ∷ owes 4 (host ++ calls 1 (replicate 48 tick)) 0
     ∷ owes 4 (host ++ calls 1 (replicate 49 tick)) 0
+    -- by clock steps too (document 02, Eleven), whatever SCK is
+    ∷ owes 4 (host ++ calls 1 (replicate 15 (step true true))) 3
+    ∷ owes 4 (host ++ calls 1 (replicate 16 (step true false))) 2
+    ∷ owes 4 (client ++ calls 0 (step true true ∷ [])) 1
+    ∷ leaves7 4 (one 2 (step true true) ∷ one 4 (step true true) ∷ [])
     -- a begun word of an SSEN client counts once, an abort leaves it, a filler never counts
     ∷ owes 4 client 1
     ∷ owes 4 (client ++ calls 0 (pins true true ∷ [])) 1

@@ -6,12 +6,14 @@ use spi_types::Answer;
 use spi_types::Call;
 use spi_types::Output;
 
-// A call of one module of the board: power-up, a call, a clock report for an instruction rate, or a look at its pins.
+// A call of one module of the board: power-up, a call, a clock report for an instruction rate, a look at its pins, or a clock step with
+// the levels SCK, SDI and SS and a look at its pins after it.
 pub enum BoardCall {
     PowerUp,
     Make(Call),
     Report(u32),
     Look,
+    StepAndLook(bool, bool, bool),
 }
 
 // What a look sees: the interrupt flag, and the levels of SCK, SDO and SS.
@@ -36,6 +38,7 @@ pub enum BoardAnswer {
     Made(Answer),
     Told(Reported),
     Shown(Seen),
+    Stepped(Answer, Seen),
 }
 
 // What a linked run of two modules of the board answers: why the board refuses it, or what the two alone answer.

@@ -5,7 +5,7 @@
 use Prim.Native.Nat.{ℕ, _≤_}
 use mathlib.Core.Bool.{Bool, true, false, not, _&&_, _||_, or-false}
 use mathlib.Core.List.{List, []}
-use mathlib.Core.Path.{_≡_, refl, sym, ap, subst₂, _∙_}
+use mathlib.Core.Path.{_≡_, refl, sym, ap, ap₂, subst₂, _∙_}
 use native.Mathlib.Omega.{arith}
 use borrow.Author.Tests.{leb-false, eqb-true, ne-eqb, not-true, not-false}
 use lib.Dec.{eqb, ltb}
@@ -22,19 +22,20 @@ use Rattle.spi_types.specs.declared.Answer.the-variants.{Refused, Done, Value, 
 use Rattle.spi_types.specs.declared.Refusal.{Refusal}
 use Rattle.spi_types.specs.declared.Outcome.{Outcome}
 use Rattle.spi_types.specs.declared.Call.{Call}
-use Rattle.spi_types.specs.declared.Call.the-variants.{Read, Write, Tick, Pin, Clear}
+use Rattle.spi_types.specs.declared.Call.the-variants.{Read, Write, Tick, Pin, ClockStep, Clear}
 use Rattle.spi_types.specs.declared.Receive.{Receive}
 use Rattle.spi_types.specs.declared.Transmit.{Transmit}
-use Rattle.spi_rules.specs.Settings.{depthOf, frameClient, clockStops, ownClock}
-use Rattle.spi_rules.specs.Registers.{isFree, spitbf, lowBits, statSettings, statEngine, enabledEngine, disabledEngine, spirovAfter}
+use Rattle.spi_rules.specs.Settings.{depthOf, frameClient, ownClock}
+use Rattle.spi_rules.specs.Registers.{spitbf, lowBits, statSettings, statEngine, enabledEngine, disabledEngine, spirovAfter}
 use Rattle.spi_rules.specs.Buffers.{empty, emptyTransmit, emptyReceive, unread, waiting}
 use Rattle.spi_rules.specs.Refusals.{badSettings, isDone}
 use Rattle.spi_rules.specs.RefusalTable.{asks, writes, isClear}
 use Rattle.spi_rules.specs.Edge.{levels, stepped}
-use Rattle.spi_rules.specs.Calls.{refuse, answering, wordTaken, readBuf, readOf, turnsOn, turnsOff, statWritten, writeStat, withCon1, withCon2, configured, wordWritten, writeBuf, writeOf, toldSelect, tickOf, pinsOf, clearOf, performOf}
+use Rattle.spi_rules.specs.Calls.{refuse, answering, wordTaken, readBuf, readOf, turnsOn, turnsOff, statWritten, writeStat, withCon1, withCon2, configured, wordWritten, writeBuf, writeOf, toldSelect, clockStepOf, tickOf, pinsOf, clearOf, performOf}
 use Rattle.spi_rules.specs.Invariant.{ModuleHolds}
 use Rattle.spi_rules.specs.Watch.{showsPulse, Memory, entryOf, levelOps}
 use Rattle.spi_rules.specs.Flags.{raised}
+use Rattle.spi_rules.proofs.ClockSteps.{step-cases, tick-cases, pins-cases}
 use Rattle.spi_invariant.proofs.Engine.{engine-of}
 use Rattle.spi_invariant.proofs.Pulses.{shows-pulse}
 use Rattle.spi_order.proofs.Edges.{sightAt}
@@ -117,6 +118,7 @@ module _ (m : Module) (x : Memory) (busy : Bool) (k : ℕ) (h : ModuleHolds m) (
   refused (Write register v) r plain = calm (Write register v) (Refused r) (m .engine) refl refl refl refl refl refl
   refused (Tick sdi ss) r plain = calm (Tick sdi ss) (Refused r) (m .engine) refl refl refl refl refl refl
   refused (Pin sck sdi ss) r plain = calm (Pin sck sdi ss) (Refused r) (m .engine) refl refl refl refl refl refl
+  refused (ClockStep sck sdi ss) r plain = calm (ClockStep sck sdi ss) (Refused r) (m .engine) refl refl refl refl refl refl
   refused Clear r plain = clash true refl plain
 
   -- A step of an enabled module.
@@ -311,7 +313,7 @@ module _ (m : Module) (x : Memory) (busy : Bool) (k : ℕ) (h : ModuleHolds m) (
       if-keeps P (eqb register 2) _ _ (λ e. configure register v _ a (other-register register 2 e (omega arith)))
       (λ c. write-buf register v (last-register register small a b c)))))
 
-  -- Ticks and pin calls.
+  -- Ticks, pin calls and clock steps.
   abbrev after : Bool → Bool → Bool → Module
   after sck sdi ss = moduleOf (m .settings) (stepped (m .settings) (levels sck sdi ss) (m .engine))
 
@@ -322,34 +324,54 @@ module _ (m : Module) (x : Memory) (busy : Bool) (k : ℕ) (h : ModuleHolds m) (
       level-flags (m .settings) on a (showsPulse (after sck sdi ss)) x sck sdi ss (m .engine) (engine-of m h) (was on .sck) (was on .pulse)
       (λ host. shows-pulse (after sck sdi ss) on host)
 
+  -- The next edge of a host with its own clock, by a call that the watcher notes so.
+  turn-flags : m .settings .spien ≡ true → (c : Call) (a : Answer) (sdi ss : Bool) →
+      let told : Bool = if frameClient (m .settings) then ss else x .ss in
+      entered c a (after (not (x .sck)) sdi told)
+      ≡ notes (levelOps (sightAt (m .settings) (m .engine) a (showsPulse (after (not (x .sck)) sdi told))) x (not (x .sck)) sdi told) →
+      isClear c ≡ false → (isDone a && writes 0 c) ≡ false →
+      FlagsOf m c x busy k (record { answer = a; after = after (not (m .engine .pins .sck)) sdi (toldSelect m ss) })
+  turn-flags on c a sdi ss noted' unclear stat =
+      let told : Bool = if frameClient (m .settings) then ss else x .ss in
+      let told' : toldSelect m ss ≡ told = ap (λ (b : Bool). if frameClient (m .settings) then ss else b) (sym (was on .ss)) in
+      let turn : not (m .engine .pins .sck) ≡ not (x .sck) = ap not (sym (was on .sck)) in
+      subst₂ (λ (p q : Bool). FlagsOf m c x busy k (record { answer = a; after = after p sdi q })) (sym turn) (sym told')
+      (stepped-flags on c a _ _ noted' unclear stat (seen-flags on a (not (x .sck)) sdi told))
+
   tick-flags : (sdi ss : Bool) → FlagsOf m (Tick sdi ss) x busy k (tickOf m sdi ss)
-  unfolding tickOf answering if_then_else_
+  unfolding answering if_then_else_
   tick-flags sdi ss =
-      let P = FlagsOf m (Tick sdi ss) x busy k in
-      let s : Settings = m .settings in
-      if-keeps P (not (s .spien)) _ _ (λ off. refused (Tick sdi ss) _ refl)
-      (λ on.
-      if-keeps P (not (ownClock s)) _ _ (λ pin. refused (Tick sdi ss) _ refl)
-      (λ own.
-      if-keeps P (clockStops s && isFree (m .engine .shift)) _ _
-      (λ free. calm (Tick sdi ss) NoEdge (m .engine) refl refl refl refl refl refl)
-      (λ moves.
-      let on' : s .spien ≡ true = not-false (s .spien) on in
-      let told : Bool = if frameClient s then ss else x .ss in
-      let told' : toldSelect m ss ≡ told = ap (λ (b : Bool). if frameClient s then ss else b) (sym (was on' .ss)) in
-      let turn : not (m .engine .pins .sck) ≡ not (x .sck) = ap not (sym (was on' .sck)) in
-      subst₂ (λ (a b : Bool). P (record { answer = Edge; after = after a sdi b })) (sym turn) (sym told')
-      (stepped-flags on' (Tick sdi ss) Edge _ _ refl refl refl (seen-flags on' Edge (not (x .sck)) sdi told)))))
+      let c : Call = Tick sdi ss in
+      tick-cases m sdi ss (FlagsOf m c x busy k) (refused c _ refl) (refused c _ refl)
+      (λ on own still. calm c NoEdge (m .engine) refl refl refl refl refl refl)
+      (λ on own moves. turn-flags on c Edge sdi ss refl refl refl)
 
   pin-flags : (sck sdi ss : Bool) → FlagsOf m (Pin sck sdi ss) x busy k (pinsOf m sck sdi ss)
-  unfolding pinsOf answering if_then_else_
+  unfolding answering if_then_else_
   pin-flags sck sdi ss =
-      let P = FlagsOf m (Pin sck sdi ss) x busy k in
+      let c : Call = Pin sck sdi ss in
+      pins-cases m sck sdi ss (FlagsOf m c x busy k) (refused c _ refl) (refused c _ refl)
+      (λ on pin. stepped-flags on c Done _ _ refl refl refl (seen-flags on Done sck sdi ss))
+
+  step-flags : (sck sdi ss : Bool) → FlagsOf m (ClockStep sck sdi ss) x busy k (clockStepOf m sck sdi ss)
+  unfolding answering if_then_else_
+  step-flags sck sdi ss =
       let s : Settings = m .settings in
-      if-keeps P (not (s .spien)) _ _ (λ off. refused (Pin sck sdi ss) _ refl)
-      (λ on.
-      if-keeps P (ownClock s) _ _ (λ own. refused (Pin sck sdi ss) _ refl)
-      (λ pin. let on' : s .spien ≡ true = not-false (s .spien) on in stepped-flags on' (Pin sck sdi ss) Done _ _ refl refl refl (seen-flags on' Done sck sdi ss)))
+      let c : Call = ClockStep sck sdi ss in
+      let mine : Bool = if frameClient s then ss else x .ss in
+      let noted' : (p q : Bool) → (if ownClock s then not (x .sck) else sck) ≡ p → (if ownClock s then mine else ss) ≡ q →
+      entered c Done (after p sdi q) ≡ notes (levelOps (sightAt s (m .engine) Done (showsPulse (after p sdi q))) x p sdi q) =
+      λ p q e f. ap₂ (λ (a b : Bool). notes (levelOps (sightAt s (m .engine) Done (showsPulse (after p sdi q))) x a sdi b)) e f in
+      step-cases m sck sdi ss (FlagsOf m c x busy k) (λ off. refused c _ refl)
+      (λ on own still. calm c NoEdge (m .engine) refl refl refl refl refl refl)
+      (λ on own moves.
+      turn-flags on c Done sdi ss
+      (noted' (not (x .sck)) mine (if-true (ownClock s) (not (x .sck)) sck own) (if-true (ownClock s) mine ss own))
+      refl refl)
+      (λ on pin.
+      stepped-flags on c Done _ _
+      (noted' sck ss (if-false (ownClock s) (not (x .sck)) sck pin) (if-false (ownClock s) mine ss pin))
+      refl refl (seen-flags on Done sck sdi ss))
 
   clear-flags : FlagsOf m Clear x busy k (clearOf m)
   unfolding clearOf answering
@@ -362,4 +384,5 @@ module _ (m : Module) (x : Memory) (busy : Bool) (k : ℕ) (h : ModuleHolds m) (
   call-flags (Write register v) = write-flags register v
   call-flags (Tick sdi ss) = tick-flags sdi ss
   call-flags (Pin sck sdi ss) = pin-flags sck sdi ss
+  call-flags (ClockStep sck sdi ss) = step-flags sck sdi ss
   call-flags Clear = clear-flags

@@ -7,7 +7,7 @@ use mathlib.Core.Path.{_≡_, refl, sym, ap, subst, _∙_}
 use borrow.Author.Tests.{le-ltb, not-true}
 use mir.Val.{boolByte}
 use lib.Dec.{ltb, leb}
-use Rattle.laws.proofs.Keeps.{if-keeps, if-false, clash, and-left, and-right, and-false, unlike}
+use Rattle.laws.proofs.Keeps.{if-keeps, if-false, clash, by-test, and-left, and-right, and-false, or-rest, unlike}
 use Rattle.spi_types.specs.declared.Settings.{Settings}
 use Rattle.spi_types.specs.declared.Engine.{Engine}
 use Rattle.spi_types.specs.declared.Receive.{Receive}
@@ -17,7 +17,7 @@ use Rattle.spi_types.specs.declared.Progress.{Progress}
 use Rattle.spi_types.specs.declared.Shift.{Shift}
 use Rattle.spi_types.specs.declared.Shift.the-variants.{Begun}
 use Rattle.spi_types.specs.declared.Call.{Call}
-use Rattle.spi_types.specs.declared.Call.the-variants.{Read, Write, Tick, Pin, Clear}
+use Rattle.spi_types.specs.declared.Call.the-variants.{Read, Write, Tick, Pin, ClockStep, Clear}
 use Rattle.spi_rules.specs.Settings.{widthOf, depthOf, clockStops, ssenClient, ownClock}
 use Rattle.spi_rules.specs.Registers.{isFree}
 use Rattle.spi_rules.specs.Buffers.{unread}
@@ -29,6 +29,7 @@ use Rattle.spi_rules.specs.Edge.{begun, advanced, advancedIfBegun, awaitsPulse,
 use Rattle.spi_rules.specs.Calls.{answering, toldSelect, performOf, sckOf}
 use Rattle.spi_rules.specs.Demands.{drops, LastEdge, clocksWord}
 use Rattle.spi_rules.proofs.BuffersOrder.{unread-length}
+use Rattle.spi_rules.proofs.ClockSteps.{nextEdge, seeing, stands, step-own, step-pin}
 use Rattle.spi_invariant.proofs.Losses.{delivered-count, delivered-marked, delivered-spirov, lost-is}
 use Rattle.spi_invariant.proofs.FinishWords.{finished-spares}
 use Rattle.spi_invariant.proofs.CallsWhen.{not-unlike, own-not-client, pin-is, tick-is}
@@ -101,24 +102,41 @@ last-told m after p sck sdi ss e last edge hears is =
           ∙ ap (λ (b : Bool). n .receive .marked || (b && s .con2 .spiben)) lost;
     })
 
+-- By the next edge of a host with its own clock, and by levels that a pin brings.
+busy : (m : Module) (p : Progress) → m .engine .shift ≡ Begun p → stands m ≡ false
+busy m p e = and-false (clockStops (m .settings)) (isFree (m .engine .shift)) (ap isFree e)
+
+module _ (m : Module) {after : Module} (p : Progress) where
+  last-own : (sdi ss : Bool) → m .engine .shift ≡ Begun p → 2 * widthOf (m .settings) ≤ p .edges + 1 → ownClock (m .settings) ≡ true →
+      after ≡ record { settings = m .settings; engine = seeing m (nextEdge m sdi ss) } → LastEdge m after
+  last-own sdi ss e last own is =
+      last-told m after p (not (m .engine .pins .sck)) sdi (toldSelect m ss) e last refl
+      (ap (λ (b : Bool). b && toldSelect m ss) (own-not-client (m .settings) own))
+      is
+
+  last-pin : (sck sdi ss : Bool) → m .engine .shift ≡ Begun p → 2 * widthOf (m .settings) ≤ p .edges + 1 →
+      (not (Bool·beq sck (m .engine .pins .sck)) && not (ssenClient (m .settings) && ss)) ≡ true →
+      after ≡ record { settings = m .settings; engine = seeing m (levels sck sdi ss) } → LastEdge m after
+  last-pin sck sdi ss e last clocks is =
+      last-told m after p sck sdi ss e last
+      (unlike sck (m .engine .pins .sck)
+      (not-true (Bool·beq sck (m .engine .pins .sck)) (and-left (not (Bool·beq sck (m .engine .pins .sck))) _ clocks)))
+      (not-true (ssenClient (m .settings) && ss) (and-right (not (Bool·beq sck (m .engine .pins .sck))) _ clocks))
+      is
+
 -- Every such call, of every record.
 pub last-edge-drops : (m : Module) (c : Call) (p : Progress) → m .settings .spien ≡ true → clocksWord m c ≡ true →
     m .engine .shift ≡ Begun p → 2 * widthOf (m .settings) ≤ p .edges + 1 → LastEdge m (performOf m c .after)
-unfolding answering sckOf
+unfolding answering sckOf performOf
 last-edge-drops m (Read register) p on clocks e last = clash false clocks refl
 last-edge-drops m (Write register v) p on clocks e last = clash false clocks refl
-last-edge-drops m (Tick sdi ss) p on clocks e last =
-    last-told m _ p (not (m .engine .pins .sck)) sdi (toldSelect m ss) e last refl
-    (ap (λ (b : Bool). b && toldSelect m ss) (own-not-client (m .settings) clocks))
-    (ap (λ (o : Outcome). o .after)
-    (tick-is m sdi ss on clocks (and-false (clockStops (m .settings)) (isFree (m .engine .shift)) (ap isFree e))))
+last-edge-drops m (Tick sdi ss) p on clocks e last = last-own m p sdi ss e last clocks (ap (λ (o : Outcome). o .after) (tick-is m sdi ss on clocks (busy m p e)))
 last-edge-drops m (Pin sck sdi ss) p on clocks e last =
     let pin : ownClock (m .settings) ≡ false =
     not-true (ownClock (m .settings)) (and-left (not (ownClock (m .settings))) _ clocks) in
-    let rest = and-right (not (ownClock (m .settings))) _ clocks in
-    last-told m _ p sck sdi ss e last
-    (unlike sck (m .engine .pins .sck)
-    (not-true (Bool·beq sck (m .engine .pins .sck)) (and-left (not (Bool·beq sck (m .engine .pins .sck))) _ rest)))
-    (not-true (ssenClient (m .settings) && ss) (and-right (not (Bool·beq sck (m .engine .pins .sck))) _ rest))
-    (ap (λ (o : Outcome). o .after) (pin-is m sck sdi ss on pin))
+    last-pin m p sck sdi ss e last (and-right (not (ownClock (m .settings))) _ clocks) (ap (λ (o : Outcome). o .after) (pin-is m sck sdi ss on pin))
+last-edge-drops m (ClockStep sck sdi ss) p on clocks e last =
+    by-test (ownClock (m .settings))
+    (λ own. last-own m p sdi ss e last own (ap (λ (o : Outcome). o .after) (step-own m sck sdi ss on own (busy m p e))))
+    (λ pin. last-pin m p sck sdi ss e last (or-rest (ownClock (m .settings)) _ clocks pin) (ap (λ (o : Outcome). o .after) (step-pin m sck sdi ss on pin)))
 last-edge-drops m Clear p on clocks e last = clash false clocks refl

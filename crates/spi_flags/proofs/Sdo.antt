@@ -23,9 +23,10 @@ use Rattle.spi_types.specs.declared.Module.{Module}
 use Rattle.spi_types.specs.declared.Outcome.{Outcome}
 use Rattle.spi_types.specs.declared.Shift.{Shift}
 use Rattle.spi_types.specs.declared.Shift.the-variants.{Free, Loaded, Begun}
-use Rattle.spi_types.specs.declared.Answer.the-variants.{Done}
+use Rattle.spi_types.specs.declared.Answer.{Answer}
+use Rattle.spi_types.specs.declared.Answer.the-variants.{Done, Edge}
 use Rattle.spi_types.specs.declared.Call.{Call}
-use Rattle.spi_types.specs.declared.Call.the-variants.{Read, Write, Tick, Pin, Clear}
+use Rattle.spi_types.specs.declared.Call.the-variants.{Read, Write, Tick, Pin, ClockStep, Clear}
 use Rattle.spi_types.specs.declared.Output.{Output}
 use Rattle.spi_types.specs.declared.Output.the-variants.{Low, High, Undriven}
 use Rattle.spi_rules.specs.Settings.{widthOf, depthOf, ckeOf, ssenClient, frameHost}
@@ -37,13 +38,14 @@ use Rattle.spi_rules.specs.Finish.{overflowed, wordAppended, isLost, delivered,
 use Rattle.spi_rules.specs.Select.{selectRemembered, aborted, deselected, selectSeen}
 use Rattle.spi_rules.specs.Edge.{wordEdges, shifted, advanced, advancedIfBegun, underWay, pulsed, clocked, edged, levels, stepped}
 use Rattle.spi_rules.specs.Words.{unfinished}
-use Rattle.spi_rules.specs.Calls.{refuse, answering, wordTaken, wordWritten, readBuf, readOf, turnsOn, turnsOff, statWritten, writeStat, withCon1, withCon2, configured, writeBuf, writeOf, tickOf, pinsOf, clearOf, performOf, sckOf, undriven, sdoOf, ssBy, ssOf}
+use Rattle.spi_rules.specs.Calls.{refuse, answering, wordTaken, wordWritten, readBuf, readOf, turnsOn, turnsOff, statWritten, writeStat, withCon1, withCon2, configured, writeBuf, writeOf, clockStepOf, tickOf, pinsOf, clearOf, performOf, sckOf, undriven, sdoOf, ssBy, ssOf}
 use Rattle.spi_rules.specs.Invariant.{ShiftHolds, ModuleHolds}
 use Rattle.spi_rules.specs.Watch.{Watched, watchedCall, portIn, wayOf, terms}
 use Rattle.spi_rules.specs.Flags.{firstUnsent, levelShown, sdoShown}
 use Rattle.spi_rules.specs.Demands.{PinsShow}
 use Rattle.spi_rules.proofs.Sizes.{depth-most, power-least, no-bit-above}
 use Rattle.spi_rules.proofs.BuffersOrder.{none-waiting, left-takes-first}
+use Rattle.spi_rules.proofs.ClockSteps.{step-cases, tick-cases, pins-cases}
 use Rattle.spi_invariant.proofs.Parts.{BuffersHold, queued}
 use Rattle.spi_invariant.proofs.Engine.{engine-of}
 use Rattle.spi_order.proofs.Levels.{Recalls}
@@ -304,29 +306,31 @@ module _ (m : Module) where
       same-leaves _ refl (λ a cke d. written-sdo (m .settings) cke _ (m .engine))
       (λ off. clash (m .settings .spien) (not-false (m .settings .spien) on) off)))))))
 
+  -- Levels are seen.
+  seen-leaves : (a : Answer) → m .settings .spien ≡ true → (sck sdi ss : Bool) →
+      Leaves m (answering m a (stepped (m .settings) (levels sck sdi ss) (m .engine)))
+  unfolding answering
+  seen-leaves a on sck sdi ss =
+      same-leaves _ refl (λ e cke unbegun. stepped-sdo (m .settings) cke sck sdi ss (m .engine) unbegun)
+      (λ off. clash (m .settings .spien) on off)
+
   tick-leaves : (sdi ss : Bool) → Leaves m (tickOf m sdi ss)
-  unfolding tickOf answering refuse
+  unfolding refuse
   tick-leaves sdi ss =
-      let P = Leaves m in
-      if-keeps P (not (m .settings .spien)) _ _ (λ e. stays-leaves _ refl)
-      (λ on.
-      if-keeps P _ _ _ (λ e. stays-leaves _ refl)
-      (λ e.
-      if-keeps P _ _ _ (λ e. stays-leaves _ refl)
-      (λ e.
-      same-leaves _ refl (λ a cke unbegun. stepped-sdo (m .settings) cke _ sdi _ (m .engine) unbegun)
-      (λ off. clash (m .settings .spien) (not-false (m .settings .spien) on) off))))
+      tick-cases m sdi ss (Leaves m) (stays-leaves _ refl) (stays-leaves _ refl) (λ on own still. stays-leaves _ refl)
+      (λ on own moves. seen-leaves Edge on _ sdi _)
 
   pins-leave : (sck sdi ss : Bool) → Leaves m (pinsOf m sck sdi ss)
-  unfolding pinsOf answering refuse
+  unfolding refuse
   pins-leave sck sdi ss =
-      let P = Leaves m in
-      if-keeps P (not (m .settings .spien)) _ _ (λ e. stays-leaves _ refl)
-      (λ on.
-      if-keeps P _ _ _ (λ e. stays-leaves _ refl)
-      (λ e.
-      same-leaves _ refl (λ a cke unbegun. stepped-sdo (m .settings) cke sck sdi ss (m .engine) unbegun)
-      (λ off. clash (m .settings .spien) (not-false (m .settings .spien) on) off)))
+      pins-cases m sck sdi ss (Leaves m) (stays-leaves _ refl) (stays-leaves _ refl) (λ on pin. seen-leaves Done on sck sdi ss)
+
+  step-leaves : (sck sdi ss : Bool) → Leaves m (clockStepOf m sck sdi ss)
+  unfolding refuse
+  step-leaves sck sdi ss =
+      step-cases m sck sdi ss (Leaves m) (λ off. stays-leaves _ refl) (λ on own still. stays-leaves _ refl)
+      (λ on own moves. seen-leaves Done on _ sdi _)
+      (λ on pin. seen-leaves Done on sck sdi ss)
 
   -- Every call.
   call-leaves : (c : Call) → Leaves m (performOf m c)
@@ -335,6 +339,7 @@ module _ (m : Module) where
   call-leaves (Write register v) = write-leaves register v
   call-leaves (Tick sdi ss) = tick-leaves sdi ss
   call-leaves (Pin sck sdi ss) = pins-leave sck sdi ss
+  call-leaves (ClockStep sck sdi ss) = step-leaves sck sdi ss
   call-leaves Clear = same-leaves _ refl (λ a b d. refl) (λ a. refl)
 
 -- A module that is disabled after a call has the levels of before.

@@ -30,7 +30,7 @@ use Rattle.spi_types.specs.declared.Refusal.the-variants.{WrongClock}
 use Rattle.spi_types.specs.declared.Answer.{Answer}
 use Rattle.spi_types.specs.declared.Answer.the-variants.{Refused, Done}
 use Rattle.spi_types.specs.declared.Call.{Call}
-use Rattle.spi_types.specs.declared.Call.the-variants.{Read, Write, Tick, Pin, Clear}
+use Rattle.spi_types.specs.declared.Call.the-variants.{Read, Write, Tick, Pin, ClockStep, Clear}
 use Rattle.spi_rules.specs.Settings.{widthOf, framed, frameHost, frameClient, clockStops, ownClock}
 use Rattle.spi_rules.specs.Refusals.{isDone, isValue, badSettings, isEdge}
 use Rattle.spi_rules.specs.Registers.{isFree, spitbf, statSettings, statEngine, disabledEngine}
@@ -42,11 +42,12 @@ use Rattle.spi_rules.specs.Edge.{advancedIfBegun, underWay, pulseDue, active, p
 use Rattle.spi_rules.specs.Calls.{refuse, answering, wordTaken, readBuf, readOf, turnsOn, turnsOff, statWritten, writeStat, configured, wordWritten, writeBuf, writeOf, tickOf, pinsOf, clearOf, performOf, sckOf}
 use Rattle.spi_rules.specs.Invariant.{ShiftHolds}
 use Rattle.spi_rules.specs.Frames.{toIdle, ssTold}
-use Rattle.spi_rules.specs.Watch.{Memory, Watched, enabledBy, levelOps, levelsKept, mayBegin, showsPulse, sightOf, watchedCall, wayOf, terms}
+use Rattle.spi_rules.specs.Watch.{Memory, Watched, Sight, enabledBy, levelOps, levelsKept, mayBegin, showsPulse, sightOf, watchedCall, wayOf, terms}
 use Rattle.spi_rules.specs.Words.{owedWords}
 use Rattle.spi_rules.specs.Demands.{sendsFiller}
 use Rattle.spi_rules.specs.Pulses.{stands}
 use Rattle.spi_rules.proofs.Sizes.{width-eight}
+use Rattle.spi_rules.proofs.ClockSteps.{step-own, step-pin}
 use Rattle.spi_invariant.proofs.Pulses.{advanced-pulse, clocked-pulse, loaded-shown}
 use Rattle.spi_invariant.proofs.FinishWords.{loaded-spares}
 use Rattle.spi_invariant.proofs.CallsWhen.{not-unlike, pin-is, tick-is}
@@ -235,6 +236,25 @@ module _ (x : Watched) (v : Lives x) (on : x .now .settings .spien ≡ true) whe
         memory = if-true (isEdge said) _ _ made;
       }
 
+  -- A clock step of either: the levels that it shows are those of the tick, or its own.
+  step-sees : (sck sdi ss clock select : Bool) → let c : Call = ClockStep sck sdi ss in
+      performOf (x .now) c ≡ answering (x .now) Done (stepped s (levels clock sdi select) n) →
+      (if ownClock s then not (x .memory .sck) else sck) ≡ clock →
+      (if ownClock s then (if frameClient s then ss else x .memory .ss) else ss) ≡ select → Sees x c clock sdi select
+  unfolding answering
+  step-sees sck sdi ss clock select is to told =
+      let v : Sight = sightOf (x .now) (ClockStep sck sdi ss) in
+      let done : isDone (v .answer) ≡ true = ap (λ (o : Outcome). isDone (o .answer)) is in
+      record {
+        now = ap (λ (o : Outcome). o .after) is;
+        ledger =
+            ap (λ (e : Entry). entered (terms s) e l)
+            (if-true (isDone (v .answer)) _ _ done ∙ ap₂ (λ (a b : Bool). notes (levelOps v (x .memory) a sdi b)) to told);
+        memory =
+            if-true (isDone (v .answer)) _ _ done
+            ∙ ap₂ (λ (a b : Bool). levelsKept v (x .memory) (not (isQuiet (watchedCall x (ClockStep sck sdi ss) .ledger .wire))) a b) to told;
+      }
+
   -- An SCK level unlike the module's is unlike the watcher's.
   moves-there : (sck : Bool) → sck ≡ not (n .pins .sck) → Bool·beq sck (x .memory .sck) ≡ false
   moves-there sck edge =
@@ -342,10 +362,9 @@ module _ (x : Watched) (v : Lives x) (on : x .now .settings .spien ≡ true) whe
     unfolding refuse
     refused-rests c r is = subst (Rests (x .now)) (sym is) (unmoved (x .now) on (Refused r))
 
-    -- A pin call whose SCK level is the remembered one.
-    level-stays : (sck sdi ss : Bool) → Sees x (Pin sck sdi ss) sck sdi ss → Bool·beq sck (n .pins .sck) ≡ true →
-        Stays x (Pin sck sdi ss)
-    level-stays sck sdi ss r still =
+    -- A call that shows the remembered SCK level.
+    level-stays : (c : Call) (sck sdi ss : Bool) → Sees x c sck sdi ss → Bool·beq sck (n .pins .sck) ≡ true → Stays x c
+    level-stays c sck sdi ss r still =
         let there : Bool·beq sck (x .memory .sck) ≡ true = ap (Bool·beq sck) (recalls .sck) ∙ still in
         record {
           same =
@@ -397,7 +416,30 @@ module _ (x : Watched) (v : Lives x) (on : x .now .settings .spien ≡ true) whe
         (λ pin.
         let r : Sees x c sck sdi ss = pin-sees sck sdi ss pin in
         by-test (Bool·beq sck (n .pins .sck))
-        (λ still. stays (level-stays sck sdi ss r still))
+        (λ still. stays (level-stays c sck sdi ss r still))
+        (λ moves. edge-does c sck sdi ss r (unlike sck (n .pins .sck) moves) (λ client. refl)))
+
+    -- A clock step.
+    step-does : (sck sdi ss : Bool) → Does x (ClockStep sck sdi ss)
+    unfolding performOf
+    step-does sck sdi ss =
+        let c : Call = ClockStep sck sdi ss in
+        let mine : Bool = if frameClient s then ss else x .memory .ss in
+        by-test (ownClock s)
+        (λ own.
+        let is : performOf (x .now) c ≡ answering (x .now) Done (stepped s (levels (not (x .memory .sck)) sdi mine) n) =
+        step-own (x .now) sck sdi ss on own (ap (λ (b : Bool). not b && isFree (n .shift)) f)
+        ∙ ap₂ (λ (a b : Bool). answering (x .now) Done (stepped s (levels (not a) sdi (if frameClient s then ss else b)) n))
+        (sym (recalls .sck)) (sym (recalls .ss)) in
+        edge-does c (not (x .memory .sck)) sdi mine
+        (step-sees sck sdi ss (not (x .memory .sck)) mine is (if-true (ownClock s) _ sck own) (if-true (ownClock s) mine ss own))
+        (ap not (recalls .sck))
+        (λ client. if-true (frameClient s) _ _ client))
+        (λ pin.
+        let r : Sees x c sck sdi ss =
+        step-sees sck sdi ss sck ss (step-pin (x .now) sck sdi ss on pin) (if-false (ownClock s) _ sck pin) (if-false (ownClock s) mine ss pin) in
+        by-test (Bool·beq sck (n .pins .sck))
+        (λ still. stays (level-stays c sck sdi ss r still))
         (λ moves. edge-does c sck sdi ss r (unlike sck (n .pins .sck) moves) (λ client. refl)))
 
     -- A write of an enabled module opens no ledger.
@@ -438,4 +480,5 @@ module _ (x : Watched) (v : Lives x) (on : x .now .settings .spien ≡ true) whe
     call-does (Write register w) = write-does register w
     call-does (Tick sdi ss) = tick-does sdi ss
     call-does (Pin sck sdi ss) = pin-does sck sdi ss
+    call-does (ClockStep sck sdi ss) = step-does sck sdi ss
     call-does Clear = stays (record { same = record { con1 = refl; con2 = refl }; clock = refl; wire = refl; pulse = refl })

@@ -27,13 +27,13 @@ use Rattle.spi_types.specs.declared.Shift.{Shift}
 use Rattle.spi_types.specs.declared.Shift.the-variants.{Free, Loaded, Begun}
 use Rattle.spi_types.specs.declared.Answer.the-variants.{Done}
 use Rattle.spi_types.specs.declared.Call.{Call}
-use Rattle.spi_types.specs.declared.Call.the-variants.{Read, Write, Tick, Pin, Clear}
+use Rattle.spi_types.specs.declared.Call.the-variants.{Read, Write, Tick, Pin, ClockStep, Clear}
 use Rattle.spi_rules.specs.Settings.{widthOf, framed, frameHost, frameClient, silent, ssenClient, depthOf}
 use Rattle.spi_rules.specs.Refusals.{badSettings}
 use Rattle.spi_rules.specs.Registers.{isFree, statSettings, enabledEngine}
 use Rattle.spi_rules.specs.Buffers.{empty}
 use Rattle.spi_rules.specs.Edge.{pulseDue}
-use Rattle.spi_rules.specs.Calls.{refuse, answering, readBuf, readOf, turnsOn, turnsOff, statWritten, writeStat, withCon1, withCon2, configured, writeBuf, writeOf, tickOf, pinsOf, clearOf, performOf, sckOf}
+use Rattle.spi_rules.specs.Calls.{refuse, answering, readBuf, readOf, turnsOn, turnsOff, statWritten, writeStat, withCon1, withCon2, configured, writeBuf, writeOf, clockStepOf, tickOf, pinsOf, clearOf, performOf, sckOf}
 use Rattle.spi_rules.specs.Words.{unfinished}
 use Rattle.spi_rules.specs.Invariant.{ShiftHolds, PulseFits}
 use Rattle.spi_rules.specs.Watch.{terms, Watched, watchedCall, watchedCalls, showsPulse, wayOf, ours}
@@ -909,13 +909,16 @@ module _ (m : Module) (off : m .settings .spien ≡ false) where
       (λ on. clash (s .spien) (not-false (s .spien) on) off)))))
 
   call-fresh : (c : Call) → Fresh (performOf m c)
-  unfolding performOf tickOf pinsOf clearOf refuse answering
+  unfolding performOf clockStepOf tickOf pinsOf clearOf refuse answering
   call-fresh (Read register) = read-fresh register
   call-fresh (Write register v) = write-fresh register v
   call-fresh (Tick sdi ss) =
       if-keeps Fresh (not (m .settings .spien)) _ _ (λ e. unmoved-fresh _ off)
       (λ on. clash (m .settings .spien) (not-false (m .settings .spien) on) off)
   call-fresh (Pin sck sdi ss) =
+      if-keeps Fresh (not (m .settings .spien)) _ _ (λ e. unmoved-fresh _ off)
+      (λ on. clash (m .settings .spien) (not-false (m .settings .spien) on) off)
+  call-fresh (ClockStep sck sdi ss) =
       if-keeps Fresh (not (m .settings .spien)) _ _ (λ e. unmoved-fresh _ off)
       (λ on. clash (m .settings .spien) (not-false (m .settings .spien) on) off)
   call-fresh Clear = unmoved-fresh _ off

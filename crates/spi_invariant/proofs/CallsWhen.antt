@@ -32,7 +32,8 @@ use Rattle.spi_rules.specs.Buffers.{empty, firstUnread}
 use Rattle.spi_rules.specs.Loading.{isBegun}
 use Rattle.spi_rules.specs.Select.{deselected, selectRemembered, selectSeen}
 use Rattle.spi_rules.specs.Edge.{advancedIfBegun, awaitsPulse, underWay, pulsed, clocked, edged, levels, stepped}
-use Rattle.spi_rules.specs.Calls.{refuse, answering, wordTaken, readBuf, readOf, wordWritten, writeBuf, writeOf, toldSelect, tickOf, pinsOf, performOf}
+use Rattle.spi_rules.specs.Calls.{refuse, answering, wordTaken, readBuf, readOf, wordWritten, writeBuf, writeOf, toldSelect, performOf}
+use Rattle.spi_rules.proofs.ClockSteps.{stands, tick-as-before, tick-own, pins-as-before}
 use Rattle.spi_invariant.proofs.Parts.{accepts}
 
 -- A call that may be refused by a test and is not has passed the test.
@@ -103,24 +104,20 @@ module _ (m : Module) where
   unfolding performOf writeOf writeBuf if_then_else_
   buf-write-is v on room = if-false (not (m .settings .spien)) _ _ (ap not on) ∙ if-false (spitbf m) _ _ room
 
-  -- A tick makes no edge: the clock stops between words, and no word is loaded.
-  abbrev stands : Bool
-  stands = clockStops (m .settings) && isFree (m .engine .shift)
-
   -- A tick that is not refused is one of an enabled host with its own clock.
   tick-answers : (sdi ss : Bool) (a : Answer) → accepts a ≡ true → performOf m (Tick sdi ss) .answer ≡ a →
       (m .settings .spien ≡ true)
       × (ownClock (m .settings) ≡ true)
-      × ((stands ≡ true → NoEdge ≡ a) × (stands ≡ false → Edge ≡ a))
-  unfolding performOf tickOf answering
+      × ((stands m ≡ true → NoEdge ≡ a) × (stands m ≡ false → Edge ≡ a))
+  unfolding performOf answering
   tick-answers sdi ss a ok e =
-      let p = passes m Disabled a ok (not (m .settings .spien)) _ e in
+      let p = passes m Disabled a ok (not (m .settings .spien)) _ (ap (λ (o : Outcome). o .answer) (sym (tick-as-before m sdi ss)) ∙ e) in
       let q = passes m WrongClock a ok (not (ownClock (m .settings))) _ (p .1) in (
         not-false (m .settings .spien) (p .0),
         not-false (ownClock (m .settings)) (q .0),
         (
-          (λ still. sym (ap (λ (o : Outcome). o .answer) (if-true stands _ _ still)) ∙ q .1),
-          (λ moves. sym (ap (λ (o : Outcome). o .answer) (if-false stands _ _ moves)) ∙ q .1),
+          (λ still. sym (ap (λ (o : Outcome). o .answer) (if-true (stands m) _ _ still)) ∙ q .1),
+          (λ moves. sym (ap (λ (o : Outcome). o .answer) (if-false (stands m) _ _ moves)) ∙ q .1),
         ),
       )
 
@@ -129,7 +126,7 @@ module _ (m : Module) where
       (m .settings .spien ≡ true) × (unframedHost (m .settings) ≡ true) × (m .engine .shift ≡ Free)
   no-edge-when sdi ss e =
       let w = tick-answers sdi ss NoEdge refl e in
-      let still : stands ≡ true = true-unless stands (λ moves. let z = w .2 .1 moves in cc) in (
+      let still : stands m ≡ true = true-unless (stands m) (λ moves. let z = w .2 .1 moves in cc) in (
         w .0,
         ap (λ (b : Bool). b && clockStops (m .settings)) (w .1) ∙ and-left (clockStops (m .settings)) _ still,
         is-free (m .engine .shift) (and-right (clockStops (m .settings)) _ still),
@@ -142,34 +139,33 @@ module _ (m : Module) where
       × ((clockStops (m .settings) && isFree (m .engine .shift)) ≡ false)
   tick-when sdi ss e =
       let w = tick-answers sdi ss Edge refl e in
-      (w .0, w .1, false-when-not stands (λ still. let z = w .2 .0 still in cc))
+      (w .0, w .1, false-when-not (stands m) (λ still. let z = w .2 .0 still in cc))
 
   -- Such a tick takes the clock to its other level.
   pub tick-is : (sdi ss : Bool) → m .settings .spien ≡ true → ownClock (m .settings) ≡ true →
       (clockStops (m .settings) && isFree (m .engine .shift)) ≡ false →
       performOf m (Tick sdi ss)
       ≡ answering m Edge (stepped (m .settings) (levels (not (m .engine .pins .sck)) sdi (toldSelect m ss)) (m .engine))
-  unfolding performOf tickOf
-  tick-is sdi ss on own moves =
-      if-false (not (m .settings .spien)) _ _ (ap not on)
-      ∙ if-false (not (ownClock (m .settings))) _ _ (ap not own)
-      ∙ if-false stands _ _ moves
+  unfolding performOf
+  tick-is sdi ss on own moves = tick-own m sdi ss on own moves
 
   -- A pin call is done if the module is enabled and clocked from its pin.
   pub pin-when : (sck sdi ss : Bool) → performOf m (Pin sck sdi ss) .answer ≡ Done →
       (m .settings .spien ≡ true) × (ownClock (m .settings) ≡ false)
-  unfolding performOf pinsOf
+  unfolding performOf
   pin-when sck sdi ss e =
-      let p = passes m Disabled Done refl (not (m .settings .spien)) _ e in
+      let p = passes m Disabled Done refl (not (m .settings .spien)) _ (ap (λ (o : Outcome). o .answer) (sym (pins-as-before m sck sdi ss)) ∙ e) in
       let q = passes m WrongClock Done refl (ownClock (m .settings)) _ (p .1) in
       (not-false (m .settings .spien) (p .0), q .0)
 
   -- Such a pin call has its levels seen.
   pub pin-is : (sck sdi ss : Bool) → m .settings .spien ≡ true → ownClock (m .settings) ≡ false →
       performOf m (Pin sck sdi ss) ≡ answering m Done (stepped (m .settings) (levels sck sdi ss) (m .engine))
-  unfolding performOf pinsOf
+  unfolding performOf
   pin-is sck sdi ss on pin =
-      if-false (not (m .settings .spien)) _ _ (ap not on) ∙ if-false (ownClock (m .settings)) _ _ pin
+      pins-as-before m sck sdi ss
+      ∙ if-false (not (m .settings .spien)) _ _ (ap not on)
+      ∙ if-false (ownClock (m .settings)) _ _ pin
 
 -- The select level that a tick carries counts for a frame client alone.
 pub told-elsewhere : (m : Module) (ss : Bool) → frameClient (m .settings) ≡ false → toldSelect m ss ≡ m .engine .pins .ss

@@ -5,7 +5,7 @@
 --     reached-holds      every list of calls from power-up gives it
 -- Assumes nothing.
 use Prim.Native.Nat.{ℕ}
-use mathlib.Core.Bool.{Bool, true, false, not, _&&_}
+use mathlib.Core.Bool.{Bool, true, false, not}
 use mathlib.Core.List.{List, [], _∷_}
 use mathlib.Core.Path.{_≡_, refl}
 use native.Mathlib.Omega.{arith}
@@ -20,13 +20,14 @@ use Rattle.spi_types.specs.declared.Outcome.{Outcome}
 use Rattle.spi_types.specs.declared.Answer.{Answer}
 use Rattle.spi_types.specs.declared.Refusal.the-variants.{NoSuchRegister, Disabled, TransmitFull, ReceiveEmpty, WrongClock, Overflowed}
 use Rattle.spi_types.specs.declared.Call.{Call}
-use Rattle.spi_types.specs.declared.Call.the-variants.{Read, Write, Tick, Pin, Clear}
+use Rattle.spi_types.specs.declared.Call.the-variants.{Read, Write, Tick, Pin, ClockStep, Clear}
 use Rattle.spi_rules.specs.Settings.{clockStops, ownClock}
-use Rattle.spi_rules.specs.Registers.{isFree, spitbf, con1From, con2From, lowBits}
+use Rattle.spi_rules.specs.Registers.{spitbf, con1From, con2From, lowBits}
 use Rattle.spi_rules.specs.Buffers.{empty}
-use Rattle.spi_rules.specs.Calls.{afterCalls, answering, poweredUp, readBuf, readOf, withCon1, withCon2, writeBuf, writeOf, tickOf, pinsOf, clearOf, performOf}
+use Rattle.spi_rules.specs.Calls.{afterCalls, answering, poweredUp, readBuf, readOf, withCon1, withCon2, writeBuf, writeOf, clockStepOf, tickOf, pinsOf, clearOf, performOf}
 use Rattle.spi_rules.specs.Invariant.{Emptied, ModuleHolds}
 use Rattle.spi_rules.proofs.Sizes.{low-bits-fit}
+use Rattle.spi_rules.proofs.ClockSteps.{tick-cases, pins-cases, step-follows}
 use Rattle.spi_invariant.proofs.Parts.{HoldsAfter, BuffersHold, EngineHolds}
 use Rattle.spi_invariant.proofs.Shift.{shift-same}
 use Rattle.spi_invariant.proofs.Edge.{stepped-holds}
@@ -98,33 +99,20 @@ write-keeps m register v h =
 
 -- A tick keeps the invariant.
 tick-keeps : (m : Module) (sdi ss : Bool) → ModuleHolds m → HoldsAfter (tickOf m sdi ss)
-unfolding tickOf
 tick-keeps m sdi ss h =
-    if-keeps HoldsAfter (not (m .settings .spien)) _ _
-    (λ off. refuse-holds m Disabled h)
-    (λ on.
+    tick-cases m sdi ss HoldsAfter (refuse-holds m Disabled h) (refuse-holds m WrongClock h) (λ on own still. h)
+    (λ on own moves.
     let s : Settings = m .settings in
-    either-keeps (not (ownClock s)) _ _ (refuse-holds m WrongClock h)
-    (if-keeps HoldsAfter (clockStops s && isFree (m .engine .shift)) _ _
-    (λ free. h)
-    (λ busy.
-    let enabled : s .spien ≡ true = not-false (s .spien) on in
-    moves-holds m _ _ enabled h (stepped-holds s enabled _ sdi _ (m .engine) (λ own. and-rest (clockStops s) _ busy (and-right (ownClock s) _ own)) (engine-of m h)))))
+    moves-holds m _ _ on h (stepped-holds s on _ sdi _ (m .engine) (λ host. and-rest (clockStops s) _ moves (and-right (ownClock s) _ host)) (engine-of m h)))
 
 -- A pin call keeps the invariant.
 pins-keeps : (m : Module) (sck sdi ss : Bool) → ModuleHolds m → HoldsAfter (pinsOf m sck sdi ss)
-unfolding pinsOf
 pins-keeps m sck sdi ss h =
-    if-keeps HoldsAfter (not (m .settings .spien)) _ _
-    (λ off. refuse-holds m Disabled h)
-    (λ on.
+    pins-cases m sck sdi ss HoldsAfter (refuse-holds m Disabled h) (refuse-holds m WrongClock h)
+    (λ on pin.
     let s : Settings = m .settings in
-    if-keeps HoldsAfter (ownClock s) _ _
-    (λ own. refuse-holds m WrongClock h)
-    (λ pin.
-    let enabled : s .spien ≡ true = not-false (s .spien) on in
-    moves-holds m _ _ enabled h
-    (stepped-holds s enabled sck sdi ss (m .engine) (λ own. clash (ownClock s) (and-left (ownClock s) _ own) pin) (engine-of m h))))
+    moves-holds m _ _ on h
+    (stepped-holds s on sck sdi ss (m .engine) (λ host. clash (ownClock s) (and-left (ownClock s) _ host) pin) (engine-of m h)))
 
 -- The clear call keeps the invariant.
 clear-keeps : (m : Module) → ModuleHolds m → HoldsAfter (clearOf m)
@@ -148,6 +136,8 @@ call-keeps m (Read register) h = read-keeps m register h
 call-keeps m (Write register v) h = write-keeps m register v h
 call-keeps m (Tick sdi ss) h = tick-keeps m sdi ss h
 call-keeps m (Pin sck sdi ss) h = pins-keeps m sck sdi ss h
+call-keeps m (ClockStep sck sdi ss) h =
+    step-follows m sck sdi ss ModuleHolds (tick-keeps m sdi ss h) (pins-keeps m sck sdi ss h)
 call-keeps m Clear h = clear-keeps m h
 
 -- Every list of calls keeps the invariant.

@@ -23,10 +23,10 @@ use Rattle.spi_types.specs.declared.Shift.{Shift}
 use Rattle.spi_types.specs.declared.Shift.the-variants.{Free, Loaded, Begun}
 use Rattle.spi_types.specs.declared.Refusal.{Refusal}
 use Rattle.spi_types.specs.declared.Answer.{Answer}
-use Rattle.spi_types.specs.declared.Answer.the-variants.{Done}
+use Rattle.spi_types.specs.declared.Answer.the-variants.{Done, Edge}
 use Rattle.spi_types.specs.declared.Call.{Call}
-use Rattle.spi_types.specs.declared.Call.the-variants.{Read, Write, Tick, Pin, Clear}
-use Rattle.spi_rules.specs.Settings.{widthOf, depthOf, framed, frameHost, frameClient, clockStops, ssenClient, ownClock}
+use Rattle.spi_types.specs.declared.Call.the-variants.{Read, Write, Tick, Pin, ClockStep, Clear}
+use Rattle.spi_rules.specs.Settings.{widthOf, depthOf, framed, frameHost, frameClient, ssenClient}
 use Rattle.spi_rules.specs.Refusals.{badSettings}
 use Rattle.spi_rules.specs.Registers.{isFree, spitbf, statSettings, statEngine, enabledEngine, disabledEngine}
 use Rattle.spi_rules.specs.Buffers.{full, empty, written, appended, overrun, emptyReceive}
@@ -36,9 +36,10 @@ use Rattle.spi_rules.specs.Bits.{receivedAfter, progressed}
 use Rattle.spi_rules.specs.Finish.{overflowed, wordAppended, isLost, delivered, sentDropped, freed, finished}
 use Rattle.spi_rules.specs.Select.{selectRemembered, aborted, deselected, selectSeen}
 use Rattle.spi_rules.specs.Edge.{wordEdges, shifted, advanced, advancedIfBegun, underWay, pulseDue, active, pulseAfter, pulsed, clocked, edged, levels, stepped}
-use Rattle.spi_rules.specs.Calls.{refuse, answering, poweredUp, wordTaken, readBuf, readOf, turnsOn, turnsOff, statWritten, writeStat, withCon1, withCon2, configured, wordWritten, writeBuf, writeOf, tickOf, pinsOf, clearOf, performOf}
+use Rattle.spi_rules.specs.Calls.{refuse, answering, poweredUp, wordTaken, readBuf, readOf, turnsOn, turnsOff, statWritten, writeStat, withCon1, withCon2, configured, wordWritten, writeBuf, writeOf, clockStepOf, tickOf, pinsOf, clearOf, performOf}
 use Rattle.spi_rules.specs.Invariant.{ShiftHolds, ModuleHolds, PulseFits, PulseHolds, MarkFits, Reached}
 use Rattle.spi_rules.proofs.Sizes.{width-eight}
+use Rattle.spi_rules.proofs.ClockSteps.{step-cases, tick-cases, pins-cases}
 use Rattle.spi_invariant.proofs.Parts.{queued, BuffersHold, EngineHolds}
 use Rattle.spi_invariant.proofs.Engine.{engine-of}
 use Rattle.spi_invariant.proofs.Edge.{clocked-buffers, selected-sck, selected-holds}
@@ -440,27 +441,27 @@ module _ (m : Module) (k : ModuleHolds m) (h : PulseHolds m) (g : MarkFits (m .s
       if-keeps FitsAfter (spitbf m) _ _ (λ e. refuse-fits _)
       (λ room. moves-fits _ _ enabled (written-fits (m .settings) _ (m .engine) (h enabled)) (written-mark (m .settings) _ (m .engine) g)))))))
 
+  -- Levels are seen.
+  seen-fits : (a : Answer) → m .settings .spien ≡ true → (sck sdi ss : Bool) →
+      FitsAfter (answering m a (stepped (m .settings) (levels sck sdi ss) (m .engine)))
+  seen-fits a on sck sdi ss =
+      moves-fits _ _ on (stepped-fits (m .settings) sck sdi ss (m .engine) (engine-of m k) (h on))
+      (stepped-mark (m .settings) sck sdi ss (m .engine) (engine-of m k) g)
+
   tick-fits : (sdi ss : Bool) → FitsAfter (tickOf m sdi ss)
-  unfolding tickOf
   tick-fits sdi ss =
-      if-keeps FitsAfter (not (m .settings .spien)) _ _ (λ e. refuse-fits _)
-      (λ on.
-      let enabled : m .settings .spien ≡ true = not-false (m .settings .spien) on in
-      if-keeps FitsAfter (not (ownClock (m .settings))) _ _ (λ e. refuse-fits _)
-      (λ own.
-      if-keeps FitsAfter (clockStops (m .settings) && isFree (m .engine .shift)) _ _ (λ e. record { fits = h; mark = g })
-      (λ moves. moves-fits _ _ enabled (stepped-fits (m .settings) _ sdi _ (m .engine) (engine-of m k) (h enabled))
-      (stepped-mark (m .settings) _ sdi _ (m .engine) (engine-of m k) g))))
+      tick-cases m sdi ss FitsAfter (refuse-fits _) (refuse-fits _) (λ on own still. record { fits = h; mark = g })
+      (λ on own moves. seen-fits Edge on _ sdi _)
 
   pins-fit : (sck sdi ss : Bool) → FitsAfter (pinsOf m sck sdi ss)
-  unfolding pinsOf
   pins-fit sck sdi ss =
-      if-keeps FitsAfter (not (m .settings .spien)) _ _ (λ e. refuse-fits _)
-      (λ on.
-      let enabled : m .settings .spien ≡ true = not-false (m .settings .spien) on in
-      if-keeps FitsAfter (ownClock (m .settings)) _ _ (λ e. refuse-fits _)
-      (λ pin. moves-fits _ _ enabled (stepped-fits (m .settings) sck sdi ss (m .engine) (engine-of m k) (h enabled))
-      (stepped-mark (m .settings) sck sdi ss (m .engine) (engine-of m k) g)))
+      pins-cases m sck sdi ss FitsAfter (refuse-fits _) (refuse-fits _) (λ on pin. seen-fits Done on sck sdi ss)
+
+  step-fits : (sck sdi ss : Bool) → FitsAfter (clockStepOf m sck sdi ss)
+  step-fits sck sdi ss =
+      step-cases m sck sdi ss FitsAfter (λ off. refuse-fits _) (λ on own still. record { fits = h; mark = g })
+      (λ on own moves. seen-fits Done on _ sdi _)
+      (λ on pin. seen-fits Done on sck sdi ss)
 
   clear-fits : FitsAfter (clearOf m)
   unfolding clearOf answering
@@ -472,6 +473,7 @@ module _ (m : Module) (k : ModuleHolds m) (h : PulseHolds m) (g : MarkFits (m .s
   call-fits (Write register v) = write-fits register v
   call-fits (Tick sdi ss) = tick-fits sdi ss
   call-fits (Pin sck sdi ss) = pins-fit sck sdi ss
+  call-fits (ClockStep sck sdi ss) = step-fits sck sdi ss
   call-fits Clear = clear-fits
 
 -- Power-up, and every call.

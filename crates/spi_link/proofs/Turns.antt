@@ -10,7 +10,7 @@ use mathlib.Core.Path.{_≡_, refl, sym, ap, subst, _∙_}
 use native.Mathlib.Numerals.{unary-clauses}
 use borrow.Author.Tests.{not-false}
 use Rattle.laws.specs.Choice.{if_then_else_}
-use Rattle.laws.proofs.Keeps.{if-true, if-false, clash, and-false, and-both, or-left, or-right}
+use Rattle.laws.proofs.Keeps.{clash, and-false, and-both, or-left, or-right}
 use Rattle.laws.proofs.Choices.{by-case}
 use Rattle.spi_types.specs.declared.Settings.{Settings}
 use Rattle.spi_types.specs.declared.Engine.{Engine}
@@ -22,7 +22,8 @@ use Rattle.spi_rules.specs.Settings.{framed, clockStops, ssenClient, ownClock}
 use Rattle.spi_rules.specs.Registers.{isFree}
 use Rattle.spi_rules.specs.Select.{deselected}
 use Rattle.spi_rules.specs.Edge.{levels, stepped}
-use Rattle.spi_rules.specs.Calls.{answering, tickOf, performOf, sckOf, undriven, sdoOf}
+use Rattle.spi_rules.proofs.ClockSteps.{tick-stands}
+use Rattle.spi_rules.specs.Calls.{answering, performOf, sckOf, undriven, sdoOf}
 use Rattle.spi_invariant.proofs.CallsWhen.{own-not-client, tick-is, pin-is, told-elsewhere, unframed-told}
 use Rattle.spi_invariant.proofs.Select.{stepped-select}
 use Rattle.spi_link_rules.specs.declared.Run.{Run}
@@ -119,13 +120,10 @@ goes host client (suc left) some o e h =
 module _ {host client : Module} {left : ℕ} {z : Run} (some : left ≡ 0 → ⊥) where
   pub stops : Linkable host client → isFree (host .engine .shift) ≡ true → z ≡ runStops host client →
       z ≡ hostTurn left host client
-  unfolding hostTicked tickOf handedOver madeEdge if_then_else_
+  unfolding hostTicked handedOver madeEdge if_then_else_
   stops l free h =
       goes host client left some (record { answer = NoEdge; after = host })
-      (if-false (not (host .settings .spien)) _ _ (ap not (l .hostOn))
-      ∙ if-false (not (ownClock (host .settings))) _ _ (ap not (l .own))
-      ∙ if-true (clockStops (host .settings) && isFree (host .engine .shift)) _ _
-      (and-both (clockStops (host .settings)) _ (ap not (l .unframed)) free))
+      (tick-stands host _ false (l .hostOn) (l .own) (and-both (clockStops (host .settings)) _ (ap not (l .unframed)) free))
       h
 
   pub hands-over : {to : Module} → Wired host client → isFree (host .engine .shift) ≡ false →

@@ -11,3 +11,5 @@ pub mod LinkExamplesHold
 pub mod LinkDemandsHold
 -- The page, run:
 pub mod LinkPageHolds
+-- The clock step beneath ticks and pin calls moves nothing:
+pub mod LinkBefore

@@ -13,7 +13,7 @@ use native.Mathlib.Omega.{arith}
 use borrow.Author.Tests.{ltb-true, ltb-false, not-false}
 use lib.Dec.{ltb}
 use lib.ListN.{length}
-use Rattle.laws.proofs.Keeps.{if-keeps, and-false, and-left, and-both, clash, or-left, or-right}
+use Rattle.laws.proofs.Keeps.{if-keeps, by-test, and-false, and-left, and-both, clash, or-left, or-right}
 use Rattle.spi_types.specs.declared.Settings.{Settings}
 use Rattle.spi_types.specs.declared.Module.{Module}
 use Rattle.spi_types.specs.declared.Outcome.{Outcome}
@@ -31,6 +31,7 @@ use Rattle.spi_rules.specs.Words.{unfinished, leftBuffer, waitingIn}
 use Rattle.spi_rules.specs.Demands.{edgesMade, IsIdle}
 use Rattle.spi_rules.proofs.Sizes.{width-most}
 use Rattle.spi_rules.proofs.BuffersOrder.{waiting-length}
+use Rattle.spi_rules.proofs.ClockSteps.{stands, tick-cases, tick-stands, tick-own}
 use Rattle.spi_rules.proofs.RefusalsUnchanged.{no-edge-unchanged}
 use Rattle.spi_invariant.proofs.Holds.{call-keeps}
 use Rattle.spi_owed.proofs.Parts.{givenIn, owedIn, AllUndisturbing}
@@ -64,25 +65,18 @@ owed-most m h =
 
 -- A tick leaves the settings.
 tick-settings : (m : Module) (sdi ss : Bool) → tickOf m sdi ss .after .settings ≡ m .settings
-unfolding tickOf refuse answering
+unfolding refuse answering
 tick-settings m sdi ss =
-    let P : Outcome → Type 0 = λ (o : Outcome). o .after .settings ≡ m .settings in
-    if-keeps P (not (m .settings .spien)) _ _ (λ e. refl)
-    (λ on.
-    if-keeps P (not (ownClock (m .settings))) _ _ (λ e. refl)
-    (λ own. if-keeps P (clockStops (m .settings) && isFree (m .engine .shift)) _ _ (λ e. refl) (λ e. refl)))
+    tick-cases m sdi ss (λ (o : Outcome). o .after .settings ≡ m .settings) refl refl (λ on own still. refl) (λ on own moves. refl)
 
 -- A tick of an enabled host with its own clock that makes no edge says so.
 tick-none : (m : Module) (sdi ss : Bool) → m .settings .spien ≡ true → ownClock (m .settings) ≡ true →
     madeEdge (tickOf m sdi ss .answer) ≡ false → tickOf m sdi ss .answer ≡ NoEdge
-unfolding tickOf answering madeEdge
-tick-none m sdi ss on own =
-    let P : Outcome → Type 0 = λ (o : Outcome). madeEdge (o .answer) ≡ false → o .answer ≡ NoEdge in
-    if-keeps P (not (m .settings .spien)) _ _ (λ off. clash (not (m .settings .spien)) off (ap not on))
-    (λ e.
-    if-keeps P (not (ownClock (m .settings))) _ _ (λ pin. clash (not (ownClock (m .settings))) pin (ap not own))
-    (λ f.
-    if-keeps P (clockStops (m .settings) && isFree (m .engine .shift)) _ _ (λ stands none. refl) (λ moves none. clash true refl none)))
+unfolding answering madeEdge
+tick-none m sdi ss on own none =
+    by-test (stands m)
+    (λ still. ap (λ (o : Outcome). o .answer) (tick-stands m sdi ss on own still))
+    (λ moves. clash true refl (sym (ap (λ (o : Outcome). madeEdge (o .answer)) (tick-own m sdi ss on own moves)) ∙ none))
 
 -- The host's calls leave it undisturbed: they are ticks.
 turn-undisturbed : (left : ℕ) (host client : Module) → host .settings .spien ≡ true →

@@ -1,19 +1,21 @@
 -- What calls on a module in memory come to.
 --     kept, changed   a call that leaves memory alone, and one whose answer allows that it does not
 --     likewise        a call that answers as another does
+--     edge-told       a tick that answers for a clock step
 --     answered        the outcome of a step of the engine
 --     set, then-set   the outcome of other settings, and of a step and then other settings
 -- Assumes nothing.
 use Prim.Native.Nat.{ℕ}
-use mathlib.Core.Bool.{false}
+use mathlib.Core.Bool.{true, false}
 use mathlib.Core.List.{List}
-use mathlib.Core.Path.{_≡_, refl, _∙_}
+use mathlib.Core.Path.{_≡_, refl, sym, ap, _∙_}
 use Rattle.laws.proofs.Keeps.{clash}
 use Rattle.spi_types.specs.declared.Settings.{Settings}
 use Rattle.spi_types.specs.declared.Engine.{Engine}
 use Rattle.spi_types.specs.declared.Outcome.{Outcome}
 use Rattle.spi_types.specs.declared.Answer.{Answer}
-use Rattle.spi_rules.specs.Calls.{answering}
+use Rattle.spi_types.specs.declared.Answer.the-variants.{Refused, Done, Value, NoEdge, Edge}
+use Rattle.spi_rules.specs.Calls.{answering, edgeFor, edgeTold}
 use Rattle.spi_memory.specs.Memory.{settingsIn, engineIn, moduleIn, Steps, Sets}
 use Rattle.spi_module.specs.Answered.{outcomeIn, untouching, Answers}
 
@@ -25,6 +27,22 @@ changed {x = x} k e = record { outcome = e; untouched = λ t. clash (untouching 
 
 pub likewise : {o p : Outcome} {x : Answer} {a b : List ℕ} → Answers o x a b → o ≡ p → Answers p x a b
 likewise h e = record { outcome = h .outcome ∙ e; untouched = h .untouched }
+
+-- A clock step leaves memory alone wherever the tick that answers for it tells so.
+untouching-for : (x : Answer) → untouching (edgeFor x) ≡ true → untouching x ≡ true
+untouching-for (Refused r) e = refl
+untouching-for Done e = clash false e refl
+untouching-for (Value v) e = e
+untouching-for NoEdge e = refl
+untouching-for Edge e = e
+
+pub edge-told : {o : Outcome} {x y : Answer} {a b : List ℕ} → Answers o x a b → y ≡ edgeFor x → Answers (edgeTold o) y a b
+unfolding edgeTold
+edge-told {x = x} {b = b} h e =
+    record {
+      outcome = ap (λ (z : Answer). outcomeIn z b) e ∙ ap edgeTold (h .outcome);
+      untouched = λ t. h .untouched (untouching-for x (sym (ap untouching e) ∙ t));
+    }
 
 pub answered : (x : Answer) {f : Settings → Engine → Engine} {a b : List ℕ} {n : Engine} → Steps f a b →
     f (settingsIn a) (engineIn a) ≡ n → outcomeIn x b ≡ answering (moduleIn a) x n

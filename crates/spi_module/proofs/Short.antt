@@ -5,7 +5,8 @@
 --                        a step by which a word goes on: alone, after another, and before another
 --     mid-stays          a step that leaves the shift register leaves the next edge within its word
 --     host-ends          an edge of a frame host at which it gives no pulse
---     ticks-within, sees-within
+--     steps-within       what a clock step answers there
+--     ticks-within, tick-shortly, pins-shortly
 --                        what a tick and a pin call answer there
 -- Assumes nothing.
 use Prim.Native.Nat.{ℕ, _+_, _<_}
@@ -16,7 +17,7 @@ use native.Mathlib.Omega.{arith}
 use borrow.Author.Tests.{ne-eqb, not-true}
 use Rattle.laws.specs.Choice.{if_then_else_}
 use Rattle.laws.proofs.Keeps.{if-keeps, if-false, and-left, and-right, and-false, and-first, clash}
-use Rattle.laws.proofs.Choices.{not-so, so-lt}
+use Rattle.laws.proofs.Choices.{so-lt}
 use Rattle.spi_types.specs.declared.Settings.{Settings}
 use Rattle.spi_types.specs.declared.Progress.{Progress}
 use Rattle.spi_types.specs.declared.Shift.{Shift}
@@ -31,11 +32,12 @@ use Rattle.spi_rules.specs.Registers.{isFree}
 use Rattle.spi_rules.specs.Loading.{isBegun}
 use Rattle.spi_rules.specs.Bits.{progressed}
 use Rattle.spi_rules.specs.Edge.{wordEdges, shifted, advanced, pulseDue, active, pulseAfter, clocked, levels, stepped}
-use Rattle.spi_rules.specs.Calls.{tickOf, pinsOf}
+use Rattle.spi_rules.specs.Calls.{clockStepOf, tickOf, pinsOf}
+use Rattle.spi_rules.proofs.ClockSteps.{step-own, step-pin, tick-is-step, beside-pins}
 use Rattle.spi_memory.specs.Memory.{placeIn, progressAt, settingsIn, engineIn, moduleIn, wentOn, Steps}
 use Rattle.spi_memory.proofs.Looks.{begun-there}
 use Rattle.spi_module.specs.Answered.{Answers, edgeAdvanced, edgeCounted, turned, Midword, GoesOn, Shortens, Shortly}
-use Rattle.spi_module.proofs.Answers.{changed, answered}
+use Rattle.spi_module.proofs.Answers.{changed, likewise, edge-told, answered}
 use Rattle.spi_module.proofs.Edges.{goes-on, on-begun, ends-framed, told-turn}
 
 pub passed : {f : Settings → Engine → Engine} {a : List ℕ} → Shortens f false a a
@@ -142,18 +144,43 @@ begun-busy (Loaded word) e = refl
 begun-busy (Begun p) e = refl
 
 module _ {a b : List ℕ} (on : settingsIn a .spien ≡ true) where
+  -- A host with its own clock, and any other module.
+  steps-own : (sck sdi ss : Bool) → ownClock (settingsIn a) ≡ true → frameClient (settingsIn a) ≡ false →
+      isBegun (engineIn a .shift) ≡ true → Steps (λ s. turned s sdi) a b → Answers (clockStepOf (moduleIn a) sck sdi ss) Done a b
+  steps-own sck sdi ss own deaf begun step =
+      changed refl
+      (answered _ step
+      (ap (turned (settingsIn a) sdi) (sym (if-false (frameClient (settingsIn a)) _ _ deaf)) ∙ told-turn (moduleIn a) sdi ss own)
+      ∙ sym (step-own (moduleIn a) sck sdi ss on own (and-false (clockStops (settingsIn a)) _ (begun-busy (engineIn a .shift) begun))))
+
+  steps-pin : (sck sdi ss : Bool) → ownClock (settingsIn a) ≡ false → Steps (λ s. stepped s (levels sck sdi ss)) a b →
+      Answers (clockStepOf (moduleIn a) sck sdi ss) Done a b
+  steps-pin sck sdi ss pin step = changed refl (answered _ step refl ∙ sym (step-pin (moduleIn a) sck sdi ss on pin))
+
+  pub steps-within : (own sck sdi ss : Bool) → own ≡ ownClock (settingsIn a) → frameClient (settingsIn a) ≡ false →
+      isBegun (engineIn a .shift) ≡ true → Steps (λ s n. if own then turned s sdi n else stepped s (levels sck sdi ss) n) a b →
+      Answers (clockStepOf (moduleIn a) sck sdi ss) Done a b
+  unfolding if_then_else_
+  steps-within true sck sdi ss own deaf begun step = steps-own sck sdi ss (sym own) deaf begun step
+  steps-within false sck sdi ss own deaf begun step = steps-pin sck sdi ss (sym own) step
+
   pub ticks-within : (sdi ss : Bool) → ownClock (settingsIn a) ≡ true → frameClient (settingsIn a) ≡ false →
       isBegun (engineIn a .shift) ≡ true → Steps (λ s. turned s sdi) a b → Answers (tickOf (moduleIn a) sdi ss) Edge a b
-  unfolding tickOf
   ticks-within sdi ss own deaf begun step =
-      changed refl
-      (not-so _ _ _ (ap not on)
-      (not-so _ _ _ (ap not own)
-      (not-so _ _ _ (and-false (clockStops (settingsIn a)) _ (begun-busy (engineIn a .shift) begun))
-      (answered _ step
-      (ap (turned (settingsIn a) sdi) (sym (if-false (frameClient (settingsIn a)) _ _ deaf)) ∙ told-turn (moduleIn a) sdi ss own)))))
+      likewise (edge-told (steps-own false sdi ss own deaf begun step) refl) (sym (tick-is-step (moduleIn a) sdi ss own))
 
-  pub sees-within : (sck sdi ss : Bool) → ownClock (settingsIn a) ≡ false → Steps (λ s. stepped s (levels sck sdi ss)) a b →
-      Answers (pinsOf (moduleIn a) sck sdi ss) Done a b
-  unfolding pinsOf
-  sees-within sck sdi ss pin step = changed refl (not-so _ _ _ (ap not on) (not-so _ _ _ pin (answered _ step refl)))
+-- A tick, and a pin call, by the clock step of their kind of module.
+module _ {a b : List ℕ} {made : Bool} where
+  pub tick-shortly : (sdi ss : Bool) → ownClock (settingsIn a) ≡ true → Shortly (clockStepOf (moduleIn a) false sdi ss) Done made a b →
+      Shortly (tickOf (moduleIn a) sdi ss) Edge made a b
+  tick-shortly sdi ss own h =
+      record {
+        taken = λ e. likewise (edge-told (h .taken e) refl) (sym (tick-is-step (moduleIn a) sdi ss own));
+        goes = h .goes;
+        left = h .left;
+      }
+
+  pub pins-shortly : (sck sdi ss : Bool) → ownClock (settingsIn a) ≡ false → Shortly (clockStepOf (moduleIn a) sck sdi ss) Done made a b →
+      Shortly (pinsOf (moduleIn a) sck sdi ss) Done made a b
+  pins-shortly sck sdi ss pin h =
+      record { taken = λ e. likewise (h .taken e) (beside-pins (moduleIn a) sck sdi ss pin); goes = h .goes; left = h .left }

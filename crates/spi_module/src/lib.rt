@@ -18,7 +18,7 @@ ghost use Rattle.spi_rules.specs.Registers.{con1From, con2From, statValue};
 ghost use Rattle.spi_rules.specs.Loading.{isBegun};
 ghost use Rattle.spi_rules.specs.Select.{deselected, selectRemembered, selectSeen};
 ghost use Rattle.spi_rules.specs.Edge.{fresh, advanced, advancedIfBegun, awaitsPulse, pulseDue, pulseAfter, levels, stepped};
-ghost use Rattle.spi_rules.specs.Calls.{readBuf, readOf, statWritten, writeStat, withCon1, withCon2, configured, writeBuf, writeOf, tickOf, pinsOf, clearOf, performOf, sdoOf, ssOf};
+ghost use Rattle.spi_rules.specs.Calls.{readBuf, readOf, statWritten, writeStat, withCon1, withCon2, configured, writeBuf, writeOf, clockStepOf, edgeFor, tickOf, pinsOf, clearOf, performOf, sdoOf, ssOf};
 ghost use Rattle.spi_memory.specs.Memory.{settingsIn, engineIn, moduleIn, Steps};
 ghost use Rattle.spi_module.specs.Answered.{Answers, edgeAdvanced, edgeCounted, turned, Midword, GoesOn, Shortens, Shortly};
 
@@ -287,7 +287,7 @@ pub fn see(w: &mut [u16; 96], sck: bool, sdi: bool, ss: bool)
     }
 }
 
-// The select level that a tick carries is remembered by a frame client alone.
+// The select level that a host with its own clock is told is remembered by a frame client alone.
 fn hear_select(w: &mut [u16; 96], ss: bool)
     ensures { λ _. ⌜ Steps (λ s n. if frameClient s then selectRemembered ss n else n) (now (w .entry)) (now (w .exit)) ⌝ }
 {
@@ -362,31 +362,36 @@ fn within(w: &mut [u16; 96], own: bool, sck: bool, sdi: bool, ss: bool) -> bool
     true
 }
 
-// A tick by the short way, and a pin call: whether it was made.
-pub fn tick_within(w: &mut [u16; 96], sdi: bool, ss: bool) -> bool
-    ensures { λ r. ⌜ Shortly (tickOf (moduleIn (now (w .entry))) sdi ss) Edge r (now (w .entry)) (now (w .exit)) ⌝ }
+// A clock step by the short way: whether it was made. A tick and a pin call are that of their kind of module.
+pub fn step_within(w: &mut [u16; 96], sck: bool, sdi: bool, ss: bool) -> bool
+    ensures { λ r. ⌜ Shortly (clockStepOf (moduleIn (now (w .entry))) sck sdi ss) Done r (now (w .entry)) (now (w .exit)) ⌝ }
 {
     let s = spi_memory::settings_in(w);
     if !s.spien {
         return false;
     }
+    let own = spi_settings::own_clock(s);
+    within(w, own, sck, sdi, ss)
+}
+
+pub fn tick_within(w: &mut [u16; 96], sdi: bool, ss: bool) -> bool
+    ensures { λ r. ⌜ Shortly (tickOf (moduleIn (now (w .entry))) sdi ss) Edge r (now (w .entry)) (now (w .exit)) ⌝ }
+{
+    let s = spi_memory::settings_in(w);
     if !spi_settings::own_clock(s) {
         return false;
     }
-    within(w, true, false, sdi, ss)
+    step_within(w, false, sdi, ss)
 }
 
 pub fn pins_within(w: &mut [u16; 96], sck: bool, sdi: bool, ss: bool) -> bool
     ensures { λ r. ⌜ Shortly (pinsOf (moduleIn (now (w .entry))) sck sdi ss) Done r (now (w .entry)) (now (w .exit)) ⌝ }
 {
     let s = spi_memory::settings_in(w);
-    if !s.spien {
-        return false;
-    }
     if spi_settings::own_clock(s) {
         return false;
     }
-    within(w, false, sck, sdi, ss)
+    step_within(w, sck, sdi, ss)
 }
 
 // A frame host's pulse after an edge to the level `sck` at which it gives none: at the active level it ends.
@@ -431,6 +436,44 @@ pub fn frame_within(w: &mut [u16; 96], sdi: bool, ss: bool) -> bool
     true
 }
 
+// A clock step, with the levels SCK, SDI and SS. A host with its own clock makes its next edge, or none if it is unframed and no word is
+// loaded; any other module sees the levels.
+pub fn clock_step(w: &mut [u16; 96], sck: bool, sdi: bool, ss: bool) -> Answer
+    ensures { λ r. ⌜ Answers (clockStepOf (moduleIn (now (w .entry))) sck sdi ss) r (now (w .entry)) (now (w .exit)) ⌝ }
+{
+    let s = spi_memory::settings_in(w);
+    if !s.spien {
+        return Answer::Refused(Refusal::Disabled);
+    }
+    if !spi_settings::own_clock(s) {
+        see(w, sck, sdi, ss);
+        return Answer::Done;
+    }
+    if spi_settings::is_framed(s) {
+        hear_select(w, ss);
+        framed_turn(w, sdi);
+        return Answer::Done;
+    }
+    if spi_memory::is_free(w) {
+        return Answer::NoEdge;
+    }
+    plain_turn(w, sdi);
+    Answer::Done
+}
+
+// What a tick answers for a clock step: one that is done is an edge made.
+fn edge_for(a: Answer) -> Answer
+    ensures { λ r. ⌜ r ≡ edgeFor a ⌝ }
+{
+    match a {
+        Answer::Refused(r) => Answer::Refused(r),
+        Answer::Done => Answer::Edge,
+        Answer::Value(v) => Answer::Value(v),
+        Answer::NoEdge => Answer::NoEdge,
+        Answer::Edge => Answer::Edge,
+    }
+}
+
 // A tick of a host's own clock, with the levels SDI and SS: one edge, or none of an unframed host with no word loaded.
 pub fn tick(w: &mut [u16; 96], sdi: bool, ss: bool) -> Answer
     ensures { λ r. ⌜ Answers (tickOf (moduleIn (now (w .entry))) sdi ss) r (now (w .entry)) (now (w .exit)) ⌝ }
@@ -442,22 +485,8 @@ pub fn tick(w: &mut [u16; 96], sdi: bool, ss: bool) -> Answer
     if !spi_settings::own_clock(s) {
         return Answer::Refused(Refusal::WrongClock);
     }
-    if spi_settings::is_framed(s) {
-        hear_select(w, ss);
-        framed_turn(w, sdi);
-        return Answer::Edge;
-    }
-    if spi_memory::is_begun(w) {
-        let pins = spi_memory::pins_in(w);
-        spi_memory::store_sck(w, !pins.sck);
-        go_on(w, sdi, s.con1.cke);
-        return Answer::Edge;
-    }
-    if spi_memory::is_free(w) {
-        return Answer::NoEdge;
-    }
-    plain_turn(w, sdi);
-    Answer::Edge
+    let answer = clock_step(w, false, sdi, ss);
+    edge_for(answer)
 }
 
 // The levels SCK, SDI and SS are shown to a module that is clocked from its pin.
@@ -471,8 +500,7 @@ pub fn pins(w: &mut [u16; 96], sck: bool, sdi: bool, ss: bool) -> Answer
     if spi_settings::own_clock(s) {
         return Answer::Refused(Refusal::WrongClock);
     }
-    see(w, sck, sdi, ss);
-    Answer::Done
+    clock_step(w, sck, sdi, ss)
 }
 
 // A read of BUF: refused when disabled, while the receive buffer is marked, or with nothing unread.
@@ -638,6 +666,7 @@ pub fn perform(w: &mut [u16; 96], c: Call) -> Answer
         Call::Write(register, v) => write(w, register, v),
         Call::Tick(sdi, ss) => tick(w, sdi, ss),
         Call::Pin(sck, sdi, ss) => pins(w, sck, sdi, ss),
+        Call::ClockStep(sck, sdi, ss) => clock_step(w, sck, sdi, ss),
         Call::Clear => clear(w),
     }
 }

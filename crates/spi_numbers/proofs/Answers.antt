@@ -1,5 +1,6 @@
 -- A call that is answered tells the number of its answer.
 --     told   what a caller is told of a call of one module
+--     step-told   a clock step
 --     link-told   a linked run
 --     clock-refused, clock-told   a clock report
 -- Assumes nothing.
@@ -14,15 +15,26 @@ use Rattle.spi_types.specs.declared.Outcome.{Outcome}
 use Rattle.spi_link_rules.specs.declared.LinkAnswer.{LinkAnswer}
 use Rattle.spi_link_rules.specs.declared.Linked.{Linked}
 use Rattle.spi_clock_rules.specs.declared.ClockSaid.{ClockSaid}
+use Rattle.spi_memory.specs.Memory.{moduleIn}
 use Rattle.spi_module.specs.Answered.{untouching, Answers}
 use Rattle.spi_link.specs.Wire.{isRefused, Links}
-use Rattle.spi_numbers.specs.Told.{answerNumber, Tells, linkNumber, LinkTells, kindNumber, clockNumber, clockFloats, ClockTells}
+use Rattle.spi_numbers.specs.Told.{answerNumber, Tells, levelsNumber, stepNumber, StepTells, linkNumber, LinkTells, kindNumber, clockNumber, clockFloats, ClockTells}
 
 pub told : {o : Outcome} {x : Answer} {r : ℕ} {a b : List ℕ} → Answers o x a b → r ≡ answerNumber x → Tells o r a b
 told h e =
     let same = ap (λ (o : Outcome). o .answer) (h .outcome) in
     record {
       number = e ∙ ap answerNumber same;
+      holds = ap (λ (o : Outcome). o .after) (h .outcome);
+      untouched = λ t. h .untouched (ap untouching same ∙ t);
+    }
+
+pub step-told : {o : Outcome} {x : Answer} {seen r : ℕ} {a b : List ℕ} → Answers o x a b → seen ≡ levelsNumber (moduleIn b) →
+    r ≡ stepNumber x seen → StepTells o r a b
+step-told {x = x} h look e =
+    let same = ap (λ (o : Outcome). o .answer) (h .outcome) in
+    record {
+      number = e ∙ ap (stepNumber x) look ∙ ap (λ (o : Outcome). stepNumber (o .answer) (levelsNumber (o .after))) (h .outcome);
       holds = ap (λ (o : Outcome). o .after) (h .outcome);
       untouched = λ t. h .untouched (ap untouching same ∙ t);
     }

@@ -8,10 +8,11 @@ use lib.Ieee.{Float}
 use Rattle.laws.specs.Choice.{if_then_else_}
 use Rattle.spi_types.specs.declared.Module.{Module}
 use Rattle.spi_types.specs.declared.Answer.{Answer}
+use Rattle.spi_types.specs.declared.Answer.the-variants.{Refused, Done, Value, NoEdge, Edge}
 use Rattle.spi_types.specs.declared.Outcome.{Outcome}
 use Rattle.spi_types.specs.declared.Output.{Output}
 use Rattle.spi_types.specs.declared.Output.the-variants.{Low, High, Undriven}
-use Rattle.spi_rules.specs.Refusals.{saidOf}
+use Rattle.spi_rules.specs.Refusals.{numberOf, saidOf}
 use Rattle.spi_rules.specs.Calls.{interruptOf, sckOf, sdoOf, ssOf}
 use Rattle.spi_link_rules.specs.declared.LinkAnswer.{LinkAnswer}
 use Rattle.spi_link_rules.specs.declared.Linked.{Linked}
@@ -49,6 +50,21 @@ seenNumber interrupt sck sdo ss = (if interrupt then 1 else 0) + (if sck then 2 
 
 unfoldable pub levelsNumber : Module → ℕ
 levelsNumber m = seenNumber (interruptOf m) (sckOf m) (sdoOf m) (ssOf m)
+
+-- A clock step (document 02, Eleven), of every module alike: the levels that are seen after it, and in bit 6 whether it made no edge. A
+-- refusal has its number in the upper 16 bits, and shows nothing.
+unfoldable pub stepNumber : Answer → ℕ → ℕ
+stepNumber (Refused r) seen = numberOf r * 65536
+stepNumber Done seen = seen
+stepNumber NoEdge seen = seen + 64
+-- which it does not answer
+stepNumber (Value v) seen = seen
+stepNumber Edge seen = seen
+
+pub record StepTells (o : Outcome) (r : ℕ) (before after : List ℕ) : Type 0 where
+  pub number : r ≡ stepNumber (o .answer) (levelsNumber (o .after))
+  pub holds : moduleIn after ≡ o .after
+  pub untouched : untouching (o .answer) ≡ true → after ≡ before
 
 -- A clock report: 1 is internal, 2 external, 0 none.
 unfoldable pub kindNumber : Bool → Bool → ℕ

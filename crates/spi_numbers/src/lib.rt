@@ -4,11 +4,11 @@ use spi_types::Answer;
 ghost use Prim.Native.Nat.{_≤_};
 ghost use mathlib.Core.Path.{_≡_};
 ghost use Rattle.laws.specs.Choice.{if_then_else_};
-ghost use Rattle.spi_rules.specs.Calls.{readOf, writeOf, tickOf, pinsOf, clearOf, sdoOf, ssOf};
+ghost use Rattle.spi_rules.specs.Calls.{readOf, writeOf, tickOf, pinsOf, clockStepOf, clearOf, sdoOf, ssOf};
 ghost use Rattle.spi_link_rules.specs.Link.{linkedOf};
 ghost use Rattle.spi_clock_rules.specs.Clock.{reportOf, saidClock};
 ghost use Rattle.spi_memory.specs.Memory.{moduleIn};
-ghost use Rattle.spi_numbers.specs.Told.{answerNumber, Tells, outputBits, levelsNumber, kindNumber, ClockTells, linkNumber, LinkTells};
+ghost use Rattle.spi_numbers.specs.Told.{answerNumber, Tells, outputBits, levelsNumber, stepNumber, StepTells, kindNumber, ClockTells, linkNumber, LinkTells};
 
 // An answer as a number.
 fn answer_number(a: Answer) -> u32
@@ -107,7 +107,7 @@ fn ss_bits(w: &[u16; 96]) -> u32
 
 // The interrupt flag and the levels of SCK, SDO and SS.
 pub fn levels(w: &[u16; 96]) -> u32
-    ensures { λ r. ⌜ r ≡ levelsNumber (moduleIn (now (w .entry))) ⌝ }
+    ensures { λ r. ⌜ (r ≡ levelsNumber (moduleIn (now (w .entry)))) × (r ≤ 63) ⌝ }
 {
     let pins = spi_memory::pins_in(w);
     let flag = weight(spi_memory::interrupt_in(w), 1);
@@ -115,6 +115,32 @@ pub fn levels(w: &[u16; 96]) -> u32
     let sdo = sdo_bits(w);
     let ss = ss_bits(w);
     flag + sck + sdo * 4 + ss * 16
+}
+
+// What a clock step tells, with the levels after it.
+fn step_number(a: Answer, seen: u32) -> u32
+    requires { ⌜ seen ≤ 63 ⌝ }
+    ensures { λ r. ⌜ r ≡ stepNumber a seen ⌝ }
+{
+    match a {
+        Answer::Refused(r) => spi_views::refusal_number(r) as u32 * 65536,
+        Answer::Done => seen,
+        Answer::Value(_) => seen,
+        Answer::NoEdge => seen + 64,
+        Answer::Edge => seen,
+    }
+}
+
+// A clock step with the levels SCK, SDI and SS, and a look at the pins after it. Within a word it goes the short way.
+pub fn clock_step(w: &mut [u16; 96], sck: bool, sdi: bool, ss: bool) -> u32
+    ensures { λ r. ⌜ StepTells (clockStepOf (moduleIn (now (w .entry))) sck sdi ss) r (now (w .entry)) (now (w .exit)) ⌝ }
+{
+    if spi_module::step_within(w, sck, sdi, ss) {
+        return levels(w);
+    }
+    let answer = spi_module::clock_step(w, sck, sdi, ss);
+    let seen = levels(w);
+    step_number(answer, seen)
 }
 
 // The kind of a clock: internal, external or none.

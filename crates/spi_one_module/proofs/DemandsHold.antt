@@ -5,7 +5,8 @@ use mathlib.Core.Path.{sym, _∙_}
 use Rattle.spi_rules.specs.Lives.{life}
 use Rattle.spi_rules.specs.Demands.{OneModule}
 use Rattle.spi_rules.specs.Examples.{paperExamples}
-use Rattle.spi_rules.proofs.ExamplesHold.{examples-hold, further-examples-hold, frame-examples-hold, mark-examples-hold, figures-hold, power-up-zero}
+use Rattle.spi_rules.proofs.ExamplesHold.{examples-hold, further-examples-hold, frame-examples-hold, mark-examples-hold, step-examples-hold, figures-hold, power-up-zero}
+use Rattle.spi_rules.proofs.ClockSteps.{clock-steps}
 use Rattle.spi_rules.proofs.RefusalsKinds.{call-fits}
 use Rattle.spi_rules.proofs.RefusalsExact.{never-given, refused-exactly}
 use Rattle.spi_rules.proofs.RefusalsUnchanged.{refused-unchanged}
@@ -30,7 +31,7 @@ one-module =
             inKind = λ m c. call-fits m c .kind;
             oneOutcome = λ m c x y e f. e ∙ sym f;
           };
-      paperExamples = (examples-hold, further-examples-hold, frame-examples-hold, mark-examples-hold);
+      paperExamples = (examples-hold, further-examples-hold, frame-examples-hold, mark-examples-hold, step-examples-hold);
       figures = figures-hold;
       allZero = power-up-zero;
       reached = λ b cs. life-holds b cs .holds;
@@ -43,4 +44,5 @@ one-module =
       fallsIdle = λ b cs on own. host-falls-idle (life b cs) (life-holds b cs) on own;
       framesHold = λ b cs on framed. frames-hold (life b cs) (life-holds b cs) on framed;
       enabling = λ b cs c off. enabling-shows-none (life b cs) c off;
+      clockSteps = clock-steps;
     }

@@ -28,20 +28,21 @@ use Rattle.spi_types.specs.declared.Answer.the-variants.{Done, Value, Edge}
 use Rattle.spi_types.specs.declared.Refusal.{Refusal}
 use Rattle.spi_types.specs.declared.Outcome.{Outcome}
 use Rattle.spi_types.specs.declared.Call.{Call}
-use Rattle.spi_types.specs.declared.Call.the-variants.{Read, Write, Tick, Pin, Clear}
-use Rattle.spi_rules.specs.Settings.{widthOf, depthOf, framed, frameHost, frameClient, clockStops, ownClock}
-use Rattle.spi_rules.specs.Registers.{isFree, spitbf, lowBits, statSettings, statEngine, enabledEngine}
+use Rattle.spi_types.specs.declared.Call.the-variants.{Read, Write, Tick, Pin, ClockStep, Clear}
+use Rattle.spi_rules.specs.Settings.{widthOf, depthOf, framed, frameHost, frameClient, ownClock}
+use Rattle.spi_rules.specs.Registers.{spitbf, lowBits, statSettings, statEngine, enabledEngine}
 use Rattle.spi_rules.specs.Buffers.{empty, waiting, unread, firstUnread, taken, emptyReceive}
 use Rattle.spi_rules.specs.Interrupts.{noted}
 use Rattle.spi_rules.specs.Loading.{rested, sdoAt}
 use Rattle.spi_rules.specs.Edge.{levels, stepped}
-use Rattle.spi_rules.specs.Calls.{refuse, answering, wordTaken, readBuf, readOf, turnsOn, turnsOff, statWritten, writeStat, withCon1, withCon2, configured, wordWritten, writeBuf, writeOf, toldSelect, tickOf, pinsOf, clearOf, performOf}
+use Rattle.spi_rules.specs.Calls.{refuse, answering, wordTaken, readBuf, readOf, turnsOn, turnsOff, statWritten, writeStat, withCon1, withCon2, configured, wordWritten, writeBuf, writeOf, toldSelect, clockStepOf, tickOf, pinsOf, clearOf, performOf}
 use Rattle.spi_rules.specs.Refusals.{badSettings}
 use Rattle.spi_rules.specs.Words.{unfinished}
 use Rattle.spi_rules.specs.Invariant.{ModuleHolds}
 use Rattle.spi_rules.specs.Watch.{terms, wayOf, showsPulse, Sight, sightOf, Memory, atEnabling, levelOps, levelsKept, entryOf, memoryAfter}
 use Rattle.spi_rules.proofs.Sizes.{depth-most, low-bits-fit}
 use Rattle.spi_rules.proofs.BuffersOrder.{written-appends, taken-takes-first}
+use Rattle.spi_rules.proofs.ClockSteps.{step-cases, tick-cases, pins-cases}
 use Rattle.spi_invariant.proofs.Parts.{queued, BuffersHold}
 use Rattle.spi_invariant.proofs.BuffersKept.{written-keeps}
 use Rattle.spi_invariant.proofs.Engine.{engine-of}
@@ -149,6 +150,7 @@ module _ (m : Module) (x : Memory) (busy : Bool) (k : ℕ) (h : ModuleHolds m) (
   refused (Write register v) r = calm (m .engine) _ refl refl refl _ (λ later. refl)
   refused (Tick sdi ss) r = calm (m .engine) _ refl refl refl _ (λ later. refl)
   refused (Pin sck sdi ss) r = calm (m .engine) _ refl refl refl _ (λ later. refl)
+  refused (ClockStep sck sdi ss) r = calm (m .engine) _ refl refl refl _ (λ later. refl)
   refused Clear r = calm (m .engine) _ refl refl refl _ (λ later. refl)
 
   -- A register that is read and changes nothing.
@@ -378,7 +380,7 @@ module _ (m : Module) (x : Memory) (busy : Bool) (k : ℕ) (h : ModuleHolds m) (
       (λ e. configure register v _ refl)
       (λ c. write-buf m x busy k h was plain register v (last-register register small a b c)))))
 
-  -- The levels are seen, by a tick or a pin call.
+  -- The levels are seen, by a tick, a pin call or a clock step.
   abbrev after : Bool → Bool → Bool → Module
   after sck sdi ss = record { settings = m .settings; engine = stepped (m .settings) (levels sck sdi ss) (m .engine) }
 
@@ -404,30 +406,45 @@ module _ (m : Module) (x : Memory) (busy : Bool) (k : ℕ) (h : ModuleHolds m) (
             level-recalls s a x shown later sck sdi ss (m .engine) (was on) (is ∙ begun-under (n .shift)) gives (plain on),
       )
 
+  -- The next edge of a host with its own clock, in the levels that the watcher remembers.
+  turns : (a : Answer) (sdi ss : Bool) → m .settings .spien ≡ true →
+      Seen a (not (m .engine .pins .sck)) sdi (toldSelect m ss) (not (x .sck)) (if frameClient (m .settings) then ss else x .ss)
+  turns a sdi ss on =
+      let told : Bool = if frameClient (m .settings) then ss else x .ss in
+      let told' : toldSelect m ss ≡ told = ap (λ (b : Bool). if frameClient (m .settings) then ss else b) (sym (was on .ss)) in
+      let turn : not (m .engine .pins .sck) ≡ not (x .sck) = ap not (sym (was on .sck)) in
+      subst₂ (λ (c b : Bool). Seen a c sdi b (not (x .sck)) told) (sym turn) (sym told') (seen a (not (x .sck)) sdi told on)
+
   tick-steps : (sdi ss : Bool) → StepOf m (Tick sdi ss) x busy k (tickOf m sdi ss)
-  unfolding tickOf answering if_then_else_ StepOf
+  unfolding answering if_then_else_ StepOf
   tick-steps sdi ss =
-      let s : Settings = m .settings in
-      if-keeps (StepOf m (Tick sdi ss) x busy k) (not (s .spien)) _ _ (λ off. refused m x busy k h was plain (Tick sdi ss) _)
-      (λ on.
-      if-keeps (StepOf m (Tick sdi ss) x busy k) (not (ownClock s)) _ _ (λ pin. refused m x busy k h was plain (Tick sdi ss) _)
-      (λ own.
-      if-keeps (StepOf m (Tick sdi ss) x busy k) (clockStops s && isFree (m .engine .shift)) _ _
-      (λ free. calm m x busy k h was plain (m .engine) _ refl refl refl _ (λ later. refl))
-      (λ moves open'.
-      let told : Bool = if frameClient s then ss else x .ss in
-      let told' : toldSelect m ss ≡ told = ap (λ (b : Bool). if frameClient s then ss else b) (sym (was open' .ss)) in
-      let turn : not (m .engine .pins .sck) ≡ not (x .sck) = ap not (sym (was open' .sck)) in
-      subst₂ (λ (a b : Bool). Seen Edge a sdi b (not (x .sck)) told) (sym turn) (sym told') (seen Edge (not (x .sck)) sdi told open'))))
+      tick-cases m sdi ss (StepOf m (Tick sdi ss) x busy k) (refused m x busy k h was plain (Tick sdi ss) _)
+      (refused m x busy k h was plain (Tick sdi ss) _)
+      (λ on own still. calm m x busy k h was plain (m .engine) _ refl refl refl _ (λ later. refl))
+      (λ on own moves open'. turns Edge sdi ss on)
 
   pin-steps : (sck sdi ss : Bool) → StepOf m (Pin sck sdi ss) x busy k (pinsOf m sck sdi ss)
-  unfolding pinsOf answering if_then_else_ StepOf
+  unfolding answering if_then_else_ StepOf
   pin-steps sck sdi ss =
+      pins-cases m sck sdi ss (StepOf m (Pin sck sdi ss) x busy k) (refused m x busy k h was plain (Pin sck sdi ss) _)
+      (refused m x busy k h was plain (Pin sck sdi ss) _)
+      (λ on pin open'. seen Done sck sdi ss on)
+
+  clock-steps : (sck sdi ss : Bool) → StepOf m (ClockStep sck sdi ss) x busy k (clockStepOf m sck sdi ss)
+  unfolding answering if_then_else_ StepOf
+  clock-steps sck sdi ss =
       let s : Settings = m .settings in
-      if-keeps (StepOf m (Pin sck sdi ss) x busy k) (not (s .spien)) _ _ (λ off. refused m x busy k h was plain (Pin sck sdi ss) _)
-      (λ on.
-      if-keeps (StepOf m (Pin sck sdi ss) x busy k) (ownClock s) _ _ (λ own. refused m x busy k h was plain (Pin sck sdi ss) _)
-      (λ pin open'. seen Done sck sdi ss open'))
+      let c : Call = ClockStep sck sdi ss in
+      step-cases m sck sdi ss (StepOf m c x busy k) (λ off. refused m x busy k h was plain c _)
+      (λ on own still. calm m x busy k h was plain (m .engine) _ refl refl refl _ (λ later. refl))
+      (λ on own moves open'.
+      subst₂ (λ (a b : Bool). Seen Done (not (m .engine .pins .sck)) sdi (toldSelect m ss) a b)
+      (sym (if-true (ownClock s) (not (x .sck)) sck own)) (sym (if-true (ownClock s) (if frameClient s then ss else x .ss) ss own))
+      (turns Done sdi ss on))
+      (λ on pin open'.
+      subst₂ (λ (a b : Bool). Seen Done sck sdi ss a b)
+      (sym (if-false (ownClock s) (not (x .sck)) sck pin)) (sym (if-false (ownClock s) (if frameClient s then ss else x .ss) ss pin))
+      (seen Done sck sdi ss on))
 
   clear-steps : StepOf m Clear x busy k (clearOf m)
   unfolding clearOf answering StepOf
@@ -439,6 +456,7 @@ module _ (m : Module) (x : Memory) (busy : Bool) (k : ℕ) (h : ModuleHolds m) (
   steps (Write register v) = write-steps register v
   steps (Tick sdi ss) = tick-steps sdi ss
   steps (Pin sck sdi ss) = pin-steps sck sdi ss
+  steps (ClockStep sck sdi ss) = clock-steps sck sdi ss
   steps Clear = clear-steps
 
   -- The same, opened.

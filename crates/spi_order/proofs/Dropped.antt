@@ -18,11 +18,11 @@ use Rattle.word_order.specs.Bits.{spelled}
 use Rattle.word_order.proofs.Tied.{loses-same}
 use Rattle.spi_types.specs.declared.Settings.{Settings}
 use Rattle.spi_types.specs.declared.Call.{Call}
-use Rattle.spi_types.specs.declared.Call.the-variants.{Read, Write, Tick, Pin, Clear}
+use Rattle.spi_types.specs.declared.Call.the-variants.{Read, Write, Tick, Pin, ClockStep, Clear}
 use Rattle.spi_rules.specs.InBits.{room}
 use Rattle.spi_rules.specs.Refusals.{isDone, isValue, isEdge}
 use Rattle.spi_rules.specs.Words.{unreadIn}
-use Rattle.spi_rules.specs.Watch.{terms, portIn, Memory, Sight, sightOf, deaf, mayBegin, levelOps, enabledBy, entryOf, Watched, watchedCall, ssOfTick}
+use Rattle.spi_rules.specs.Watch.{terms, portIn, Memory, Sight, sightOf, deaf, mayBegin, levelOps, enabledBy, entryOf, Watched, watchedCall, ssOfTick, sckOfStep, ssOfStep}
 use Rattle.spi_order.proofs.Order.{Lives}
 
 -- No list is one longer than itself, and what stands behind a list is known.
@@ -89,6 +89,9 @@ module _ (t : Terms) (e : Bool) (policy : t .policy ≡ dropsNew e) (l : Ledger)
   entry-brings x v b k (Pin sck sdi ss) = λ o.
       if-keeps (λ (q : Entry). Brought t l a (entered t q l)) (isDone (v .answer)) _ _ (λ y. levels-bring v x sck sdi ss)
       (λ y f. no-longer (l .arrivals) a f)
+  entry-brings x v b k (ClockStep sck sdi ss) = λ o.
+      if-keeps (λ (q : Entry). Brought t l a (entered t q l)) (isDone (v .answer)) _ _ (λ y. levels-bring v x (sckOfStep v x sck) sdi (ssOfStep v x ss))
+      (λ y f. no-longer (l .arrivals) a f)
   entry-brings x v b k Clear = λ o f. no-longer (l .arrivals) a f
 
 -- No call of an enabled module opens the ledger.
@@ -107,6 +110,7 @@ module _ (s : Settings) (on : s .spien ≡ true) (x : Memory) (v : Sight) (same 
       (λ e. refl))
   goes-on (Tick sdi ss) = if-keeps (λ (e : Entry). isOpening e ≡ false) (isEdge (v .answer)) _ _ (λ e. refl) (λ e. refl)
   goes-on (Pin sck sdi ss) = if-keeps (λ (e : Entry). isOpening e ≡ false) (isDone (v .answer)) _ _ (λ e. refl) (λ e. refl)
+  goes-on (ClockStep sck sdi ss) = if-keeps (λ (e : Entry). isOpening e ≡ false) (isDone (v .answer)) _ _ (λ e. refl) (λ e. refl)
   goes-on Clear = refl
 
 pub dropped : (x : Watched) → Lives x → x .now .settings .spien ≡ true → (c : Call) (a : Passed) →

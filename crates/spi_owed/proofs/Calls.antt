@@ -18,7 +18,7 @@ use borrow.Author.Tests.{ltb-false, eqb-false, eq-eqb}
 use lib.Dec.{eqb, ltb}
 use lib.ListN.{length}
 use Rattle.laws.specs.Choice.{if_then_else_}
-use Rattle.laws.proofs.Keeps.{if-keeps, if-true, if-false, and-false, clash, and-left, and-right, and-both, and-rest}
+use Rattle.laws.proofs.Keeps.{if-keeps, if-false, and-false, clash, and-left, and-right, and-both, and-rest}
 use Rattle.word_order.specs.Bits.{bitOf}
 use Rattle.spi_types.specs.declared.Settings.{Settings}
 use Rattle.spi_types.specs.declared.Engine.{Engine}
@@ -30,25 +30,26 @@ use Rattle.spi_types.specs.declared.Refusal.the-variants.{NoSuchRegister, Disab
 use Rattle.spi_types.specs.declared.Answer.{Answer}
 use Rattle.spi_types.specs.declared.Answer.the-variants.{Refused, Done, NoEdge, Edge}
 use Rattle.spi_types.specs.declared.Call.{Call}
-use Rattle.spi_types.specs.declared.Call.the-variants.{Read, Write, Tick, Pin, Clear}
+use Rattle.spi_types.specs.declared.Call.the-variants.{Read, Write, Tick, Pin, ClockStep, Clear}
 use Rattle.spi_rules.specs.Settings.{depthOf, ownClock, clockStops, unframedHost}
 use Rattle.spi_rules.specs.Refusals.{isDone, badSettings}
 use Rattle.spi_rules.specs.Registers.{isFree, spitbf, statSettings, statEngine}
 use Rattle.spi_rules.specs.Buffers.{empty}
 use Rattle.spi_rules.specs.Interrupts.{noted}
-use Rattle.spi_rules.specs.Edge.{levels, stepped}
-use Rattle.spi_rules.specs.Calls.{afterCalls, refuse, answering, wordTaken, readBuf, readOf, turnsOn, turnsOff, statWritten, writeStat, configured, writeBuf, writeOf, tickOf, pinsOf, clearOf, performOf, toldSelect}
+use Rattle.spi_rules.specs.Edge.{levels}
+use Rattle.spi_rules.specs.Calls.{afterCalls, refuse, answering, wordTaken, readBuf, readOf, turnsOn, turnsOff, statWritten, writeStat, configured, writeBuf, writeOf, clockStepOf, tickOf, pinsOf, clearOf, performOf}
 use Rattle.spi_rules.specs.Invariant.{ShiftHolds, ModuleHolds}
-use Rattle.spi_rules.specs.Demands.{edgesMade, IsIdle, IsBusy, onlyTicks}
+use Rattle.spi_rules.specs.Demands.{edgesBy, edgesMade, IsIdle, IsBusy, onlyTicks}
 use Rattle.spi_rules.proofs.BuffersOrder.{none-waiting}
+use Rattle.spi_rules.proofs.ClockSteps.{nextEdge, seeing, stands, step-cases, tick-cases, tick-stands, pins-cases}
 use Rattle.spi_invariant.proofs.CallsWhen.{own-not-client, is-free, no-edge-when, tick-is, told-elsewhere, unframed-told, host-unframed}
 use Rattle.spi_invariant.proofs.Holds.{call-keeps}
-use Rattle.spi_owed.proofs.Parts.{owedIn, edgesIn, AllUndisturbing, Pays, owingIn}
+use Rattle.spi_owed.proofs.Parts.{owedIn, AllUndisturbing, Pays, owingIn}
 use Rattle.spi_owed.proofs.Edge.{owed-is, stat-owes, edge-owes, busy-owes, idle-owes}
 
 module _ (m : Module) (h : ModuleHolds m) (on : m .settings .spien ≡ true) (own : unframedHost (m .settings) ≡ true) where
   -- A call that makes no edge and leaves what is owed and the settings pays.
-  same-pays : (c : Call) (a : Answer) (x : Module) → edgesIn a ≡ 0 → owedIn x ≡ owedIn m → unframedHost (x .settings) ≡ unframedHost (m .settings) →
+  same-pays : (c : Call) (a : Answer) (x : Module) → edgesBy c a ≡ 0 → owedIn x ≡ owedIn m → unframedHost (x .settings) ≡ unframedHost (m .settings) →
       Pays m c (record { answer = a; after = x })
   same-pays c a x none same con1 =
       record {
@@ -57,9 +58,17 @@ module _ (m : Module) (h : ModuleHolds m) (on : m .settings .spien ≡ true) (ow
       }
 
   -- A refused call pays.
+  none-refused : (c : Call) (r : Refusal) → edgesBy c (Refused r) ≡ 0
+  none-refused (Read register) r = refl
+  none-refused (Write register v) r = refl
+  none-refused (Tick sdi ss) r = refl
+  none-refused (Pin sck sdi ss) r = refl
+  none-refused (ClockStep sck sdi ss) r = refl
+  none-refused Clear r = refl
+
   refuse-pays : (c : Call) (r : Refusal) → Pays m c (refuse m r)
   unfolding refuse
-  refuse-pays c r = same-pays c (Refused r) m refl refl refl
+  refuse-pays c r = same-pays c (Refused r) m (none-refused c r) refl refl
 
   -- A choice between two outcomes pays if both do.
   either-pays : (c : Call) (b : Bool) (x y : Outcome) → Pays m c x → Pays m c y → Pays m c (if b then x else y)
@@ -137,40 +146,47 @@ module _ (m : Module) (h : ModuleHolds m) (on : m .settings .spien ≡ true) (ow
 
   -- A pin call pays: it is refused.
   pins-pays : (sck sdi ss : Bool) → Pays m (Pin sck sdi ss) (pinsOf m sck sdi ss)
-  unfolding pinsOf
   pins-pays sck sdi ss =
       let c : Call = Pin sck sdi ss in
-      either-pays c (not (m .settings .spien)) _ _ (refuse-pays c Disabled)
-      (if-keeps (Pays m c) (ownClock (m .settings)) _ _
-      (λ e. refuse-pays c WrongClock)
-      (λ e. clash (ownClock (m .settings)) (and-left (ownClock (m .settings)) _ own) e))
+      pins-cases m sck sdi ss (Pays m c) (refuse-pays c Disabled) (refuse-pays c WrongClock)
+      (λ on pin. clash (ownClock (m .settings)) (and-left (ownClock (m .settings)) _ own) pin)
 
   -- The clear call pays.
   clear-pays : Pays m Clear (clearOf m)
   unfolding clearOf answering
   clear-pays = same-pays Clear Done _ refl refl refl
 
-  -- A tick pays: an edge lowers what is owed by one, and no edge leaves it.
-  tick-pays : (sdi ss : Bool) → Pays m (Tick sdi ss) (tickOf m sdi ss)
-  unfolding tickOf answering
-  tick-pays sdi ss =
-      let c : Call = Tick sdi ss in
-      either-pays c (not (m .settings .spien)) _ _ (refuse-pays c Disabled)
-      (either-pays c (not (ownClock (m .settings))) _ _ (refuse-pays c WrongClock)
-      (if-keeps (Pays m c) (clockStops (m .settings) && isFree (m .engine .shift)) _ _
-      (λ free. same-pays c NoEdge m refl refl refl)
-      (λ busy.
+  -- The next edge pays by lowering what is owed by one.
+  edge-pays : (sdi ss : Bool) → stands m ≡ false → (c : Call) (a : Answer) → edgesBy c a ≡ 1 →
+      Pays m c (answering m a (seeing m (nextEdge m sdi ss)))
+  unfolding answering
+  edge-pays sdi ss moves c a one =
       record {
         edges = λ enabled taken.
-            ap (λ (k : ℕ). 1 + k)
-            (owed-is (record { settings = m .settings; engine = stepped (m .settings) (levels (not (m .engine .pins .sck)) sdi (toldSelect m ss)) (m .engine) }))
-            ∙ ap (λ (b : Bool). 1 + owingIn (m .settings) (stepped (m .settings) (levels (not (m .engine .pins .sck)) sdi b) (m .engine)))
+            ap (λ (k : ℕ). k + owedIn (record { settings = m .settings; engine = seeing m (nextEdge m sdi ss) })) one
+            ∙ ap (λ (k : ℕ). 1 + k) (owed-is (record { settings = m .settings; engine = seeing m (nextEdge m sdi ss) }))
+            ∙ ap (λ (b : Bool). 1 + owingIn (m .settings) (seeing m (levels (not (m .engine .pins .sck)) sdi b)))
             (told-elsewhere m ss (unframed-told (m .settings) (host-unframed (m .settings) own)))
             ∙ edge-owes (m .settings) own sdi (m .engine) (m .engine .shift) refl (h .shift)
-            (and-rest (clockStops (m .settings)) _ busy (and-right (ownClock (m .settings)) _ own))
+            (and-rest (clockStops (m .settings)) _ moves (and-right (ownClock (m .settings)) _ own))
             ∙ sym (owed-is m);
         clock = own;
-      })))
+      }
+
+  -- A tick pays: an edge lowers what is owed, and no edge leaves it.
+  tick-pays : (sdi ss : Bool) → Pays m (Tick sdi ss) (tickOf m sdi ss)
+  tick-pays sdi ss =
+      let c : Call = Tick sdi ss in
+      tick-cases m sdi ss (Pays m c) (refuse-pays c Disabled) (refuse-pays c WrongClock) (λ on own still. same-pays c NoEdge m refl refl refl)
+      (λ on own moves. edge-pays sdi ss moves c Edge refl)
+
+  -- A clock step pays likewise.
+  step-pays : (sck sdi ss : Bool) → Pays m (ClockStep sck sdi ss) (clockStepOf m sck sdi ss)
+  step-pays sck sdi ss =
+      let c : Call = ClockStep sck sdi ss in
+      step-cases m sck sdi ss (Pays m c) (λ off. refuse-pays c Disabled) (λ on own still. same-pays c NoEdge m refl refl refl)
+      (λ on own moves. edge-pays sdi ss moves c Done refl)
+      (λ on pin. clash (ownClock (m .settings)) (and-left (ownClock (m .settings)) _ own) pin)
 
   -- Every undisturbed call makes as many edges as what is owed falls by.
   pub call-pays : (c : Call) → Pays m c (performOf m c)
@@ -179,6 +195,7 @@ module _ (m : Module) (h : ModuleHolds m) (on : m .settings .spien ≡ true) (ow
   call-pays (Write register v) = write-pays register v
   call-pays (Tick sdi ss) = tick-pays sdi ss
   call-pays (Pin sck sdi ss) = pins-pays sck sdi ss
+  call-pays (ClockStep sck sdi ss) = step-pays sck sdi ss
   call-pays Clear = clear-pays
 
 -- A number is not both none and some.
@@ -218,12 +235,10 @@ tick-answers-edge m sdi ss on own busy =
 -- A tick of an enabled host with its shift register free makes none.
 tick-answers-none : (m : Module) (sdi ss : Bool) → m .settings .spien ≡ true → unframedHost (m .settings) ≡ true →
     isFree (m .engine .shift) ≡ true → performOf m (Tick sdi ss) .answer ≡ NoEdge
-unfolding performOf tickOf
+unfolding performOf
 tick-answers-none m sdi ss on own free =
     ap (λ (o : Outcome). o .answer)
-    (if-false (not (m .settings .spien)) _ _ (ap not on)
-    ∙ if-false (not (ownClock (m .settings))) _ _ (ap not (and-left (ownClock (m .settings)) _ own))
-    ∙ if-true (clockStops (m .settings) && isFree (m .engine .shift)) _ _
+    (tick-stands m sdi ss on (and-left (ownClock (m .settings)) _ own)
     (and-both (clockStops (m .settings)) _ (and-right (ownClock (m .settings)) _ own) free))
 
 module _ (m : Module) (h : ModuleHolds m) (on : m .settings .spien ≡ true) (own : unframedHost (m .settings) ≡ true) where
@@ -287,7 +302,7 @@ ticks-make ss [] m h on own k = (tt, refl)
 ticks-make ss (sdi ∷ rest) m h on own k =
     let after : Module = performOf m (Tick sdi ss) .after in
     let busy : isFree (m .engine .shift) ≡ false = some-owed-busy m h on own (le-trans (suc-le-suc zero-le) k) in
-    let one : edgesIn (performOf m (Tick sdi ss) .answer) ≡ 1 = ap edgesIn (tick-answers-edge m sdi ss on own busy) in
+    let one : edgesBy (Tick sdi ss) (performOf m (Tick sdi ss) .answer) ≡ 1 = ap (edgesBy (Tick sdi ss)) (tick-answers-edge m sdi ss on own busy) in
     let enabled : after .settings .spien ≡ true =
     ap (λ (o : Outcome). o .after .settings .spien)
     (tick-is m sdi ss on (and-left (ownClock (m .settings)) _ own) (and-false (clockStops (m .settings)) _ busy)) ∙ on in

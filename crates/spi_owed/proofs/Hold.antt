@@ -16,16 +16,16 @@ use Rattle.word_order.specs.Ledger.{Terms, Op, clocks, Wire, quiet, busy, Ledge
 use Rattle.word_order.specs.Machine.{Entry, entered}
 use Rattle.word_order.proofs.Order.{tied-agrees, TiedAll}
 use Rattle.spi_types.specs.declared.Call.{Call}
-use Rattle.spi_types.specs.declared.Call.the-variants.{Read, Write, Tick, Pin, Clear}
+use Rattle.spi_types.specs.declared.Call.the-variants.{Read, Write, Tick, Pin, ClockStep, Clear}
 use Rattle.spi_rules.specs.Settings.{widthOf, unframedHost}
-use Rattle.spi_rules.specs.Refusals.{saidOf, isDone, isEdge}
+use Rattle.spi_rules.specs.Refusals.{isDone, isEdge}
 use Rattle.spi_rules.specs.RefusalTable.{writes}
 use Rattle.spi_rules.specs.Words.{leftBuffer, waitingIn, owedWords}
 use Rattle.spi_rules.specs.Calls.{performOf}
 use Rattle.spi_rules.specs.Invariant.{ModuleHolds}
 use Rattle.spi_rules.specs.Watch.{terms, Sight, sightOf, Memory, deaf, mayBegin, levelOps, ssOfTick, ours, Watched, watchedCall, watchedCalls}
 use Rattle.spi_rules.specs.Flags.{seesAccepted}
-use Rattle.spi_rules.specs.Demands.{owed, AllUndisturbed, edgesMade, onlyTicks, FallsIdle}
+use Rattle.spi_rules.specs.Demands.{owed, AllUndisturbed, edgesBy, edgesMade, onlyTicks, FallsIdle}
 use Rattle.spi_order.proofs.Order.{ours-owes, Lives, lives-on}
 use Rattle.spi_owed.proofs.Parts.{owedIn, AllUndisturbing, Pays}
 use Rattle.spi_owed.proofs.Calls.{falls, call-pays, none-owed-idle, some-owed-not-idle, ticks-make}
@@ -57,6 +57,7 @@ none-written x (Write register v) e =
     (λ none. none)
 none-written x (Tick sdi ss) e = and-false (isDone (performOf (x .now) (Tick sdi ss) .answer)) false refl
 none-written x (Pin sck sdi ss) e = and-false (isDone (performOf (x .now) (Pin sck sdi ss) .answer)) false refl
+none-written x (ClockStep sck sdi ss) e = and-false (isDone (performOf (x .now) (ClockStep sck sdi ss) .answer)) false refl
 none-written x Clear e = and-false (isDone (performOf (x .now) Clear .answer)) false refl
 
 -- Edges and select accept no word.
@@ -97,8 +98,8 @@ history-pays (c ∷ cs) x h on own u =
     let y : Watched = watchedCall x c in
     let p : Pays (x .now) c (performOf (x .now) c) = call-pays (x .now) (h .holds .holds) on own c in
     let later : Lives y = lives-on x c h in
-    let step : saidOf (performOf (x .now) c .answer) .edges + owed y ≡ owed x =
-    ap (λ (k : ℕ). saidOf (performOf (x .now) c .answer) .edges + k) (owed-is-held y (later .tied (u .0 .enabled)))
+    let step : edgesBy c (performOf (x .now) c .answer) + owed y ≡ owed x =
+    ap (λ (k : ℕ). edgesBy c (performOf (x .now) c .answer) + k) (owed-is-held y (later .tied (u .0 .enabled)))
     ∙ p .edges (u .0 .enabled) (none-written x c (u .0 .noWord))
     ∙ sym (owed-is-held x (h .tied on)) in
     falls _ _ _ _ _ (history-pays cs y later (u .0 .enabled) (p .clock) (u .1)) step

@@ -14,14 +14,14 @@ use Rattle.spi_types.specs.declared.Engine.{Engine}
 use Rattle.spi_types.specs.declared.Module.{Module}
 use Rattle.spi_types.specs.declared.Outcome.{Outcome}
 use Rattle.spi_types.specs.declared.Shift.{Shift}
-use Rattle.spi_types.specs.declared.Answer.{Answer}
 use Rattle.spi_types.specs.declared.Call.{Call}
 use Rattle.spi_rules.specs.Settings.{widthOf, unframedHost}
-use Rattle.spi_rules.specs.Refusals.{saidOf, isDone}
+use Rattle.spi_rules.specs.Refusals.{isDone}
 use Rattle.spi_rules.specs.RefusalTable.{writes}
 use Rattle.spi_rules.specs.Words.{waitingIn, unfinished, leftBuffer}
 use Rattle.spi_rules.specs.Calls.{performOf}
 use Rattle.spi_rules.specs.Watch.{wayOf}
+use Rattle.spi_rules.specs.Demands.{edgesBy}
 
 -- The edges given to the word in the shift register.
 abbrev pub givenIn : Shift → ℕ
@@ -39,10 +39,6 @@ abbrev pub owedIn : Module → ℕ
 owedIn m =
     2 * widthOf (m .settings) * (length (leftBuffer m) + length (waitingIn m)) - givenIn (m .engine .shift)
 
--- The edges that an answer tells.
-abbrev pub edgesIn : Answer → ℕ
-edgesIn a = saidOf a .edges
-
 -- A call that leaves the module enabled and accepts no word, and a list of them.
 pub record Undisturbing (m : Module) (c : Call) : Type 0 where
   pub enabled : performOf m c .after .settings .spien ≡ true
@@ -56,5 +52,5 @@ AllUndisturbing m (c ∷ cs) = Undisturbing m c × AllUndisturbing (performOf m 
 -- stays an unframed host with its own clock.
 pub record Pays (m : Module) (c : Call) (o : Outcome) : Type 0 where
   pub edges : o .after .settings .spien ≡ true → (isDone (o .answer) && writes 3 c) ≡ false →
-      edgesIn (o .answer) + owedIn (o .after) ≡ owedIn m
+      edgesBy c (o .answer) + owedIn (o .after) ≡ owedIn m
   pub clock : unframedHost (o .after .settings) ≡ true

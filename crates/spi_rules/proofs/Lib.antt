@@ -4,6 +4,8 @@ pub mod ExamplesHold
 -- Sizes, and the two buffers over the ring:
 pub mod Sizes
 pub mod BuffersOrder
+-- The clock step, and the tick and the pin call that are made of it:
+pub mod ClockSteps
 -- Refusals: a refused call changes nothing, refusals are those of the table, and answers are in kind:
 pub mod RefusalsUnchanged
 pub mod RefusalsExact

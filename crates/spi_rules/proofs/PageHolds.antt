@@ -1,6 +1,7 @@
 -- The page holds at every call of these lists (proofs/PageRun.antt), each from power-up: a wrong rule that one of them tells apart is
 -- seen to be false of the page. Longer lists run in crates/spi_one_module.
 --     unframed-runs, framed-runs   lists without frames, and of both ends of a frame
+--     step-runs        lists with clock steps, of every kind of module
 --     marked-run       the last edge of a word at a record made otherwise
 --     hypotheses-met   no hypothesis of the page is empty
 -- Assumes nothing.
@@ -14,10 +15,10 @@ use Rattle.word_order.specs.Bits.{bitOf}
 use Rattle.word_order.specs.Ledger.{isQuiet, opened, leftToSend, loses, firstOnWire, counted, closed, given, unsent}
 use Rattle.spi_types.specs.declared.Settings.{Settings}
 use Rattle.spi_types.specs.declared.Call.{Call}
-use Rattle.spi_types.specs.declared.Call.the-variants.{Read, Write, Tick, Pin, Clear}
+use Rattle.spi_types.specs.declared.Call.the-variants.{Read, Write, Tick, Pin, ClockStep, Clear}
 use Rattle.spi_rules.specs.Bits.{shiftedIn, receivedAfter, shownBit, sdoAfter, progressed}
 use Rattle.spi_rules.specs.Buffers.{waiting, unread, emptyTransmit, emptyReceive, firstWaiting, firstUnread, written, departed, appended, taken, overrun}
-use Rattle.spi_rules.specs.Calls.{refuse, answering, poweredUp, wordTaken, readBuf, readOf, turnsOn, turnsOff, statWritten, writeStat, withCon1, withCon2, configured, wordWritten, writeBuf, writeOf, tickOf, pinsOf, clearOf, performOf, interruptOf, sckOf, undriven, sdoOf, ssOf}
+use Rattle.spi_rules.specs.Calls.{refuse, answering, poweredUp, wordTaken, readBuf, readOf, turnsOn, turnsOff, statWritten, writeStat, withCon1, withCon2, configured, wordWritten, writeBuf, writeOf, clockStepOf, edgeTold, tickOf, pinsOf, clearOf, performOf, interruptOf, sckOf, undriven, sdoOf, ssOf}
 use Rattle.spi_rules.specs.Edge.{begun, shifted, advanced, advancedIfBegun, awaitsPulse, underWay, pulseDue, pulseAfter, pulsed, clocked, edged, stepped}
 use Rattle.spi_rules.specs.Finish.{overflowed, wordAppended, isLost, delivered, sentDropped, freed, finished}
 use Rattle.spi_rules.specs.Interrupts.{raises, noted}
@@ -191,14 +192,69 @@ Run cs = run cs (begins powerUp) ≡ true
 
 unframed-runs :
     Run host × Run wide × Run idle × Run pinned × Run selected × Run selectedWide × Run client × Run clientLate × Run full × Run refused
-unfolding shiftedIn receivedAfter shownBit sdoAfter progressed emptyTransmit emptyReceive firstWaiting firstUnread written departed appended taken overrun refuse answering poweredUp wordTaken readBuf readOf turnsOn turnsOff statWritten writeStat withCon1 withCon2 configured wordWritten writeBuf writeOf tickOf pinsOf clearOf performOf interruptOf sckOf undriven sdoOf ssOf if_then_else_ begun shifted advanced advancedIfBegun awaitsPulse underWay pulseDue pulseAfter pulsed clocked edged stepped overflowed wordAppended isLost delivered sentDropped freed finished raises noted wordLeaves moved canLoad loaded nextTop sdoAt rested numberOf bitOf weighed con1From con1Value con2From con2Value spitbf spirbf srxmpt srmpt atMost7 spibec statValue statSettings spirovAfter statEngine enabledEngine disabledEngine next selectRemembered aborted selectSeen opened leftToSend loses firstOnWire counted closed given unless judged told-of entered-as seen-as made run waiting unread contents
+unfolding shiftedIn receivedAfter shownBit sdoAfter progressed emptyTransmit emptyReceive firstWaiting firstUnread written departed appended taken overrun refuse answering poweredUp wordTaken readBuf readOf turnsOn turnsOff statWritten writeStat withCon1 withCon2 configured wordWritten writeBuf writeOf clockStepOf edgeTold tickOf pinsOf clearOf performOf interruptOf sckOf undriven sdoOf ssOf if_then_else_ begun shifted advanced advancedIfBegun awaitsPulse underWay pulseDue pulseAfter pulsed clocked edged stepped overflowed wordAppended isLost delivered sentDropped freed finished raises noted wordLeaves moved canLoad loaded nextTop sdoAt rested numberOf bitOf weighed con1From con1Value con2From con2Value spitbf spirbf srxmpt srmpt atMost7 spibec statValue statSettings spirovAfter statEngine enabledEngine disabledEngine next selectRemembered aborted selectSeen opened leftToSend loses firstOnWire counted closed given unless judged told-of entered-as seen-as made run waiting unread contents
 unframed-runs = (refl, refl, refl, refl, refl, refl, refl, refl, refl, refl)
 
 framed-runs :
     Run (ownGives 0) × Run (ownGives 8194) × Run (pinGives 0) × Run (pinGives 8194) × Run (ownTakes 0 false) × Run (ownTakes 8194 true)
     × Run (pinTakes 0 false) × Run (pinTakes 8194 true) × Run heedless × Run twice
-unfolding shiftedIn receivedAfter shownBit sdoAfter progressed emptyTransmit emptyReceive firstWaiting firstUnread written departed appended taken overrun refuse answering poweredUp wordTaken readBuf readOf turnsOn turnsOff statWritten writeStat withCon1 withCon2 configured wordWritten writeBuf writeOf tickOf pinsOf clearOf performOf interruptOf sckOf undriven sdoOf ssOf if_then_else_ begun shifted advanced advancedIfBegun awaitsPulse underWay pulseDue pulseAfter pulsed clocked edged stepped overflowed wordAppended isLost delivered sentDropped freed finished raises noted wordLeaves moved canLoad loaded nextTop sdoAt rested numberOf bitOf weighed con1From con1Value con2From con2Value spitbf spirbf srxmpt srmpt atMost7 spibec statValue statSettings spirovAfter statEngine enabledEngine disabledEngine next selectRemembered aborted selectSeen opened leftToSend loses firstOnWire counted closed given unless judged told-of entered-as seen-as made run waiting unread contents
+unfolding shiftedIn receivedAfter shownBit sdoAfter progressed emptyTransmit emptyReceive firstWaiting firstUnread written departed appended taken overrun refuse answering poweredUp wordTaken readBuf readOf turnsOn turnsOff statWritten writeStat withCon1 withCon2 configured wordWritten writeBuf writeOf clockStepOf edgeTold tickOf pinsOf clearOf performOf interruptOf sckOf undriven sdoOf ssOf if_then_else_ begun shifted advanced advancedIfBegun awaitsPulse underWay pulseDue pulseAfter pulsed clocked edged stepped overflowed wordAppended isLost delivered sentDropped freed finished raises noted wordLeaves moved canLoad loaded nextTop sdoAt rested numberOf bitOf weighed con1From con1Value con2From con2Value spitbf spirbf srxmpt srmpt atMost7 spibec statValue statSettings spirovAfter statEngine enabledEngine disabledEngine next selectRemembered aborted selectSeen opened leftToSend loses firstOnWire counted closed given unless judged told-of entered-as seen-as made run waiting unread contents
 framed-runs = (refl, refl, refl, refl, refl, refl, refl, refl, refl, refl)
+
+-- Document 02, Eleven: so many clock steps with SCK at one level throughout, which counts for no host with its own clock; and clocks of
+-- them, from the idle level 0.
+abbrev steps : ℕ → Bool → Bool → Bool → List Call
+steps n sck sdi ss = times n (ClockStep sck sdi ss ∷ [])
+
+abbrev stepClocks : ℕ → Bool → Bool → List Call
+stepClocks n sdi ss = times n (ClockStep true sdi ss ∷ ClockStep false sdi ss ∷ [])
+
+-- Disabled, then a host with its own clock: idle, a word by steps and ticks, and idle again.
+abbrev ownSteps : List Call
+ownSteps =
+    one-by-one
+    ((ClockStep true true true ∷ [])
+    ∷ enabled 32 0
+    ∷ steps 2 true true true
+    ∷ words (165 ∷ [])
+    ∷ steps 3 true true true
+    ∷ steps 2 false false false
+    ∷ (Tick true true ∷ Pin true true true ∷ [])
+    ∷ steps 11 true false true
+    ∷ (Read 3 ∷ [])
+    ∷ [])
+
+-- A host under DISSCK, a client without SSEN and one with it: steps, a pin call and a tick, with levels that stay, and with select high.
+abbrev pinSteps : ℕ → ℕ → List Call
+pinSteps con1 con2 =
+    one-by-one
+    ((ClockStep true true true ∷ [])
+    ∷ enabled con1 con2
+    ∷ stepClocks 1 true true
+    ∷ words (165 ∷ [])
+    ∷ stepClocks 2 true false
+    ∷ (ClockStep false true false ∷ ClockStep true true false ∷ ClockStep true true true ∷ Pin false true true ∷ Tick true true ∷ [])
+    ∷ [])
+
+-- Both ends of a frame with a clock of its own, and a frame client that is clocked from its pin.
+abbrev stepGives : ℕ → List Call
+stepGives con2 = one-by-one (enabled 32 (32768 + con2) ∷ steps 2 true true true ∷ words (165 ∷ []) ∷ steps 5 false true false ∷ [])
+
+abbrev stepTakes : ℕ → ℕ → Bool → List Call
+stepTakes con1 con2 ss =
+    one-by-one
+    (enabled con1 (49152 + con2)
+    ∷ stepClocks 1 true (not ss)
+    ∷ words (165 ∷ [])
+    ∷ stepClocks 1 true ss
+    ∷ stepClocks 1 true (not ss)
+    ∷ [])
+
+step-runs :
+    Run ownSteps × Run (pinSteps 4128 0) × Run (pinSteps 0 1) × Run (pinSteps 128 0) × Run (stepGives 8192) × Run (stepTakes 32 8192 true)
+    × Run (stepTakes 0 0 false)
+unfolding shiftedIn receivedAfter shownBit sdoAfter progressed emptyTransmit emptyReceive firstWaiting firstUnread written departed appended taken overrun refuse answering poweredUp wordTaken readBuf readOf turnsOn turnsOff statWritten writeStat withCon1 withCon2 configured wordWritten writeBuf writeOf clockStepOf edgeTold tickOf pinsOf clearOf performOf interruptOf sckOf undriven sdoOf ssOf if_then_else_ begun shifted advanced advancedIfBegun awaitsPulse underWay pulseDue pulseAfter pulsed clocked edged stepped overflowed wordAppended isLost delivered sentDropped freed finished raises noted wordLeaves moved canLoad loaded nextTop sdoAt rested numberOf bitOf weighed con1From con1Value con2From con2Value spitbf spirbf srxmpt srmpt atMost7 spibec statValue statSettings spirovAfter statEngine enabledEngine disabledEngine next selectRemembered aborted selectSeen opened leftToSend loses firstOnWire counted closed given unless judged told-of entered-as seen-as made run waiting unread contents
+step-runs = (refl, refl, refl, refl, refl, refl, refl)
 
 -- A marked buffer with room, which no calls reach, before the last edge of a word: the word is dropped.
 abbrev marked : Module → Module
@@ -208,7 +264,7 @@ abbrev nearlyDone : Module
 nearlyDone = marked (life powerUp (one-by-one (enabled 32 1 ∷ words (165 ∷ []) ∷ ticks 7 true true ∷ (Tick true true ∷ []) ∷ [])) .now)
 
 marked-run : allJudged (lastEdges nearlyDone (performOf nearlyDone (Tick true true) .after)) ≡ true
-unfolding shiftedIn receivedAfter shownBit sdoAfter progressed emptyTransmit emptyReceive firstWaiting firstUnread written departed appended taken overrun refuse answering poweredUp wordTaken readBuf readOf turnsOn turnsOff statWritten writeStat withCon1 withCon2 configured wordWritten writeBuf writeOf tickOf pinsOf clearOf performOf interruptOf sckOf undriven sdoOf ssOf if_then_else_ begun shifted advanced advancedIfBegun awaitsPulse underWay pulseDue pulseAfter pulsed clocked edged stepped overflowed wordAppended isLost delivered sentDropped freed finished raises noted wordLeaves moved canLoad loaded nextTop sdoAt rested numberOf bitOf weighed con1From con1Value con2From con2Value spitbf spirbf srxmpt srmpt atMost7 spibec statValue statSettings spirovAfter statEngine enabledEngine disabledEngine next selectRemembered aborted selectSeen opened leftToSend loses firstOnWire counted closed given unless judged told-of entered-as seen-as made run waiting unread contents
+unfolding shiftedIn receivedAfter shownBit sdoAfter progressed emptyTransmit emptyReceive firstWaiting firstUnread written departed appended taken overrun refuse answering poweredUp wordTaken readBuf readOf turnsOn turnsOff statWritten writeStat withCon1 withCon2 configured wordWritten writeBuf writeOf clockStepOf edgeTold tickOf pinsOf clearOf performOf interruptOf sckOf undriven sdoOf ssOf if_then_else_ begun shifted advanced advancedIfBegun awaitsPulse underWay pulseDue pulseAfter pulsed clocked edged stepped overflowed wordAppended isLost delivered sentDropped freed finished raises noted wordLeaves moved canLoad loaded nextTop sdoAt rested numberOf bitOf weighed con1From con1Value con2From con2Value spitbf spirbf srxmpt srmpt atMost7 spibec statValue statSettings spirovAfter statEngine enabledEngine disabledEngine next selectRemembered aborted selectSeen opened leftToSend loses firstOnWire counted closed given unless judged told-of entered-as seen-as made run waiting unread contents
 marked-run = refl
 
 -- No hypothesis of the page is empty: each is met after these calls.
@@ -225,5 +281,5 @@ hypotheses-met :
     × (settingsAfter (enabled 0 0) .spien ≡ true) × (settingsAfter (enabled 0 0) .con1 .msten ≡ false)
     × (settingsAfter (enabled 0 0) .con1 .ssen ≡ false) × (settingsAfter (enabled 0 0) .con2 .frmen ≡ false)
     × (isQuiet (life powerUp (enabled 0 0) .ledger .wire) ≡ true) × (unsent (life powerUp (enabled 0 0) .ledger) ≡ 0)
-unfolding shiftedIn receivedAfter shownBit sdoAfter progressed emptyTransmit emptyReceive firstWaiting firstUnread written departed appended taken overrun refuse answering poweredUp wordTaken readBuf readOf turnsOn turnsOff statWritten writeStat withCon1 withCon2 configured wordWritten writeBuf writeOf tickOf pinsOf clearOf performOf interruptOf sckOf undriven sdoOf ssOf if_then_else_ begun shifted advanced advancedIfBegun awaitsPulse underWay pulseDue pulseAfter pulsed clocked edged stepped overflowed wordAppended isLost delivered sentDropped freed finished raises noted wordLeaves moved canLoad loaded nextTop sdoAt rested numberOf bitOf weighed con1From con1Value con2From con2Value spitbf spirbf srxmpt srmpt atMost7 spibec statValue statSettings spirovAfter statEngine enabledEngine disabledEngine next selectRemembered aborted selectSeen opened leftToSend loses firstOnWire counted closed given unless judged told-of entered-as seen-as made run waiting unread contents
+unfolding shiftedIn receivedAfter shownBit sdoAfter progressed emptyTransmit emptyReceive firstWaiting firstUnread written departed appended taken overrun refuse answering poweredUp wordTaken readBuf readOf turnsOn turnsOff statWritten writeStat withCon1 withCon2 configured wordWritten writeBuf writeOf clockStepOf edgeTold tickOf pinsOf clearOf performOf interruptOf sckOf undriven sdoOf ssOf if_then_else_ begun shifted advanced advancedIfBegun awaitsPulse underWay pulseDue pulseAfter pulsed clocked edged stepped overflowed wordAppended isLost delivered sentDropped freed finished raises noted wordLeaves moved canLoad loaded nextTop sdoAt rested numberOf bitOf weighed con1From con1Value con2From con2Value spitbf spirbf srxmpt srmpt atMost7 spibec statValue statSettings spirovAfter statEngine enabledEngine disabledEngine next selectRemembered aborted selectSeen opened leftToSend loses firstOnWire counted closed given unless judged told-of entered-as seen-as made run waiting unread contents
 hypotheses-met = (refl, refl, refl, refl, refl, refl, refl, refl, refl, refl, refl, refl)

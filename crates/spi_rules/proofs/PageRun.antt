@@ -22,9 +22,9 @@ use Rattle.word_order.specs.Machine.{entered}
 use Rattle.spi_types.specs.declared.Outcome.{Outcome}
 use Rattle.spi_types.specs.declared.Answer.{Answer}
 use Rattle.spi_types.specs.declared.Call.{Call}
-use Rattle.spi_types.specs.declared.Call.the-variants.{Read, Write, Tick, Pin, Clear}
-use Rattle.spi_rules.specs.InBits.{wordBits, stopsBetweenWords, givesPulses, takesPulses}
-use Rattle.spi_rules.specs.Refusals.{saidOf, isDone}
+use Rattle.spi_types.specs.declared.Call.the-variants.{Read, Write, Tick, Pin, ClockStep, Clear}
+use Rattle.spi_rules.specs.InBits.{wordBits, clocksItself, stopsBetweenWords, givesPulses, takesPulses}
+use Rattle.spi_rules.specs.Refusals.{saidOf, isDone, isEdge}
 use Rattle.spi_rules.specs.Words.{unreadIn, owedWords}
 use Rattle.spi_rules.specs.Calls.{performOf, interruptOf, sckOf, sdoOf, ssOf}
 use Rattle.spi_rules.specs.RefusalTable.{rows, firstNumber, asks, writes, isClear}
@@ -32,7 +32,7 @@ use Rattle.spi_rules.specs.Watch.{Watched, watchedCall, watchedCalls, Si
 use Rattle.spi_rules.specs.Lives.{Beginning, begins, life}
 use Rattle.spi_rules.specs.Flags.{numberIn, writtenTo, statKept, con1Bits, con2Bits, statBits, seen, raised, sdoShown, pinShown, selectShown}
 use Rattle.spi_rules.specs.Frames.{pulseExpected, ssTold, FrameHostCall, FrameClientCall}
-use Rattle.spi_rules.specs.Demands.{among, kindsFor, owed, sendsFiller, Answered, ReadsShow, CallChanges, PinsShow, WordOrder, Fillers, FallsIdle, FramesHold, OneModule, LastEdge, drops}
+use Rattle.spi_rules.specs.Demands.{among, kindsFor, owed, sendsFiller, Answered, ReadsShow, CallChanges, PinsShow, WordOrder, Fillers, FallsIdle, FramesHold, ClockSteps, OneModule, LastEdge, drops}
 use Rattle.spi_rules.proofs.Claims.{Claim, level, number, levels, numbers, pin, told, provided, AllHold, none, _also_, allJudged, all-judged}
 use Rattle.spi_types.specs.declared.Module.{Module}
 
@@ -65,7 +65,7 @@ module _ (x : Watched) (c : Call) (o : Outcome) (y : Watched) where
       ∷ provided (not (y .now .settings .spien)) (level (y .now .engine .pins .ss) (x .now .engine .pins .ss))
       ∷ []
 
-  -- The tick of an unframed host with its own clock makes an edge exactly while it owes one.
+  -- The tick of an unframed host with its own clock makes an edge exactly while it owes one, and so its clock step is done.
   abbrev idles : Call → List Claim
   idles (Read register) = []
   idles (Write register v) = []
@@ -74,6 +74,10 @@ module _ (x : Watched) (c : Call) (o : Outcome) (y : Watched) where
       (provided (stopsBetweenWords (x .now .settings)) (number (saidOf (o .answer) .kind) (if eqb (owed x) 0 then 3 else 4)))
       ∷ []
   idles (Pin sck sdi ss) = []
+  idles (ClockStep sck sdi ss) =
+      provided (x .now .settings .spien)
+      (provided (stopsBetweenWords (x .now .settings)) (level (isDone (o .answer)) (not (eqb (owed x) 0))))
+      ∷ []
   idles Clear = []
 
   -- Frames: an edge was made, to the active level; a word began; a pulse started or ended.
@@ -198,11 +202,14 @@ module _ (x : Watched) (c : Call) where
 order-said : (y : Watched) → WordOrder y → Fillers y → AllHold (order y)
 order-said y w f = w .sending also w .receiving also w .mark also w .stale also f .same also f .low also none
 
+some : (n : ℕ) → (n ≡ 0 → ⊥) → 1 ≤ n
+some n h = omega arith
+
 idles-said : (x : Watched) (c : Call) → (x .now .settings .spien ≡ true → stopsBetweenWords (x .now .settings) ≡ true → FallsIdle x) →
-    AllHold (idles x c (performOf (x .now) c) (watchedCall x c) c)
-idles-said x (Read register) f = none
-idles-said x (Write register v) f = none
-idles-said x (Tick sdi ss) f =
+    ClockSteps (x .now) → AllHold (idles x c (performOf (x .now) c) (watchedCall x c) c)
+idles-said x (Read register) f s = none
+idles-said x (Write register v) f s = none
+idles-said x (Tick sdi ss) f s =
     let as-owed : x .now .settings .spien ≡ true → stopsBetweenWords (x .now .settings) ≡ true →
     saidOf (performOf (x .now) (Tick sdi ss) .answer) .kind ≡ (if eqb (owed x) 0 then 3 else 4) =
     λ on own.
@@ -212,11 +219,17 @@ idles-said x (Tick sdi ss) f =
     ap (λ (a : Answer). saidOf a .kind) (f on own .busy (some (owed x) (eqb-false (owed x) 0 e)) sdi ss)
     ∙ sym (if-false (eqb (owed x) 0) 3 4 e)) in
     as-owed also none
-  where
-    some : (n : ℕ) → (n ≡ 0 → ⊥) → 1 ≤ n
-    some n h = omega arith
-idles-said x (Pin sck sdi ss) f = none
-idles-said x Clear f = none
+idles-said x (Pin sck sdi ss) f s = none
+idles-said x (ClockStep sck sdi ss) f s =
+    let as-owed : x .now .settings .spien ≡ true → stopsBetweenWords (x .now .settings) ≡ true →
+    isDone (performOf (x .now) (ClockStep sck sdi ss) .answer) ≡ not (eqb (owed x) 0) =
+    λ on own.
+    s .tick (and-left (clocksItself (x .now .settings .con1)) _ own) sck sdi ss .1
+    ∙ by-test (eqb (owed x) 0)
+    (λ e. ap isEdge (f on own .idle (eqb-true (owed x) 0 e) .noEdge sdi ss) ∙ sym (ap not e))
+    (λ e. ap isEdge (f on own .busy (some (owed x) (eqb-false (owed x) 0 e)) sdi ss) ∙ sym (ap not e)) in
+    as-owed also none
+idles-said x Clear f s = none
 
 -- The last edge of a word, of any record.
 abbrev pub lastEdges : Module → Module → List Claim
@@ -303,7 +316,7 @@ module _ (p : OneModule) (b : Beginning) where
       let at : (z : Watched) → z ≡ y → z .now .settings .spien ≡ true = λ z same. ap (λ (w : Watched). w .now .settings .spien) same ∙ e in
       order-said y (subst WordOrder later (p .wordOrder b (cs ++ (c ∷ [])) (at _ later)))
       (subst Fillers later (p .fillers b (cs ++ (c ∷ [])) (at _ later)))))
-      (and-both _ _ (all-judged (idles-said x c (λ up own. p .fallsIdle b cs up own)))
+      (and-both _ _ (all-judged (idles-said x c (λ up own. p .fallsIdle b cs up own) (p .clockSteps (x .now))))
       (and-both _ _
       (unless-said _ (hostFrames x c (performOf (x .now) c) y)
       (λ e. host-said x c (framed (not (x .now .settings .con2 .spifsd)) e .host (and-right (x .now .settings .spien) _ e) c)))

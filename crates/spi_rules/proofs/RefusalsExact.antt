@@ -19,12 +19,12 @@ use Rattle.spi_types.specs.declared.Outcome.{Outcome}
 use Rattle.spi_types.specs.declared.Refusal.{Refusal}
 use Rattle.spi_types.specs.declared.Refusal.the-variants.{NoSuchRegister, Disabled, Enabled, TransmitFull, ReceiveEmpty, WrongClock, NoRate, UnreadableLine, DifferentModes, TooManyEdges, Undivided, LateSampling, UnselectedCke, Overflowed}
 use Rattle.spi_types.specs.declared.Call.{Call}
-use Rattle.spi_types.specs.declared.Call.the-variants.{Read, Write, Tick, Pin, Clear}
-use Rattle.spi_rules.specs.Settings.{depthOf, clockStops, ownClock}
+use Rattle.spi_types.specs.declared.Call.the-variants.{Read, Write, Tick, Pin, ClockStep, Clear}
+use Rattle.spi_rules.specs.Settings.{depthOf, ownClock}
 use Rattle.spi_rules.specs.Refusals.{numberOf, saidOf, undivided, lateSampling, unselectedCke, causes, badSettings, firstGiven}
-use Rattle.spi_rules.specs.Registers.{isFree, spitbf}
+use Rattle.spi_rules.specs.Registers.{spitbf}
 use Rattle.spi_rules.specs.Buffers.{full, empty}
-use Rattle.spi_rules.specs.Calls.{refuse, answering, turnsOn, readBuf, readOf, writeStat, configured, writeBuf, writeOf, tickOf, pinsOf, clearOf, performOf}
+use Rattle.spi_rules.specs.Calls.{refuse, answering, turnsOn, readBuf, readOf, writeStat, configured, writeBuf, writeOf, noNextEdge, clockStepOf, edgeTold, tickOf, pinsOf, clearOf, performOf}
 use Rattle.spi_rules.specs.RefusalTable.{firstNumber, rows}
 use Rattle.spi_rules.proofs.BuffersOrder.{waiting-length, unread-length}
 
@@ -148,25 +148,37 @@ write-refused m v =
 
 -- A tick is refused exactly by its row.
 tick-refused : (sdi ss : Bool) (m : Module) → told (performOf m (Tick sdi ss)) ≡ firstNumber (rows m (Tick sdi ss))
-unfolding performOf tickOf if_then_else_ refuse answering numberOf
+unfolding performOf clockStepOf edgeTold tickOf if_then_else_ refuse answering numberOf
 tick-refused sdi ss =
     by-spien (Tick sdi ss)
     (elim [
       | true ↦ λ m.
           refused-by _ WrongClock (not (ownClock (m .settings))) _ _ 0 (or-false _)
-          (λ own.
-          if-keeps (λ (o : Outcome). told o ≡ 0) (clockStops (m .settings) && isFree (m .engine .shift)) _ _ (λ e. refl) (λ e. refl))
+          (λ own. if-keeps (λ (o : Outcome). told (edgeTold o) ≡ 0) (noNextEdge m) _ _ (λ e. refl) (λ e. refl))
       | false ↦ λ m. refl
     ])
 
 -- A pin call is refused exactly by its row.
 pin-refused : (sck sdi ss : Bool) (m : Module) →
     told (performOf m (Pin sck sdi ss)) ≡ firstNumber (rows m (Pin sck sdi ss))
-unfolding performOf pinsOf if_then_else_ refuse answering numberOf
+unfolding performOf clockStepOf pinsOf if_then_else_ refuse answering numberOf
 pin-refused sck sdi ss =
     by-spien (Pin sck sdi ss)
     (elim [
-      | true ↦ λ m. refused-by _ WrongClock (ownClock (m .settings)) _ _ 0 refl (λ own. refl)
+      | true ↦ λ m.
+          refused-by _ WrongClock (ownClock (m .settings)) _ _ 0 refl
+          (λ pin. if-keeps (λ (o : Outcome). told o ≡ 0) (noNextEdge m) _ _ (λ e. refl) (λ e. refl))
+      | false ↦ λ m. refl
+    ])
+
+-- A clock step is refused exactly by its row.
+step-refused : (sck sdi ss : Bool) (m : Module) →
+    told (performOf m (ClockStep sck sdi ss)) ≡ firstNumber (rows m (ClockStep sck sdi ss))
+unfolding performOf clockStepOf if_then_else_ refuse answering numberOf
+step-refused sck sdi ss =
+    by-spien (ClockStep sck sdi ss)
+    (elim [
+      | true ↦ λ m. if-keeps (λ (o : Outcome). told o ≡ 0) (noNextEdge m) _ _ (λ e. refl) (λ e. refl)
       | false ↦ λ m. refl
     ])
 
@@ -181,4 +193,5 @@ refused-exactly m (Read register) = read-refused m register
 refused-exactly m (Write register v) = write-refused m v register
 refused-exactly m (Tick sdi ss) = tick-refused sdi ss m
 refused-exactly m (Pin sck sdi ss) = pin-refused sck sdi ss m
+refused-exactly m (ClockStep sck sdi ss) = step-refused sck sdi ss m
 refused-exactly m Clear = clear-refused m

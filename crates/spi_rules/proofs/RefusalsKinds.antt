@@ -18,16 +18,17 @@ use Rattle.spi_types.specs.declared.Outcome.{Outcome}
 use Rattle.spi_types.specs.declared.Answer.{Answer}
 use Rattle.spi_types.specs.declared.Answer.the-variants.{Refused, Done, Value, NoEdge, Edge}
 use Rattle.spi_types.specs.declared.Call.{Call}
-use Rattle.spi_types.specs.declared.Call.the-variants.{Read, Write, Tick, Pin, Clear}
+use Rattle.spi_types.specs.declared.Call.the-variants.{Read, Write, Tick, Pin, ClockStep, Clear}
 use Rattle.spi_types.specs.declared.Refusal.{Refusal}
 use Rattle.spi_types.specs.declared.Con1.{Con1}
 use Rattle.spi_types.specs.declared.Con2.{Con2}
 use Rattle.spi_rules.specs.Refusals.{saidOf, isDone}
 use Rattle.spi_rules.specs.Registers.{con1From, con2From, statSettings}
-use Rattle.spi_rules.specs.Calls.{performOf, refuse, answering, readBuf, readOf, writeStat, withCon1, withCon2, configured, writeBuf, writeOf, tickOf, pinsOf, clearOf}
+use Rattle.spi_rules.specs.Calls.{performOf, refuse, answering, readBuf, readOf, writeStat, withCon1, withCon2, configured, writeBuf, writeOf, clockStepOf, tickOf, pinsOf, clearOf}
 use Rattle.spi_rules.specs.RefusalTable.{asks, writes}
 use Rattle.spi_rules.specs.Flags.{statKept, con1Bits, con2Bits, Placed, writtenTo, bit}
 use Rattle.spi_rules.specs.Demands.{kindsFor, among}
+use Rattle.spi_rules.proofs.ClockSteps.{step-cases, tick-cases, pins-cases}
 
 -- The bits of a number that was cut out of another.
 cut-bit : (v k : ℕ) → k < 3 → bitOf (v / 4 % 8) k ≡ bitOf v (k + 2)
@@ -183,24 +184,28 @@ module _ (m : Module) where
       }))))))
 
   tick-fits : (sdi ss : Bool) → Fitting (m .settings) (Tick sdi ss) (tickOf m sdi ss)
-  unfolding tickOf answering
+  unfolding answering
   tick-fits sdi ss =
-      let P = Fitting (m .settings) (Tick sdi ss) in
-      if-keeps P _ _ _ (λ e. refusal-fits (Tick sdi ss) _)
-      (λ e.
-      if-keeps P _ _ _ (λ e. refusal-fits (Tick sdi ss) _)
-      (λ e.
-      if-keeps P _ _ _ (λ e. same-fits (Tick sdi ss) NoEdge _ refl refl refl refl refl)
-      (λ e. same-fits (Tick sdi ss) Edge _ refl refl refl refl refl)))
+      let c : Call = Tick sdi ss in
+      tick-cases m sdi ss (Fitting (m .settings) c) (refusal-fits c _) (refusal-fits c _)
+      (λ on own still. same-fits c NoEdge _ refl refl refl refl refl)
+      (λ on own moves. same-fits c Edge _ refl refl refl refl refl)
 
   pins-fit : (sck sdi ss : Bool) → Fitting (m .settings) (Pin sck sdi ss) (pinsOf m sck sdi ss)
-  unfolding pinsOf answering
+  unfolding answering
   pins-fit sck sdi ss =
-      let P = Fitting (m .settings) (Pin sck sdi ss) in
-      if-keeps P _ _ _ (λ e. refusal-fits (Pin sck sdi ss) _)
-      (λ e.
-      if-keeps P _ _ _ (λ e. refusal-fits (Pin sck sdi ss) _)
-      (λ e. same-fits (Pin sck sdi ss) Done _ refl refl refl refl refl))
+      let c : Call = Pin sck sdi ss in
+      pins-cases m sck sdi ss (Fitting (m .settings) c) (refusal-fits c _) (refusal-fits c _)
+      (λ on pin. same-fits c Done _ refl refl refl refl refl)
+
+  step-fits : (sck sdi ss : Bool) → Fitting (m .settings) (ClockStep sck sdi ss) (clockStepOf m sck sdi ss)
+  unfolding answering
+  step-fits sck sdi ss =
+      let c : Call = ClockStep sck sdi ss in
+      step-cases m sck sdi ss (Fitting (m .settings) c) (λ off. refusal-fits c _)
+      (λ on own still. same-fits c NoEdge _ refl refl refl refl refl)
+      (λ on own moves. same-fits c Done _ refl refl refl refl refl)
+      (λ on pin. same-fits c Done _ refl refl refl refl refl)
 
   -- Every call.
   pub call-fits : (c : Call) → Fitting (m .settings) c (performOf m c)
@@ -209,4 +214,5 @@ module _ (m : Module) where
   call-fits (Write register v) = write-fits register v
   call-fits (Tick sdi ss) = tick-fits sdi ss
   call-fits (Pin sck sdi ss) = pins-fit sck sdi ss
+  call-fits (ClockStep sck sdi ss) = step-fits sck sdi ss
   call-fits Clear = same-fits Clear Done _ refl refl refl refl refl

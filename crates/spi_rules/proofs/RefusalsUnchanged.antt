@@ -1,6 +1,6 @@
 -- A call that is refused, or that answers "no edge", leaves the module as it was, whatever the module.
 --     refused-unchanged   a refused call changes nothing
---     no-edge-unchanged   a tick that makes no edge changes nothing
+--     no-edge-unchanged   a tick or a clock step that makes no edge changes nothing
 -- Assumes nothing.
 use Prim.Native.Nat.{ℕ}
 use mathlib.Core.Bool.{Bool, not, _&&_}
@@ -16,12 +16,12 @@ use Rattle.spi_types.specs.declared.Refusal.the-variants.{NoSuchRegister, Disab
 use Rattle.spi_types.specs.declared.Answer.{Answer}
 use Rattle.spi_types.specs.declared.Answer.the-variants.{Refused, Done, Value, NoEdge, Edge}
 use Rattle.spi_types.specs.declared.Call.{Call}
-use Rattle.spi_types.specs.declared.Call.the-variants.{Read, Write, Tick, Pin, Clear}
-use Rattle.spi_rules.specs.Settings.{clockStops, ownClock}
+use Rattle.spi_types.specs.declared.Call.the-variants.{Read, Write, Tick, Pin, ClockStep, Clear}
 use Rattle.spi_rules.specs.Refusals.{causes, badSettings, firstGiven}
-use Rattle.spi_rules.specs.Registers.{isFree, spitbf}
+use Rattle.spi_rules.specs.Registers.{spitbf}
 use Rattle.spi_rules.specs.Buffers.{empty}
-use Rattle.spi_rules.specs.Calls.{refuse, answering, turnsOn, readBuf, readOf, writeStat, configured, writeBuf, writeOf, tickOf, pinsOf, clearOf, performOf}
+use Rattle.spi_rules.specs.Calls.{refuse, answering, turnsOn, readBuf, readOf, writeStat, configured, writeBuf, writeOf, clockStepOf, tickOf, pinsOf, clearOf, performOf}
+use Rattle.spi_rules.proofs.ClockSteps.{step-cases, tick-cases, pins-cases}
 
 -- An outcome after which a refusal, or no edge, leaves the module as it was.
 abbrev pub Unmoved : Module → Outcome → Type 0
@@ -83,18 +83,23 @@ write-unmoved m register v =
 
 -- A tick keeps the module unless it makes an edge.
 tick-unmoved : (m : Module) (sdi ss : Bool) → Unmoved m (tickOf m sdi ss)
-unfolding tickOf answering
+unfolding answering
 tick-unmoved m sdi ss =
-    either-unmoved m (not (m .settings .spien)) _ _ (refuse-unmoved m Disabled)
-    (either-unmoved m (not (ownClock (m .settings))) _ _ (refuse-unmoved m WrongClock)
-    (either-unmoved m (clockStops (m .settings) && isFree (m .engine .shift)) _ _ (same-unmoved m NoEdge) (edge-unmoved m _)))
+    tick-cases m sdi ss (Unmoved m) (refuse-unmoved m Disabled) (refuse-unmoved m WrongClock) (λ on own still. same-unmoved m NoEdge)
+    (λ on own moves. edge-unmoved m _)
 
 -- A pin call keeps the module unless it is done.
 pins-unmoved : (m : Module) (sck sdi ss : Bool) → Unmoved m (pinsOf m sck sdi ss)
-unfolding pinsOf answering
+unfolding answering
 pins-unmoved m sck sdi ss =
-    either-unmoved m (not (m .settings .spien)) _ _ (refuse-unmoved m Disabled)
-    (either-unmoved m (ownClock (m .settings)) _ _ (refuse-unmoved m WrongClock) (done-unmoved m _))
+    pins-cases m sck sdi ss (Unmoved m) (refuse-unmoved m Disabled) (refuse-unmoved m WrongClock) (λ on pin. done-unmoved m _)
+
+-- A clock step keeps the module unless it is done.
+step-unmoved : (m : Module) (sck sdi ss : Bool) → Unmoved m (clockStepOf m sck sdi ss)
+unfolding answering
+step-unmoved m sck sdi ss =
+    step-cases m sck sdi ss (Unmoved m) (λ off. refuse-unmoved m Disabled) (λ on own still. same-unmoved m NoEdge)
+    (λ on own moves. done-unmoved m _) (λ on pin. done-unmoved m _)
 
 -- The clear call is never refused.
 clear-unmoved : (m : Module) → Unmoved m (clearOf m)
@@ -108,6 +113,7 @@ call-unmoved m (Read register) = read-unmoved m register
 call-unmoved m (Write register v) = write-unmoved m register v
 call-unmoved m (Tick sdi ss) = tick-unmoved m sdi ss
 call-unmoved m (Pin sck sdi ss) = pins-unmoved m sck sdi ss
+call-unmoved m (ClockStep sck sdi ss) = step-unmoved m sck sdi ss
 call-unmoved m Clear = clear-unmoved m
 
 -- A refused call leaves the module as it was.

@@ -1,5 +1,6 @@
 -- The calls of document 01 on one module: each gives its answer and the whole module after it. Register calls test 1,
--- then 2 or 3, then 13 to 15, 5 or 16 and 6; tick and pin calls test 2, then 7. A refused call leaves the module as it was.
+-- then 2 or 3, then 13 to 15, 5 or 16 and 6; tick and pin calls test 2, then 7, and a clock step 2. A refused call leaves the module
+-- as it was.
 use Prim.Native.Nat.{ℕ}
 use mathlib.Core.Bool.{Bool, false, not, _&&_, _||_, Bool·beq}
 use mathlib.Core.List.{List, [], _∷_}
@@ -20,18 +21,18 @@ use Rattle.spi_types.specs.declared.Refusal.the-variants.{NoSuchRegister, Disab
 use Rattle.spi_types.specs.declared.Answer.{Answer}
 use Rattle.spi_types.specs.declared.Answer.the-variants.{Refused, Done, Value, NoEdge, Edge}
 use Rattle.spi_types.specs.declared.Call.{Call}
-use Rattle.spi_types.specs.declared.Call.the-variants.{Read, Write, Tick, Pin, Clear}
+use Rattle.spi_types.specs.declared.Call.the-variants.{Read, Write, Tick, Pin, ClockStep, Clear}
 use Rattle.spi_types.specs.declared.Output.{Output}
 use Rattle.spi_types.specs.declared.Output.the-variants.{Low, High, Undriven}
 use Rattle.spi_rules.specs.Changes.{withTransmit, withReceive, withInterrupt}
-use Rattle.spi_rules.specs.Settings.{depthOf, frameHost, frameClient, clockStops, ownClock}
+use Rattle.spi_rules.specs.Settings.{depthOf, frameHost, frameClient, ownClock, unframedHost}
 use Rattle.spi_rules.specs.Refusals.{causes, badSettings, firstGiven}
 use Rattle.spi_rules.specs.Registers.{con1From, con1Value, con2From, con2Value, isFree, statValue, statSettings, statEngine, enabledEngine, disabledEngine, lowBits, spitbf}
 use Rattle.spi_rules.specs.Buffers.{empty, emptyTransmit, emptyReceive, firstUnread, taken, written}
 use Rattle.spi_rules.specs.Interrupts.{noted}
 use Rattle.spi_rules.specs.Loading.{loaded, rested}
 use Rattle.spi_rules.specs.Select.{deselected}
-use Rattle.spi_rules.specs.Edge.{levels, stepped}
+use Rattle.spi_rules.specs.Edge.{Levels, levels, stepped}
 
 -- A refusal returns its number only.
 unfoldable pub refuse : Module → Refusal → Outcome
@@ -139,26 +140,52 @@ writeOf m register v =
     else if eqb register 2 then configured m (withCon2 (m .settings) (con2From v))
     else writeBuf m v
 
--- The select level that a tick carries counts for a frame client alone; for others the remembered one stays.
+-- Document 02, Eleven: one call for a clock step, whatever the module. It carries the levels SCK, SDI and SS.
+
+-- The select level that a host with its own clock is told counts for a frame client alone; for others the remembered one stays.
 abbrev pub toldSelect : Module → Bool → Bool
 toldSelect m ss = if frameClient (m .settings) then ss else m .engine .pins .ss
 
--- Tick: 2, then 7. With no word loaded an unframed host answers "no edge" and changes nothing; otherwise the clock goes to its
--- other level.
+-- What a module goes by of these levels. A host with its own clock makes its next edge, to the other level of its clock, and ignores
+-- SCK; any other module sees all three.
+abbrev pub heeded : Module → Levels → Levels
+heeded m x =
+    if ownClock (m .settings) then levels (not (m .engine .pins .sck)) (x .sdi) (toldSelect m (x .ss)) else x
+
+-- An unframed host with its own clock and no word loaded has no next edge.
+abbrev pub noNextEdge : Module → Bool
+noNextEdge m = unframedHost (m .settings) && isFree (m .engine .shift)
+
+-- The call tests 2 alone. It answers "no edge" and changes nothing, or it is done.
+unfoldable pub clockStepOf : Module → Bool → Bool → Bool → Outcome
+clockStepOf m sck sdi ss =
+    if not (m .settings .spien) then refuse m Disabled
+    else if noNextEdge m then record { answer = NoEdge; after = m }
+    else answering m Done (stepped (m .settings) (heeded m (levels sck sdi ss)) (m .engine))
+
+-- Tick: 2, then 7, then the clock step. A tick carries no SCK, which does not count here, and a step that is done is an edge made.
+abbrev pub edgeFor : Answer → Answer
+edgeFor (Refused r) = Refused r
+edgeFor Done = Edge
+edgeFor (Value v) = Value v
+edgeFor NoEdge = NoEdge
+edgeFor Edge = Edge
+
+unfoldable pub edgeTold : Outcome → Outcome
+edgeTold o = record { answer = edgeFor (o .answer); after = o .after }
+
 unfoldable pub tickOf : Module → Bool → Bool → Outcome
 tickOf m sdi ss =
     if not (m .settings .spien) then refuse m Disabled
     else if not (ownClock (m .settings)) then refuse m WrongClock
-    else if clockStops (m .settings) && isFree (m .engine .shift) then record { answer = NoEdge; after = m }
-    else answering m Edge
-    (stepped (m .settings) (levels (not (m .engine .pins .sck)) sdi (toldSelect m ss)) (m .engine))
+    else edgeTold (clockStepOf m false sdi ss)
 
--- Pin call: 2, then 7; then the levels SCK, SDI and SS are seen.
+-- Pin call: 2, then 7, then the clock step.
 unfoldable pub pinsOf : Module → Bool → Bool → Bool → Outcome
 pinsOf m sck sdi ss =
     if not (m .settings .spien) then refuse m Disabled
     else if ownClock (m .settings) then refuse m WrongClock
-    else answering m Done (stepped (m .settings) (levels sck sdi ss) (m .engine))
+    else clockStepOf m sck sdi ss
 
 -- The clear call, enabled or not: nothing else clears the interrupt flag.
 unfoldable pub clearOf : Module → Outcome
@@ -170,6 +197,7 @@ performOf m (Read register) = readOf m register
 performOf m (Write register v) = writeOf m register v
 performOf m (Tick sdi ss) = tickOf m sdi ss
 performOf m (Pin sck sdi ss) = pinsOf m sck sdi ss
+performOf m (ClockStep sck sdi ss) = clockStepOf m sck sdi ss
 performOf m Clear = clearOf m
 
 -- The module after a list of calls.

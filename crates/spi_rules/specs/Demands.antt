@@ -1,5 +1,5 @@
 -- The customer's three demands on one module, over all sequences of calls: register reads and writes of any number and
--- value, ticks, pin calls and clears, each refused or not. The record OneModule at the end holds every statement, and
+-- value, ticks, pin calls, clock steps and clears, each refused or not. The record OneModule at the end holds every statement, and
 -- proofs/DemandsHold.antt proves it. The step is performOf of specs/Calls.antt, one line for each call. Linked runs, the
 -- clock report and scripts have pages of their own; crates/spi_demands gathers them.
 use Prim.Native.Nat.{ℕ, _+_, _*_, _-_, _≤_}
@@ -19,10 +19,11 @@ use Rattle.spi_types.specs.declared.Shift.{Shift}
 use Rattle.spi_types.specs.declared.Shift.the-variants.{Free, Loaded, Begun}
 use Rattle.spi_types.specs.declared.Refusal.{Refusal}
 use Rattle.spi_types.specs.declared.Answer.the-variants.{Refused, Value, NoEdge, Edge}
+use Rattle.spi_types.specs.declared.Answer.{Answer}
 use Rattle.spi_types.specs.declared.Call.{Call}
-use Rattle.spi_types.specs.declared.Call.the-variants.{Read, Write, Tick, Pin, Clear}
-use Rattle.spi_rules.specs.Refusals.{numberOf, saidOf, isDone}
-use Rattle.spi_rules.specs.Examples.{examples, furtherExamples, frameExamples, markExamples}
+use Rattle.spi_types.specs.declared.Call.the-variants.{Read, Write, Tick, Pin, ClockStep, Clear}
+use Rattle.spi_rules.specs.Refusals.{numberOf, saidOf, isDone, isEdge}
+use Rattle.spi_rules.specs.Examples.{examples, furtherExamples, frameExamples, markExamples, stepExamples}
 use Rattle.spi_rules.specs.InBits.{wordBits, room, clocksItself, stopsBetweenWords, heedsSelect, givesPulses, takesPulses}
 use Rattle.spi_rules.specs.Words.{waitingIn, unreadIn, owedWords}
 use Rattle.spi_rules.specs.Calls.{poweredUp, performOf, interruptOf, sckOf, sdoOf, ssOf}
@@ -37,12 +38,13 @@ use Rattle.spi_rules.specs.RefusalTable.{firstNumber, asks, writes, isCl
 -- proves that the code of each call ends with what it says.
 
 -- The kinds of answer that each call may get when it is not refused (specs/Refusals.antt numbers them): a read a value, a
--- write, a pin call and a clear "done", a tick an edge or none.
+-- write, a pin call and a clear "done", a tick an edge or none, a clock step "done" or no edge.
 abbrev pub kindsFor : Call → List ℕ
 kindsFor (Read register) = 2 ∷ []
 kindsFor (Write register v) = 1 ∷ []
 kindsFor (Tick sdi ss) = 3 ∷ 4 ∷ []
 kindsFor (Pin sck sdi ss) = 1 ∷ []
+kindsFor (ClockStep sck sdi ss) = 1 ∷ 3 ∷ []
 kindsFor Clear = 1 ∷ []
 
 abbrev pub among : ℕ → List ℕ → Bool
@@ -154,13 +156,15 @@ pub record LastEdge (m after : Module) : Type 0 where
   pub mark : after .engine .receive .marked ≡ (m .engine .receive .marked || (drops m && m .settings .con2 .spiben))
 
 -- A call that gives this module's word an edge: a tick of a host with its own clock, or a pin call of another with an SCK level
--- unlike the remembered one, and with SS low for an unframed SSEN client.
+-- unlike the remembered one, and with SS low for an unframed SSEN client; and a clock step where either would.
 abbrev pub clocksWord : Module → Call → Bool
 clocksWord m (Read register) = false
 clocksWord m (Write register v) = false
 clocksWord m (Tick sdi ss) = clocksItself (m .settings .con1)
 clocksWord m (Pin sck sdi ss) =
     not (clocksItself (m .settings .con1)) && (not (Bool·beq sck (sckOf m)) && not (heedsSelect (m .settings) && ss))
+clocksWord m (ClockStep sck sdi ss) =
+    clocksItself (m .settings .con1) || (not (Bool·beq sck (sckOf m)) && not (heedsSelect (m .settings) && ss))
 clocksWord m Clear = false
 
 -- Edges owed by an unframed host with its own clock, said from the history: 2w for each word accepted and not sent, less those
@@ -178,10 +182,18 @@ abbrev pub AllUndisturbed : Watched → List Call → Type 0
 AllUndisturbed x [] = Unit {0}
 AllUndisturbed x (c ∷ cs) = Undisturbed x c × AllUndisturbed (watchedCall x c) cs
 
--- The edges that a list of calls makes: those that ticks answer.
+-- The edges that calls make on a host with its own clock: each that a tick answers, and each clock step that is done.
+abbrev pub edgesBy : Call → Answer → ℕ
+edgesBy (Read register) a = 0
+edgesBy (Write register v) a = 0
+edgesBy (Tick sdi ss) a = saidOf a .edges
+edgesBy (Pin sck sdi ss) a = 0
+edgesBy (ClockStep sck sdi ss) a = boolByte (isDone a)
+edgesBy Clear a = 0
+
 abbrev pub edgesMade : Module → List Call → ℕ
 edgesMade m [] = 0
-edgesMade m (c ∷ cs) = saidOf (performOf m c .answer) .edges + edgesMade (performOf m c .after) cs
+edgesMade m (c ∷ cs) = edgesBy c (performOf m c .answer) + edgesMade (performOf m c .after) cs
 
 -- Idle: no word is loaded, begun or waiting, and a tick makes no edge. Busy: a tick makes an edge.
 pub record IsIdle (m : Module) : Type 0 where
@@ -214,10 +226,25 @@ pub record FramesHold (x : Watched) : Type 0 where
   pub client : takesPulses (x .now .settings) ≡ true → (c : Call) → FrameClientCall x c
   pub follows : givesPulses (x .now .settings) ≡ true → FollowsOn x
 
+-- Clock steps (document 02, Eleven), of every record: refused with 2 alone, so that 7 is never given. On a host with its own clock
+-- SCK changes nothing, and SS nothing unless it is a frame client; the call does what a tick does, and is done exactly where the tick
+-- makes an edge. On any other module it is the pin call.
+pub record ClockSteps (m : Module) : Type 0 where
+  pub refused : (sck sdi ss : Bool) → saidOf (performOf m (ClockStep sck sdi ss) .answer) .number ≡ (if m .settings .spien then 0 else 2)
+  pub sck : clocksItself (m .settings .con1) ≡ true → (a b sdi ss : Bool) →
+      performOf m (ClockStep a sdi ss) ≡ performOf m (ClockStep b sdi ss)
+  pub ss : clocksItself (m .settings .con1) ≡ true → takesPulses (m .settings) ≡ false → (sck sdi a b : Bool) →
+      performOf m (ClockStep sck sdi a) ≡ performOf m (ClockStep sck sdi b)
+  pub tick : clocksItself (m .settings .con1) ≡ true → (sck sdi ss : Bool) →
+      (performOf m (ClockStep sck sdi ss) .after ≡ performOf m (Tick sdi ss) .after)
+      × (isDone (performOf m (ClockStep sck sdi ss) .answer) ≡ isEdge (performOf m (Tick sdi ss) .answer))
+  pub pin : clocksItself (m .settings .con1) ≡ false → (sck sdi ss : Bool) →
+      performOf m (ClockStep sck sdi ss) ≡ performOf m (Pin sck sdi ss)
+
 -- What the buyer signs for, of one module.
 pub record OneModule : Type 0 where
   pub answered : Answered
-  pub paperExamples : (examples ≡ true) × (furtherExamples ≡ true) × (frameExamples ≡ true) × (markExamples ≡ true)
+  pub paperExamples : (examples ≡ true) × (furtherExamples ≡ true) × (frameExamples ≡ true) × (markExamples ≡ true) × (stepExamples ≡ true)
   pub figures : Figures
   pub allZero : AllZero poweredUp
   pub reached : (b : Beginning) (cs : List Call) → Reached (life b cs .now)
@@ -234,3 +261,4 @@ pub record OneModule : Type 0 where
       life b cs .now .settings .con2 .frmen ≡ true → FramesHold (life b cs)
   pub enabling : (b : Beginning) (cs : List Call) (c : Call) → life b cs .now .settings .spien ≡ false →
       showsPulse (watchedCall (life b cs) c .now) ≡ false
+  pub clockSteps : (m : Module) → ClockSteps m

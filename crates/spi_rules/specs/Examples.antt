@@ -2,13 +2,14 @@
 -- proofs/ExamplesHold.antt proves them together, as one list.
 use Prim.Native.Nat.{ℕ}
 use mathlib.Core.Bool.{Bool, true, false, _&&_, Bool·beq}
-use mathlib.Core.List.{List, [], _∷_, _++_}
+use mathlib.Core.List.{List, [], _∷_, _++_, map}
 use lib.Dec.{eqb}
 use lib.ListN.{replicate}
+use Rattle.laws.specs.Choice.{if_then_else_}
 use Rattle.spi_types.specs.declared.Module.{Module}
 use Rattle.spi_types.specs.declared.Said.{Said}
 use Rattle.spi_types.specs.declared.Call.{Call}
-use Rattle.spi_types.specs.declared.Call.the-variants.{Read, Write, Tick, Pin, Clear}
+use Rattle.spi_types.specs.declared.Call.the-variants.{Read, Write, Tick, Pin, ClockStep, Clear}
 use Rattle.spi_types.specs.declared.Output.{Output}
 use Rattle.spi_types.specs.declared.Output.the-variants.{Low, High, Undriven}
 use Rattle.spi_rules.specs.Refusals.{saidOf}
@@ -533,3 +534,67 @@ frameSixteen =
 abbrev pub frameExamples : Bool
 frameExamples =
     everyHolds (frameBefore ∷ frameWith ∷ frameLate ∷ frameSampled ∷ frameFiller ∷ framePins ∷ frameSixteen ∷ [])
+
+-- Document 02, Eleven: clock steps.
+
+-- Examples with clock steps for ticks and pin calls. That for a tick has SCK high, which must not count, and is done where the tick
+-- makes an edge.
+abbrev pub asClockStep : Call → Call
+asClockStep (Read register) = Read register
+asClockStep (Write register v) = Write register v
+asClockStep (Tick sdi ss) = ClockStep true sdi ss
+asClockStep (Pin sck sdi ss) = ClockStep sck sdi ss
+asClockStep (ClockStep sck sdi ss) = ClockStep sck sdi ss
+asClockStep Clear = Clear
+
+abbrev pub byClockStep : Step → Step
+byClockStep (says c a) = says (asClockStep c) (if eqb (a .kind) 4 then ok else a)
+byClockStep (shows level) = shows level
+byClockStep (drives level) = drives level
+byClockStep (flagged flag) = flagged flag
+byClockStep (clockAt level) = clockAt level
+
+-- A host with its own clock: disabled 2, idle no edge, and then an edge at each step, whatever SCK and SS are, until the word is sent.
+-- A pin call gives 7.
+abbrev pub stepHost : List Step
+stepHost =
+    says (ClockStep true true true) (refused 2)
+    ∷ set-up 0x0020 0x0000
+    ++ (says (ClockStep true true true) noEdge
+    ∷ clockAt false
+    ∷ says (Write 3 0x0081) ok
+    ∷ says (ClockStep false true true) ok
+    ∷ clockAt true
+    ∷ shows High
+    ∷ says (ClockStep true false false) ok
+    ∷ clockAt false
+    ∷ says (ClockStep false true true) ok
+    ∷ clockAt true
+    ∷ shows Low
+    ∷ replicate 13 (says (ClockStep true true true) ok)
+    ++ (says (Read 3) (value 0x007F) ∷ says (ClockStep false true false) noEdge ∷ says (Pin true true true) (refused 7) ∷ []))
+
+-- A host under DISSCK and a client, where a tick gives 7: an SCK level that stays is no edge, and each step is done.
+abbrev pub stepPins : List Step
+stepPins =
+    set-up 0x1020 0x0000
+    ++ (says (Write 3 0x0081) ok
+    ∷ says (ClockStep false true true) ok
+    ∷ shows Low
+    ∷ says (ClockStep true true true) ok
+    ∷ shows High
+    ∷ says (ClockStep true true true) ok
+    ∷ clockAt true
+    ∷ says (Tick true true) (refused 7)
+    ∷ says (Write 0 0x0000) ok
+    ∷ says (ClockStep true true true) (refused 2)
+    ∷ set-up 0x0080 0x0000
+    ++ (says (ClockStep true true true) ok ∷ shows Undriven ∷ says (ClockStep false true false) ok ∷ shows Low ∷ []))
+
+abbrev pub stepExamples : Bool
+stepExamples =
+    everyHolds
+    (stepHost
+    ∷ stepPins
+    ∷ map (map byClockStep)
+    (exampleF ∷ exampleK ∷ workedScript ∷ furtherCke1 ∷ furtherFlag ∷ furtherFiller ∷ furtherRegisters ∷ frameBefore ∷ frameSampled ∷ framePins ∷ []))

@@ -9,7 +9,7 @@ use Rattle.word_order.specs.Ledger.{Ledger, isQuiet, edgesGiven, carriesFiller,
 use Rattle.spi_types.specs.declared.Settings.{Settings}
 use Rattle.spi_types.specs.declared.Answer.the-variants.{Edge}
 use Rattle.spi_types.specs.declared.Call.{Call}
-use Rattle.spi_types.specs.declared.Call.the-variants.{Read, Write, Tick, Pin, Clear}
+use Rattle.spi_types.specs.declared.Call.the-variants.{Read, Write, Tick, Pin, ClockStep, Clear}
 use Rattle.spi_rules.specs.InBits.{wordBits, clocksItself}
 use Rattle.spi_rules.specs.Calls.{performOf, sckOf}
 use Rattle.spi_rules.specs.Watch.{Watched, watchedCall, watchedCalls, showsPulse}
@@ -68,12 +68,13 @@ pub record FrameHostCall (x : Watched) (c : Call) : Type 0 where
   pub gives : isQuiet (x .ledger .wire) ≡ true → 1 ≤ unsent (x .ledger) → showsPulse (x .now) ≡ false →
       transmitEdge x c ≡ true → showsPulse (watchedCall x c .now) ≡ true
 
--- The SS level that a tick or a pin call tells.
+-- The SS level that a tick, a pin call or a clock step tells.
 abbrev pub ssTold : Call → Bool
 ssTold (Read register) = false
 ssTold (Write register v) = false
 ssTold (Tick sdi ss) = ss
 ssTold (Pin sck sdi ss) = ss
+ssTold (ClockStep sck sdi ss) = ss
 ssTold Clear = false
 
 -- A word or filler of a frame client begins exactly at a transmit edge before which a pulse stands in the ledger: the preceding

@@ -1,5 +1,5 @@
--- Document 01, "What each refusal number says", with document 02, One, Three and Four: the rows in the order of the tests, each in the
--- paper's words and by what a call asks for. specs/Demands.antt says that a call is refused exactly so.
+-- Document 01, "What each refusal number says", with document 02, One, Three, Four and Eleven: the rows in the order of the tests, each in
+-- the paper's words and by what a call asks for. specs/Demands.antt says that a call is refused exactly so.
 use Prim.Native.Nat.{ℕ}
 use mathlib.Core.Bool.{Bool, not, _&&_, _||_}
 use mathlib.Core.List.{List, [], _∷_}
@@ -10,7 +10,7 @@ use Rattle.word_order.specs.Bits.{bitOf}
 use Rattle.spi_types.specs.declared.Con1.{Con1}
 use Rattle.spi_types.specs.declared.Module.{Module}
 use Rattle.spi_types.specs.declared.Call.{Call}
-use Rattle.spi_types.specs.declared.Call.the-variants.{Read, Write, Tick, Pin, Clear}
+use Rattle.spi_types.specs.declared.Call.the-variants.{Read, Write, Tick, Pin, ClockStep, Clear}
 use Rattle.spi_rules.specs.InBits.{room, clocksItself, undividedClock, ckeWithoutSelect}
 use Rattle.spi_rules.specs.Words.{waitingIn, unreadIn}
 
@@ -38,6 +38,7 @@ asks (Write register v) = record { kind = 1; register = register; value = v }
 asks (Tick sdi ss) = record { kind = 2; register = 0; value = 0 }
 asks (Pin sck sdi ss) = record { kind = 3; register = 0; value = 0 }
 asks Clear = record { kind = 4; register = 0; value = 0 }
+asks (ClockStep sck sdi ss) = record { kind = 5; register = 0; value = 0 }
 
 abbrev pub reads : ℕ → Call → Bool
 reads register c = eqb (asks c .kind) 0 && eqb (asks c .register) register
@@ -54,18 +55,22 @@ isPinCall c = eqb (asks c .kind) 3
 abbrev pub isClear : Call → Bool
 isClear c = eqb (asks c .kind) 4
 
+abbrev pub isClockStep : Call → Bool
+isClockStep c = eqb (asks c .kind) 5
+
 -- A STAT write with a 1 for SPIEN at a disabled module.
 abbrev pub enables : Module → Call → Bool
 enables m c = not (m .settings .spien) && (writes 0 c && bitOf (asks c .value) 15)
 
--- Register calls test 1, then 2 or 3, then 13, 14 and 15, 5 or 16 and 6; tick and pin calls test 2, then 7.
+-- Register calls test 1, then 2 or 3, then 13, 14 and 15, 5 or 16 and 6; tick and pin calls test 2, then 7, and a clock
+-- step tests 2 alone.
 abbrev pub rows : Module → Call → List Row
 rows m c =
     let con1 : Con1 = m .settings .con1 in
     -- register number above 3
     row 1 (ltb 3 (asks c .register))
-    -- module disabled: BUF read or write, tick, pin call
-    ∷ row 2 (not (m .settings .spien) && (reads 3 c || (writes 3 c || (isTick c || isPinCall c))))
+    -- module disabled: BUF read or write, tick, pin call, clock step
+    ∷ row 2 (not (m .settings .spien) && (reads 3 c || (writes 3 c || (isTick c || (isPinCall c || isClockStep c)))))
     -- CON1 or CON2 written while SPIEN is 1
     ∷ row 3 (m .settings .spien && (writes 1 c || writes 2 c))
     -- STAT write turns SPIEN from 0 to 1 with MSTEN, without DISSCK and with both prescalers 1:1

@@ -16,7 +16,7 @@ use Rattle.spi_rules.specs.Settings.{framed, ownClock}
 unfoldable pub numberOf : Refusal → ℕ
 -- the register number is above 3
 numberOf NoSuchRegister = 1
--- the module is disabled: BUF read or write, tick, pin call, linked run
+-- the module is disabled: BUF read or write, tick, pin call, clock step, linked run
 numberOf Disabled = 2
 -- CON1 or CON2 is written while SPIEN is 1
 numberOf Enabled = 3

@@ -16,8 +16,8 @@ use Rattle.spi_types.specs.declared.Answer.{Answer}
 use Rattle.spi_types.specs.declared.Output.{Output}
 use Rattle.spi_types.specs.declared.Output.the-variants.{Low, High, Undriven}
 use Rattle.spi_types.specs.declared.Call.{Call}
-use Rattle.spi_types.specs.declared.Call.the-variants.{Read, Write, Tick, Pin, Clear}
-use Rattle.spi_rules.specs.InBits.{wordBits, room, sampledAt, heedsSelect, takesPulses, sendsNoFiller}
+use Rattle.spi_types.specs.declared.Call.the-variants.{Read, Write, Tick, Pin, ClockStep, Clear}
+use Rattle.spi_rules.specs.InBits.{wordBits, room, sampledAt, clocksItself, heedsSelect, takesPulses, sendsNoFiller}
 use Rattle.spi_rules.specs.Pulses.{startedBy, stands}
 use Rattle.spi_rules.specs.Words.{unreadIn, owedWords}
 use Rattle.spi_rules.specs.Refusals.{saidOf, isDone, isValue, isEdge}
@@ -116,6 +116,13 @@ levelsKept v x busy sck ss =
 abbrev pub ssOfTick : Sight → Memory → Bool → Bool
 ssOfTick v x ss = if takesPulses (v .settings) then ss else x .ss
 
+-- The levels that a clock step shows: those of a tick to a host with its own clock, and else its own.
+abbrev pub sckOfStep : Sight → Memory → Bool → Bool
+sckOfStep v x sck = if clocksItself (v .settings .con1) then not (x .sck) else sck
+
+abbrev pub ssOfStep : Sight → Memory → Bool → Bool
+ssOfStep v x ss = if clocksItself (v .settings .con1) then ssOfTick v x ss else ss
+
 -- A STAT write that turns SPIEN on.
 abbrev pub enabledBy : Sight → ℕ → ℕ → Bool
 enabledBy v register value = isDone (v .answer) && (eqb register 0 && (not (v .settings .spien) && bitOf value 15))
@@ -135,6 +142,9 @@ entryOf x v busy edges (Tick sdi ss) =
     if isEdge (v .answer) then notes (levelOps v x (not (x .sck)) sdi (ssOfTick v x ss)) else notes []
 -- a pin call showed its levels
 entryOf x v busy edges (Pin sck sdi ss) = if isDone (v .answer) then notes (levelOps v x sck sdi ss) else notes []
+-- a clock step was done
+entryOf x v busy edges (ClockStep sck sdi ss) =
+    if isDone (v .answer) then notes (levelOps v x (sckOfStep v x sck) sdi (ssOfStep v x ss)) else notes []
 entryOf x v busy edges Clear = notes []
 
 -- What the watcher remembers after it, with a word on the wire then or none.
@@ -144,6 +154,8 @@ memoryAfter x v busy (Write register value) = if enabledBy v register value then
 memoryAfter x v busy (Tick sdi ss) =
     if isEdge (v .answer) then levelsKept v x busy (not (x .sck)) (ssOfTick v x ss) else x
 memoryAfter x v busy (Pin sck sdi ss) = if isDone (v .answer) then levelsKept v x busy sck ss else x
+memoryAfter x v busy (ClockStep sck sdi ss) =
+    if isDone (v .answer) then levelsKept v x busy (sckOfStep v x sck) (ssOfStep v x ss) else x
 memoryAfter x v busy Clear = x
 
 -- The module and its watcher. Its word order counts while it is enabled.

@@ -25,7 +25,7 @@ use Rattle.spi_save_rules.specs.declared.Saved.the-variants.{NoRoom, Wri
 use Rattle.spi_save_rules.specs.Save.{keptCalls, savedFile, fits, savedOf, bufferAfter, savedNumberOf, savedLengthOf}
 use Rattle.spi_save_rules.specs.SaveDemands.{callsKept, fileSize, Kept, Saves}
 use Rattle.spi_save_rules.proofs.SaveExamplesHold.{save-examples-hold}
-use Rattle.spi_save_rules.proofs.SaveFile.{file-length, file-section, file-played, file-calls}
+use Rattle.spi_save_rules.proofs.SaveFile.{allKept, file-length, file-section, file-played, file-calls}
 use Rattle.spi_save_rules.proofs.SaveLines.{at-most, kept-calls, all-kept, kept-ends}
 
 -- The row of the table.
@@ -41,10 +41,15 @@ module _ (input : List ℕ) where
   unfolding keptCalls
   calls-kept = kept-calls (linesOf (readFrom input))
 
+  -- Each of them is one that a record can hold.
+  held : allKept (keptCalls input) ≡ true
+  unfolding keptCalls
+  held = all-kept (linesOf (readFrom input))
+
   -- The file's length, in the paper's words.
   pub saved-length : length (savedFile input) ≡ fileSize input
   unfolding savedFile
-  saved-length = file-length (keptCalls input) ∙ ap (λ (cs : List Call). 10 + 4 * length cs) calls-kept
+  saved-length = file-length (keptCalls input) held ∙ ap (λ (cs : List Call). 10 + 4 * length cs) calls-kept
 
   -- It has one section, whose calls are those of the lines kept.
   saved-section : sectionCount (savedFile input) ≡ 1
@@ -53,18 +58,18 @@ module _ (input : List ℕ) where
 
   saved-calls : fileCalls (savedFile input) ≡ callsKept input
   unfolding savedFile
-  saved-calls = file-calls (keptCalls input) ∙ calls-kept
+  saved-calls = file-calls (keptCalls input) held ∙ calls-kept
 
   -- The file is played, makes a call for each line that was kept, and ends where the script does.
   saved-played : length (savedFile input) ≤ 65535 → playedOf (savedFile input) ≡ Made (length (callsKept input))
-  unfolding savedFile keptCalls
-  saved-played h = file-played (keptCalls input) (all-kept (linesOf (readFrom input))) h ∙ ap (λ (cs : List Call). Made (length cs)) calls-kept
+  unfolding savedFile
+  saved-played h = file-played (keptCalls input) held h ∙ ap (λ (cs : List Call). Made (length cs)) calls-kept
 
   saved-ends : length (savedFile input) ≤ 65535 → (m : Module) → playedModule m (savedFile input) ≡ scriptEnd input
   unfolding playedModule savedFile keptCalls scriptEnd scriptCalls
   saved-ends h m =
       if-true (isMade (playedOf (savedFile input))) _ _ (ap isMade (saved-played h))
-      ∙ ap (afterCalls poweredUp) (file-calls (keptCalls input))
+      ∙ ap (afterCalls poweredUp) (file-calls (keptCalls input) held)
       ∙ kept-ends (linesOf (readFrom input)) poweredUp
 
   -- What is answered if it fits, and if not.

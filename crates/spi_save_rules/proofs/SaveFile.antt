@@ -15,9 +15,9 @@ use lib.Dec.{leb, ltb}
 use lib.ListN.{length, length-append}
 use lib.Seq.{take-at}
 use Rattle.laws.specs.Choice.{if_then_else_}
-use Rattle.laws.proofs.Keeps.{if-false, and-left, and-right, and-both}
+use Rattle.laws.proofs.Keeps.{if-false, and-left, and-right, and-both, clash}
 use Rattle.spi_types.specs.declared.Call.{Call}
-use Rattle.spi_types.specs.declared.Call.the-variants.{Read, Write, Tick, Pin, Clear}
+use Rattle.spi_types.specs.declared.Call.the-variants.{Read, Write, Tick, Pin, ClockStep, Clear}
 use Rattle.spi_trace_rules.specs.declared.Entry.{Entry}
 use Rattle.spi_trace_rules.specs.declared.Played.the-variants.{Made}
 use Rattle.spi_trace_rules.specs.Trace.{byteAt, halfAt, wordAt, sectionCount, tableEnd, startOf, sizeOf, contentsRight, bodyOf, entriesIn, recordsOf as entriesOf, isPlay, wireIn, levelOf, rightRecord, allRight, allBelow, recordsRight, callOf, callsBy, callsOf, countBy, countOf, fileCalls, fileCount, playedOf}
@@ -31,22 +31,29 @@ allKept (c ∷ cs) = keeps c && allKept cs
 
 -- Bytes.
 
-record-length : (c : Call) → length (recordOf c) ≡ 4
-unfolding recordOf
-record-length (Write register v) = refl
-record-length (Read register) = refl
-record-length (Tick sdi ss) = refl
-record-length (Pin sck sdi ss) = refl
-record-length Clear = refl
+record-length : (c : Call) → keeps c ≡ true → length (recordOf c) ≡ 4
+unfolding recordOf keeps
+record-length (Write register v) k = refl
+record-length (Read register) k = refl
+record-length (Tick sdi ss) k = refl
+record-length (Pin sck sdi ss) k = refl
+record-length (ClockStep sck sdi ss) k = clash false k refl
+record-length Clear k = refl
 
-pub records-length : (cs : List Call) → length (recordsOf cs) ≡ 4 * length cs
+pub records-length : (cs : List Call) → allKept cs ≡ true → length (recordsOf cs) ≡ 4 * length cs
 unfolding recordsOf
-records-length [] = refl
-records-length (c ∷ cs) = omega (arith, length-append (recordOf c) (recordsOf cs), record-length c, records-length cs)
+records-length [] k = refl
+records-length (c ∷ cs) k =
+    omega (
+      arith,
+      length-append (recordOf c) (recordsOf cs),
+      record-length c (and-left (keeps c) _ k),
+      records-length cs (and-right (keeps c) _ k),
+    )
 
-pub file-length : (cs : List Call) → length (fileOf cs) ≡ 10 + 4 * length cs
+pub file-length : (cs : List Call) → allKept cs ≡ true → length (fileOf cs) ≡ 10 + 4 * length cs
 unfolding fileOf
-file-length cs = omega (arith, records-length cs, ap length (append-nil (recordsOf cs)))
+file-length cs k = omega (arith, records-length cs k, ap length (append-nil (recordsOf cs)))
 
 -- A number of two bytes, and one of four.
 two-bytes : (n : ℕ) → n % 256 + 256 * (n / 256) ≡ n
@@ -56,10 +63,10 @@ four-bytes : (n : ℕ) → n % 65536 % 256 + 256 * (n % 65536 / 256) + 65536 * (
 four-bytes n = omega arith
 
 -- The contents.
-module _ (cs : List Call) where
+module _ (cs : List Call) (k : allKept cs ≡ true) where
   size : sizeOf (fileOf cs) 0 ≡ 4 * length cs
   unfolding sizeOf wordAt halfAt byteAt fileOf
-  size = four-bytes (length (recordsOf cs)) ∙ records-length cs
+  size = four-bytes (length (recordsOf cs)) ∙ records-length cs k
 
   contents : length (fileOf cs) ≤ 65535 → contentsRight (fileOf cs) ≡ true
   unfolding tableEnd sectionCount startOf wordAt halfAt byteAt fileOf
@@ -70,13 +77,13 @@ module _ (cs : List Call) where
         most = omega arith;
         starts = elim [
           | zero ↦ λ h. refl
-          | suc k ↦ λ h. absurd (omega arith)
+          | suc i ↦ λ h. absurd (omega arith)
         ];
         records = elim [
           | zero ↦ λ h. omega (arith, size)
-          | suc k ↦ λ h. absurd (omega arith)
+          | suc i ↦ λ h. absurd (omega arith)
         ];
-        ends = omega (arith, size, file-length cs);
+        ends = omega (arith, size, file-length cs k);
         size = fits;
       })
 
@@ -89,39 +96,43 @@ entries-more (Write register v) rest = refl
 entries-more (Read register) rest = refl
 entries-more (Tick sdi ss) rest = refl
 entries-more (Pin sck sdi ss) rest = refl
+entries-more (ClockStep sck sdi ss) rest = refl
 entries-more Clear rest = refl
 
--- The record of a call.
+-- The record of a call that is kept.
 abbrev entryOf : Call → Entry
 entryOf (Write register v) = record { kind = 0; argument = register; value = v }
 entryOf (Read register) = record { kind = 1; argument = register; value = 0 }
 entryOf (Tick sdi ss) = record { kind = 2; argument = wires sdi false ss; value = 0 }
 entryOf (Pin sck sdi ss) = record { kind = 3; argument = wires sdi sck ss; value = 0 }
+entryOf (ClockStep sck sdi ss) = record { kind = 4; argument = 0; value = 0 }
 entryOf Clear = record { kind = 4; argument = 0; value = 0 }
 
-one-entry : (c : Call) → entriesIn (recordOf c) ≡ entryOf c ∷ []
-unfolding recordOf entriesIn
-one-entry (Write register v) = ap {B = List Entry} (λ value. record { kind = 0; argument = register; value = value } ∷ []) (two-bytes v)
-one-entry (Read register) = refl
-one-entry (Tick sdi ss) = refl
-one-entry (Pin sck sdi ss) = refl
-one-entry Clear = refl
+one-entry : (c : Call) → keeps c ≡ true → entriesIn (recordOf c) ≡ entryOf c ∷ []
+unfolding recordOf entriesIn keeps
+one-entry (Write register v) k = ap {B = List Entry} (λ value. record { kind = 0; argument = register; value = value } ∷ []) (two-bytes v)
+one-entry (Read register) k = refl
+one-entry (Tick sdi ss) k = refl
+one-entry (Pin sck sdi ss) k = refl
+one-entry (ClockStep sck sdi ss) k = clash false k refl
+one-entry Clear k = refl
 
 abbrev entries : List Call → List Entry
 entries [] = []
 entries (c ∷ cs) = entryOf c ∷ entries cs
 
-records-entries : (cs : List Call) → entriesIn (recordsOf cs) ≡ entries cs
+records-entries : (cs : List Call) → allKept cs ≡ true → entriesIn (recordsOf cs) ≡ entries cs
 unfolding recordsOf entriesIn
-records-entries [] = refl
-records-entries (c ∷ cs) = cc (entries-more c (recordsOf cs), one-entry c, records-entries cs)
+records-entries [] k = refl
+records-entries (c ∷ cs) k =
+    cc (entries-more c (recordsOf cs), one-entry c (and-left (keeps c) _ k), records-entries cs (and-right (keeps c) _ k))
 
-section : (cs : List Call) → entriesOf (fileOf cs) 0 ≡ entries cs
+section : (cs : List Call) → allKept cs ≡ true → entriesOf (fileOf cs) 0 ≡ entries cs
 unfolding entriesOf bodyOf startOf wordAt halfAt byteAt fileOf
-section cs =
+section cs k =
     ap entriesIn
-    (take-at (recordsOf cs) [] (sizeOf (fileOf cs) 0) (records-length cs ∙ sym (size cs)))
-    ∙ records-entries cs
+    (take-at (recordsOf cs) [] (sizeOf (fileOf cs) 0) (records-length cs k ∙ sym (size cs k)))
+    ∙ records-entries cs k
 
 -- The levels of the wires, read back from an argument.
 record Levels (argument : ℕ) (sdi sck ss : Bool) : Type 0 where
@@ -148,6 +159,7 @@ right count level (Write register v) k = k
 right count level (Read register) k = and-both (leb register 3) _ k refl
 right count level (Tick sdi ss) k = let l = levels sdi false ss in cc (l .below, l .sck-is)
 right count level (Pin sck sdi ss) k = let l = levels sdi sck ss in cc (l .below)
+right count level (ClockStep sck sdi ss) k = clash false k refl
 right count level Clear k = refl
 
 all-right : (count level : ℕ) (cs : List Call) → allKept cs ≡ true → allRight count level 0 (entries cs) ≡ true
@@ -157,13 +169,14 @@ all-right count level (c ∷ cs) k =
     and-both (rightRecord count level 0 (entryOf c)) _ (right count level c (and-left (keeps c) _ k))
     (all-right count level cs (and-right (keeps c) _ k))
 
-call : (c : Call) → callOf (entryOf c) ≡ c
-unfolding callOf if_then_else_
-call (Write register v) = refl
-call (Read register) = refl
-call (Tick sdi ss) = let l = levels sdi false ss in cc (l .sdi-is, l .ss-is)
-call (Pin sck sdi ss) = let l = levels sdi sck ss in cc (l .sdi-is, l .sck-is, l .ss-is)
-call Clear = refl
+call : (c : Call) → keeps c ≡ true → callOf (entryOf c) ≡ c
+unfolding callOf keeps if_then_else_
+call (Write register v) k = refl
+call (Read register) k = refl
+call (Tick sdi ss) k = let l = levels sdi false ss in cc (l .sdi-is, l .ss-is)
+call (Pin sck sdi ss) k = let l = levels sdi sck ss in cc (l .sdi-is, l .sck-is, l .ss-is)
+call (ClockStep sck sdi ss) k = clash false k refl
+call Clear k = refl
 
 no-play : (c : Call) → isPlay (entryOf c) ≡ false
 unfolding isPlay
@@ -171,14 +184,15 @@ no-play (Write register v) = refl
 no-play (Read register) = refl
 no-play (Tick sdi ss) = refl
 no-play (Pin sck sdi ss) = refl
+no-play (ClockStep sck sdi ss) = refl
 no-play Clear = refl
 
-calls : (sub : ℕ → List Call) (cs : List Call) → callsBy sub (entries cs) ≡ cs
+calls : (sub : ℕ → List Call) (cs : List Call) → allKept cs ≡ true → callsBy sub (entries cs) ≡ cs
 unfolding callsBy
-calls sub [] = refl
-calls sub (c ∷ cs) =
+calls sub [] k = refl
+calls sub (c ∷ cs) k =
     ap (λ (first : List Call). first ++ callsBy sub (entries cs)) (if-false (isPlay (entryOf c)) _ _ (no-play c))
-    ∙ cc (call c, calls sub cs)
+    ∙ cc (call c (and-left (keeps c) _ k), calls sub cs (and-right (keeps c) _ k))
 
 count : (sub : ℕ → ℕ) (cs : List Call) → countBy sub (entries cs) ≡ length cs
 unfolding countBy
@@ -192,24 +206,24 @@ pub file-section : (cs : List Call) → sectionCount (fileOf cs) ≡ 1
 unfolding sectionCount halfAt byteAt fileOf
 file-section cs = refl
 
-pub file-calls : (cs : List Call) → fileCalls (fileOf cs) ≡ cs
+pub file-calls : (cs : List Call) → allKept cs ≡ true → fileCalls (fileOf cs) ≡ cs
 unfolding fileCalls callsOf
-file-calls cs = ap (callsBy (callsOf (fileOf cs) 7)) (section cs) ∙ calls (callsOf (fileOf cs) 7) cs
+file-calls cs k = ap (callsBy (callsOf (fileOf cs) 7)) (section cs k) ∙ calls (callsOf (fileOf cs) 7) cs k
 
-file-count : (cs : List Call) → fileCount (fileOf cs) ≡ length cs
+file-count : (cs : List Call) → allKept cs ≡ true → fileCount (fileOf cs) ≡ length cs
 unfolding fileCount countOf
-file-count cs = ap (countBy (countOf (fileOf cs) 7)) (section cs) ∙ count (countOf (fileOf cs) 7) cs
+file-count cs k = ap (countBy (countOf (fileOf cs) 7)) (section cs k) ∙ count (countOf (fileOf cs) 7) cs
 
 records : (cs : List Call) → allKept cs ≡ true → recordsRight (fileOf cs) ≡ true
 unfolding recordsRight allBelow sectionCount halfAt byteAt fileOf
 records cs k =
     let level : ℕ = levelOf (entriesOf (fileOf cs)) 0 in
-    ap (allRight 1 level 0) (section cs) ∙ all-right 1 level cs k
+    ap (allRight 1 level 0) (section cs k) ∙ all-right 1 level cs k
 
 pub file-played : (cs : List Call) → allKept cs ≡ true → length (fileOf cs) ≤ 65535 → playedOf (fileOf cs) ≡ Made (length cs)
 unfolding playedOf
 file-played cs k fits =
-    if-false (not (contentsRight (fileOf cs))) _ _ (ap not (contents cs fits))
+    if-false (not (contentsRight (fileOf cs))) _ _ (ap not (contents cs k fits))
     ∙ if-false (not (recordsRight (fileOf cs))) _ _ (ap not (records cs k))
-    ∙ if-false (ltb 65535 (fileCount (fileOf cs))) _ _ (le-ltb 65535 (fileCount (fileOf cs)) (omega (arith, file-count cs, file-length cs)))
-    ∙ ap Made (file-count cs)
+    ∙ if-false (ltb 65535 (fileCount (fileOf cs))) _ _ (le-ltb 65535 (fileCount (fileOf cs)) (omega (arith, file-count cs k, file-length cs k)))
+    ∙ ap Made (file-count cs k)

@@ -1,5 +1,7 @@
 -- The lines that are kept.
---     kept-calls     they are those that name no register above 3
+--     reading-plain  no line asks for a clock step
+--     kept-calls     the lines kept are those that name no register above 3
+--     line-kept      what is kept of a line is one that a record can hold
 --     all-kept       each of them is one that a record can hold
 --     kept-ends      lines that are left out leave the module as it was
 -- Assumes nothing.
@@ -14,12 +16,12 @@ use Rattle.laws.proofs.Keeps.{if-keeps, if-true, by-test, and-both, clash}
 use Rattle.spi_types.specs.declared.Module.{Module}
 use Rattle.spi_types.specs.declared.Call.{Call}
 use Rattle.spi_types.specs.declared.Outcome.{Outcome}
-use Rattle.spi_types.specs.declared.Call.the-variants.{Read, Write, Tick, Pin, Clear}
-use Rattle.spi_rules.specs.RefusalTable.{asks}
+use Rattle.spi_types.specs.declared.Call.the-variants.{Read, Write, Tick, Pin, ClockStep, Clear}
+use Rattle.spi_rules.specs.RefusalTable.{asks, isClockStep}
 use Rattle.spi_rules.specs.Calls.{refuse, readOf, writeOf, performOf, afterCalls}
 use Rattle.spi_script_rules.specs.declared.Line.{Line}
 use Rattle.spi_script_rules.specs.declared.Line.the-variants.{Unreadable, Asked}
-use Rattle.spi_script_rules.specs.Script.{readingOf, asked, callsOf}
+use Rattle.spi_script_rules.specs.Script.{fits, writeForm, readForm, tickForm, tickSsForm, pinForm, clearForm, readingOf, asked, callsOf}
 use Rattle.spi_save_rules.specs.Save.{keeps, keptOf, keptFrom}
 use Rattle.spi_save_rules.specs.SaveDemands.{lineKept, linesKept}
 use Rattle.spi_save_rules.proofs.SaveFile.{allKept}
@@ -28,28 +30,48 @@ use Rattle.spi_save_rules.proofs.SaveFile.{allKept}
 pub at-most : (a b : ℕ) → leb b a ≡ not (ltb a b)
 at-most a b = by-test (ltb a b) (λ e. cc (lt-leb b a (ltb-true a b e), e)) (λ e. cc (le-leb b a (ltb-false a b e), e))
 
-keeps-is : (c : Call) → keeps c ≡ not (ltb 3 (asks c .register))
+-- No line asks for a clock step.
+abbrev plain : Line → Bool
+plain Unreadable = true
+plain (Asked c) = not (isClockStep c)
+
+reading-plain : (line : List ℕ) → plain (readingOf line) ≡ true
+unfolding readingOf
+reading-plain line =
+    let P : Line → Type 0 = λ (l : Line). plain l ≡ true in
+    if-keeps P (fits writeForm line) _ _ (λ e. refl)
+    (λ e.
+    if-keeps P (fits readForm line) _ _ (λ e. refl)
+    (λ e.
+    if-keeps P (fits tickForm line) _ _ (λ e. refl)
+    (λ e.
+    if-keeps P (fits tickSsForm line) _ _ (λ e. refl)
+    (λ e.
+    if-keeps P (fits pinForm line) _ _ (λ e. refl) (λ e. if-keeps P (fits clearForm line) _ _ (λ e. refl) (λ e. refl))))))
+
+keeps-is : (c : Call) → not (isClockStep c) ≡ true → keeps c ≡ not (ltb 3 (asks c .register))
 unfolding keeps
-keeps-is (Read register) = at-most 3 register
-keeps-is (Write register v) = at-most 3 register
-keeps-is (Tick sdi ss) = refl
-keeps-is (Pin sck sdi ss) = refl
-keeps-is Clear = refl
+keeps-is (Read register) p = at-most 3 register
+keeps-is (Write register v) p = at-most 3 register
+keeps-is (Tick sdi ss) p = refl
+keeps-is (Pin sck sdi ss) p = refl
+keeps-is (ClockStep sck sdi ss) p = clash false p refl
+keeps-is Clear p = refl
 
 other-way : {A : Type 0} (b : Bool) (x y : A) → (if not b then x else y) ≡ (if b then y else x)
 unfolding if_then_else_
 other-way true x y = refl
 other-way false x y = refl
 
-one-kept : (line : Line) → keptOf line ≡ lineKept line
+one-kept : (line : Line) → plain line ≡ true → keptOf line ≡ lineKept line
 unfolding keptOf
-one-kept Unreadable = refl
-one-kept (Asked c) = ap (λ (b : Bool). if b then c ∷ [] else []) (keeps-is c) ∙ other-way (ltb 3 (asks c .register)) (c ∷ []) []
+one-kept Unreadable p = refl
+one-kept (Asked c) p = ap (λ (b : Bool). if b then c ∷ [] else []) (keeps-is c p) ∙ other-way (ltb 3 (asks c .register)) (c ∷ []) []
 
 pub kept-calls : (lines : List (List ℕ)) → keptFrom lines ≡ linesKept lines
 unfolding keptFrom
 kept-calls [] = refl
-kept-calls (line ∷ lines) = cc (one-kept (readingOf line), kept-calls lines)
+kept-calls (line ∷ lines) = cc (one-kept (readingOf line) (reading-plain line), kept-calls lines)
 
 -- Each of these calls is one that is kept.
 kept-then : (line : Line) (cs : List Call) → allKept cs ≡ true → allKept (keptOf line ++ cs) ≡ true
@@ -58,31 +80,37 @@ kept-then Unreadable cs e = e
 kept-then (Asked c) cs e =
     if-keeps (λ (kept : List Call). allKept (kept ++ cs) ≡ true) (keeps c) _ _ (λ on. and-both (keeps c) _ on e) (λ off. e)
 
+pub line-kept : (line : Line) → allKept (keptOf line) ≡ true
+unfolding keptOf
+line-kept Unreadable = refl
+line-kept (Asked c) = if-keeps (λ (kept : List Call). allKept kept ≡ true) (keeps c) _ _ (λ on. and-both (keeps c) _ on refl) (λ off. refl)
+
 pub all-kept : (lines : List (List ℕ)) → allKept (keptFrom lines) ≡ true
 unfolding keptFrom
 all-kept [] = refl
 all-kept (line ∷ lines) = kept-then (readingOf line) (keptFrom lines) (all-kept lines)
 
 -- A call that is not kept is refused, and leaves the module as it was.
-unkept-unchanged : (m : Module) (c : Call) → keeps c ≡ false → performOf m c .after ≡ m
+unkept-unchanged : (m : Module) (c : Call) → not (isClockStep c) ≡ true → keeps c ≡ false → performOf m c .after ≡ m
 unfolding keeps performOf readOf writeOf refuse
-unkept-unchanged m (Read register) e = ap (λ (o : Outcome). o .after) (if-true (ltb 3 register) _ _ (lt-ltb 3 register (leb-false register 3 e)))
-unkept-unchanged m (Write register v) e = ap (λ (o : Outcome). o .after) (if-true (ltb 3 register) _ _ (lt-ltb 3 register (leb-false register 3 e)))
-unkept-unchanged m (Tick sdi ss) e = clash true refl e
-unkept-unchanged m (Pin sck sdi ss) e = clash true refl e
-unkept-unchanged m Clear e = clash true refl e
+unkept-unchanged m (Read register) p e = ap (λ (o : Outcome). o .after) (if-true (ltb 3 register) _ _ (lt-ltb 3 register (leb-false register 3 e)))
+unkept-unchanged m (Write register v) p e = ap (λ (o : Outcome). o .after) (if-true (ltb 3 register) _ _ (lt-ltb 3 register (leb-false register 3 e)))
+unkept-unchanged m (Tick sdi ss) p e = clash true refl e
+unkept-unchanged m (Pin sck sdi ss) p e = clash true refl e
+unkept-unchanged m (ClockStep sck sdi ss) p e = clash false p refl
+unkept-unchanged m Clear p e = clash true refl e
 
 -- The calls that a line asks for and the one that is kept lead to the same module.
-line-ends : (m : Module) (line : Line) (kept all : List Call) → ((n : Module) → afterCalls n kept ≡ afterCalls n all) →
+line-ends : (m : Module) (line : Line) → plain line ≡ true → (kept all : List Call) → ((n : Module) → afterCalls n kept ≡ afterCalls n all) →
     afterCalls m (keptOf line ++ kept) ≡ afterCalls m (asked line ++ all)
 unfolding keptOf asked
-line-ends m Unreadable kept all e = e m
-line-ends m (Asked c) kept all e =
+line-ends m Unreadable p kept all e = e m
+line-ends m (Asked c) p kept all e =
     if-keeps (λ (cs : List Call). afterCalls m (cs ++ kept) ≡ afterCalls (performOf m c .after) all) (keeps c) _ _
     (λ on. e (performOf m c .after))
-    (λ off. e m ∙ ap (λ (n : Module). afterCalls n all) (sym (unkept-unchanged m c off)))
+    (λ off. e m ∙ ap (λ (n : Module). afterCalls n all) (sym (unkept-unchanged m c p off)))
 
 pub kept-ends : (lines : List (List ℕ)) (m : Module) → afterCalls m (keptFrom lines) ≡ afterCalls m (callsOf lines)
 unfolding keptFrom callsOf
 kept-ends [] m = refl
-kept-ends (line ∷ lines) m = line-ends m (readingOf line) (keptFrom lines) (callsOf lines) (kept-ends lines)
+kept-ends (line ∷ lines) m = line-ends m (readingOf line) (reading-plain line) (keptFrom lines) (callsOf lines) (kept-ends lines)

@@ -7,7 +7,7 @@ use lib.Dec.{leb}
 use lib.ListN.{length, drop}
 use Rattle.laws.specs.Choice.{if_then_else_}
 use Rattle.spi_types.specs.declared.Call.{Call}
-use Rattle.spi_types.specs.declared.Call.the-variants.{Read, Write, Tick, Pin, Clear}
+use Rattle.spi_types.specs.declared.Call.the-variants.{Read, Write, Tick, Pin, ClockStep, Clear}
 use Rattle.spi_script_rules.specs.declared.Line.{Line}
 use Rattle.spi_script_rules.specs.declared.Line.the-variants.{Unreadable, Asked}
 use Rattle.spi_script_rules.specs.Script.{readFrom, linesOf, readingOf}
@@ -16,12 +16,13 @@ use Rattle.spi_save_rules.specs.declared.Saved.{Saved}
 use Rattle.spi_save_rules.specs.declared.Saved.the-variants.{NoRoom, Written}
 
 -- A line that cannot be read is left out, and so is one that names a register above 3. All others are kept, whether the module
--- refuses them or not.
+-- refuses them or not. No line asks for a clock step, and no record of a trace file holds one.
 unfoldable pub keeps : Call → Bool
 keeps (Read register) = leb register 3
 keeps (Write register v) = leb register 3
 keeps (Tick sdi ss) = true
 keeps (Pin sck sdi ss) = true
+keeps (ClockStep sck sdi ss) = false
 keeps Clear = true
 
 unfoldable pub keptOf : Line → List Call
@@ -46,6 +47,7 @@ recordOf (Read register) = entry 1 register 0
 recordOf (Tick sdi ss) = entry 2 (wires sdi false ss) 0
 recordOf (Pin sck sdi ss) = entry 3 (wires sdi sck ss) 0
 recordOf Clear = entry 4 0 0
+recordOf (ClockStep sck sdi ss) = []
 
 unfoldable pub recordsOf : List Call → List ℕ
 recordsOf [] = []

@@ -29,6 +29,7 @@ use Rattle.spi_script_rules.proofs.Texts.{put-then, put-length}
 use Rattle.spi_save_rules.specs.declared.Saved.the-variants.{NoRoom, Written as Saved·Written}
 use Rattle.spi_save_rules.specs.Save.{keptOf, keptFrom, keptCalls, recordsOf, fileOf, savedFile, fits, savedOf, bufferAfter}
 use Rattle.spi_save_rules.proofs.SaveFile.{file-length, records-length}
+use Rattle.spi_save_rules.proofs.SaveLines.{line-kept, all-kept}
 use Rattle.spi_saving.specs.Heads.{headOf}
 use Rattle.spi_saving.proofs.Kept.{next-kept, none-behind, records-append}
 
@@ -58,7 +59,7 @@ module _ {session wanted : List ℕ} {at place : ℕ} {out : List ℕ} (h : Savi
         Saving session wanted (end + 1) next out'
     saving-goes-on {next} {out'} t =
         record {
-          room = omega (arith, h .room, t .behind, lengths, records-length (keptOf line), ap length (t .buffer), put-length out place (recordsOf (keptOf line)));
+          room = omega (arith, h .room, t .behind, lengths, records-length (keptOf line) (line-kept line), ap length (t .buffer), put-length out place (recordsOf (keptOf line)));
           completes =
               cc (
                 t .buffer,
@@ -108,7 +109,7 @@ module _ (script : List ℕ) {n : ℕ} (part : n ≡ length (readFrom script)) w
 module _ (script : List ℕ) {size : ℕ} (counted : size ≡ 4 * length (keptFrom (linesOf (readFrom script)))) (room : ℕ) where
   saved-size : length (savedFile script) ≡ 10 + size
   unfolding savedFile keptCalls
-  saved-size = file-length (keptFrom (linesOf (readFrom script))) ∙ omega (arith, counted)
+  saved-size = file-length (keptFrom (linesOf (readFrom script))) (all-kept (linesOf (readFrom script))) ∙ omega (arith, counted)
 
   pub too-long : 65535 < 10 + size → fits (savedFile script) room ≡ false
   unfolding fits
@@ -140,7 +141,7 @@ saved script out out' {size} {next} counted short room head =
     let on = fitting script counted (length out) short room in
     let long = saved-size script counted (length out) in
     let parts : fileOf cs ≡ headOf size ++ recordsOf cs =
-    file-parts cs ∙ ap (λ (k : ℕ). headOf k ++ recordsOf cs) (records-length cs ∙ sym counted) in (
+    file-parts cs ∙ ap (λ (k : ℕ). headOf k ++ recordsOf cs) (records-length cs (all-kept (linesOf (readFrom script))) ∙ sym counted) in (
       cc (long, if-true (fits (savedFile script) (length out)) (Saved·Written (length (savedFile script))) NoRoom on),
       cc (
         head .buffer,

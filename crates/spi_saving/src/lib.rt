@@ -15,7 +15,7 @@ ghost use Rattle.spi_trace_rules.specs.TraceBytes.{half, word, entry};
 ghost use Rattle.spi_save_rules.specs.Save.{keeps, keptOf, keptFrom, wires, recordOf, recordsOf, savedOf, bufferAfter};
 ghost use Rattle.spi_saving.specs.Heads.{headOf, putRecords};
 
-// Whether a call is kept: it names no register above 3.
+// Whether a call is kept: it names no register above 3, and is no clock step.
 fn is_kept(c: Call) -> bool
     ensures { λ r. ⌜ r ≡ keeps c ⌝ }
 {
@@ -24,6 +24,7 @@ fn is_kept(c: Call) -> bool
         Call::Write(register, _) => register <= 3,
         Call::Tick(_, _) => true,
         Call::Pin(_, _, _) => true,
+        Call::ClockStep(_, _, _) => false,
         Call::Clear => true,
     }
 }
@@ -123,6 +124,7 @@ fn put_call(out: &mut [u8], at: usize, c: Call) -> usize
         Call::Tick(sdi, ss) => put_entry(out, at, 2, argument_of(sdi, false, ss), 0),
         Call::Pin(sck, sdi, ss) => put_entry(out, at, 3, argument_of(sdi, sck, ss), 0),
         Call::Clear => put_entry(out, at, 4, 0, 0),
+        Call::ClockStep(_, _, _) => at,
     }
 }
 

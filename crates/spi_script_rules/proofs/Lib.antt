@@ -8,3 +8,5 @@ pub mod Texts
 pub mod ScriptExamplesHold
 -- The demands, all of them:
 pub mod ScriptDemandsHold
+-- The clock step beneath ticks and pin calls moves nothing:
+pub mod ScriptBefore

@@ -21,7 +21,7 @@ use Rattle.spi_types.specs.declared.Refusal.the-variants.{NoSuchRegister, Disab
 use Rattle.spi_types.specs.declared.Answer.{Answer}
 use Rattle.spi_types.specs.declared.Answer.the-variants.{Refused, Done, Value, NoEdge, Edge}
 use Rattle.spi_types.specs.declared.Call.{Call}
-use Rattle.spi_types.specs.declared.Call.the-variants.{Read, Write, Tick, Pin, Clear}
+use Rattle.spi_types.specs.declared.Call.the-variants.{Read, Write, Tick, Pin, ClockStep, Clear}
 use Rattle.spi_types.specs.declared.Output.{Output}
 use Rattle.spi_types.specs.declared.Output.the-variants.{Low, High, Undriven}
 use Rattle.spi_rules.specs.Refusals.{numberOf}
@@ -88,6 +88,7 @@ done-length (Write register v) m = omega arith
 done-length Clear m = omega arith
 done-length (Read register) m = omega arith
 done-length (Tick sdi ss) m = omega arith
+done-length (ClockStep sck sdi ss) m = omega arith
 
 pub answer-length : (c : Call) (a : Answer) (m : Module) → length (answerText c a m) ≤ 7
 unfolding answerText fourHexOf bytes

@@ -23,7 +23,7 @@ use Rattle.spi_types.specs.declared.Refusal.the-variants.{UnreadableLine}
 use Rattle.spi_types.specs.declared.Answer.{Answer}
 use Rattle.spi_types.specs.declared.Answer.the-variants.{Refused, Done, Value, NoEdge, Edge}
 use Rattle.spi_types.specs.declared.Call.{Call}
-use Rattle.spi_types.specs.declared.Call.the-variants.{Read, Write, Tick, Pin, Clear}
+use Rattle.spi_types.specs.declared.Call.the-variants.{Read, Write, Tick, Pin, ClockStep, Clear}
 use Rattle.spi_types.specs.declared.Output.{Output}
 use Rattle.spi_types.specs.declared.Output.the-variants.{Low, High, Undriven}
 use Rattle.spi_rules.specs.Refusals.{numberOf}
@@ -84,6 +84,7 @@ done-without-lf (Write register v) m = no-lf okText refl
 done-without-lf Clear m = no-lf okText refl
 done-without-lf (Read register) m = no-lf okText refl
 done-without-lf (Tick sdi ss) m = no-lf okText refl
+done-without-lf (ClockStep sck sdi ss) m = no-lf okText refl
 
 answer-without-lf : (c : Call) (a : Answer) (m : Module) → NoLf (answerText c a m)
 unfolding answerText edgeText fourHexOf bytes

@@ -14,7 +14,7 @@ use Rattle.spi_types.specs.declared.Refusal.the-variants.{UnreadableLine}
 use Rattle.spi_types.specs.declared.Answer.{Answer}
 use Rattle.spi_types.specs.declared.Answer.the-variants.{Refused, Done, Value, NoEdge, Edge}
 use Rattle.spi_types.specs.declared.Call.{Call}
-use Rattle.spi_types.specs.declared.Call.the-variants.{Read, Write, Tick, Pin, Clear}
+use Rattle.spi_types.specs.declared.Call.the-variants.{Read, Write, Tick, Pin, ClockStep, Clear}
 use Rattle.spi_types.specs.declared.Output.{Output}
 use Rattle.spi_types.specs.declared.Output.the-variants.{Low, High, Undriven}
 use Rattle.spi_rules.specs.Refusals.{numberOf}
@@ -181,13 +181,15 @@ pinText m = sdoLetter (sdoOf m) ∷ space ∷ levelOf (interruptOf m) ∷ ssText
 unfoldable pub edgeText : Module → List ℕ
 edgeText m = levelOf (sckOf m) ∷ space ∷ pinText m
 
--- What a call that was done tells: the pin call its levels, a write and the clear call OK.
+-- What a call that was done tells: the pin call its levels, a write and the clear call OK. No other call that a line asks for is told
+-- as done.
 unfoldable pub doneText : Call → Module → List ℕ
 doneText (Pin sck sdi ss) m = pinText m
 doneText (Write register v) m = okText
 doneText Clear m = okText
 doneText (Read register) m = okText
 doneText (Tick sdi ss) m = okText
+doneText (ClockStep sck sdi ss) m = okText
 
 -- What an answer to a call tells, with the module after it: four hexadecimal digits for a value, `N` for no edge.
 unfoldable pub answerText : Call → Answer → Module → List ℕ

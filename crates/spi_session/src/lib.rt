@@ -165,6 +165,7 @@ fn put_done(out: &mut [u8; 4096], at: usize, c: Call, w: &[u16; 96]) -> usize
         Call::Clear => put_ok(out, at),
         Call::Read(_) => put_ok(out, at),
         Call::Tick(_, _) => put_ok(out, at),
+        Call::ClockStep(_, _, _) => put_ok(out, at),
     }
 }
 

@@ -8,3 +8,5 @@ pub mod TraceRight
 pub mod TraceOrder
 pub mod TraceRuns
 pub mod TraceDemandsHold
+-- The clock step beneath ticks and pin calls moves nothing:
+pub mod TraceBefore

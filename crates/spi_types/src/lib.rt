@@ -159,12 +159,13 @@ pub struct Outcome {
 }
 
 // The calls on one module: read a register, write a register, tick with the levels SDI and SS, see the pins SCK, SDI and
-// SS, clear the interrupt flag.
+// SS, step the clock of whatever module it is with these three, clear the interrupt flag.
 pub enum Call {
     Read(u32),
     Write(u32, u16),
     Tick(bool, bool),
     Pin(bool, bool, bool),
+    ClockStep(bool, bool, bool),
     Clear,
 }
 

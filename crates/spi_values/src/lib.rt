@@ -5,7 +5,7 @@ use spi_types::Call;
 use spi_types::Module;
 use spi_types::Outcome;
 ghost use mathlib.Core.Path.{_≡_};
-ghost use Rattle.spi_rules.specs.Calls.{poweredUp, readOf, writeOf, tickOf, pinsOf, clearOf, performOf};
+ghost use Rattle.spi_rules.specs.Calls.{poweredUp, readOf, writeOf, tickOf, pinsOf, clockStepOf, clearOf, performOf};
 ghost use Rattle.spi_link_rules.specs.Link.{linkedOf};
 
 // A module as it powers up.
@@ -57,6 +57,14 @@ pub fn pins(m: Module, sck: bool, sdi: bool, ss: bool) -> Outcome
     ensures { λ r. ⌜ r ≡ pinsOf m sck sdi ss ⌝ }
 {
     perform(m, Call::Pin(sck, sdi, ss))
+}
+
+// A clock step with the levels SCK, SDI and SS: the next edge of a host with its own clock, if any, which ignores SCK, and SS unless it is
+// a frame client; any other module sees the levels.
+pub fn clock_step(m: Module, sck: bool, sdi: bool, ss: bool) -> Outcome
+    ensures { λ r. ⌜ r ≡ clockStepOf m sck sdi ss ⌝ }
+{
+    perform(m, Call::ClockStep(sck, sdi, ss))
 }
 
 // The interrupt flag is cleared.

@@ -5,11 +5,11 @@ use spi_save_rules::Saved;
 use spi_trace_rules::Played;
 ghost use Prim.Native.Nat.{_%_};
 ghost use mathlib.Core.Path.{_≡_};
-ghost use Rattle.spi_rules.specs.Calls.{poweredUp, readOf, writeOf, tickOf, pinsOf, clearOf};
+ghost use Rattle.spi_rules.specs.Calls.{poweredUp, readOf, writeOf, tickOf, pinsOf, clockStepOf, clearOf};
 ghost use Rattle.spi_link_rules.specs.Link.{linkedOf};
 ghost use Rattle.spi_clock_rules.specs.Clock.{reportOf, saidClock};
 ghost use Rattle.spi_memory.specs.Memory.{moduleIn};
-ghost use Rattle.spi_numbers.specs.Told.{Tells, levelIn, levelsNumber, ClockTells, LinkTells};
+ghost use Rattle.spi_numbers.specs.Told.{Tells, levelIn, levelsNumber, StepTells, ClockTells, LinkTells};
 ghost use Rattle.spi_board.specs.Boards.{askedOf};
 ghost use Rattle.spi_board.specs.Owing.{Asks, OwedTells, OwedPairTells};
 ghost use Rattle.thurafeqa.specs.Numbers.{playNumber, PlayTells, saveNumber, SaveTells, versionNumber, formatNumber};
@@ -36,6 +36,15 @@ pub extern "C" fn thurafeqa_write(w: &mut [u16; 96], register: u32, value: u32) 
     ensures { λ r. ⌜ Tells (writeOf (moduleIn (now (w .entry))) register (value % 65536)) r (now (w .entry)) (now (w .exit)) ⌝ }
 {
     spi_numbers::write(w, register, (value % 65536) as u16)
+}
+
+// One clock step of any module, with the levels SCK, SDI and SS, and a look at its pins after it. A host with its own clock makes its
+// next edge, if any; SCK counts for none, and SS for a frame client alone. Any other module sees the levels.
+#[no_mangle]
+pub extern "C" fn thurafeqa_clock_step(w: &mut [u16; 96], sck: u32, sdi: u32, ss: u32) -> u32
+    ensures { λ r. ⌜ StepTells (clockStepOf (moduleIn (now (w .entry))) (levelIn sck) (levelIn sdi) (levelIn ss)) r (now (w .entry)) (now (w .exit)) ⌝ }
+{
+    spi_numbers::clock_step(w, sck != 0, sdi != 0, ss != 0)
 }
 
 // One tick of a host with its own clock, with the levels SDI and SS. SS counts for a frame client alone.
@@ -192,7 +201,7 @@ pub extern "C" fn thurafeqa_save(script: &[u8], file: &mut [u8]) -> u32
 pub extern "C" fn thurafeqa_version() -> u32
     ensures { λ r. ⌜ r ≡ versionNumber ⌝ }
 {
-    328192
+    328448
 }
 
 // The number of the memory's format: it rises wherever the meaning of the 96 numbers changes.

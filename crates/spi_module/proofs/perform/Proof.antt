@@ -39,6 +39,13 @@ returns-4 c =
 returns-5 : tie.Need-returns-5
 unfolding performOf
 returns-5 c =
+    let w = c .before .before .before .before .before .args .w .now in
+    let c5 = c .before .before .before .c5 .given .1 in
+    likewise (c .clock-step .ensures) (by-case (performOf (moduleIn w)) c5 refl)
+
+returns-6 : tie.Need-returns-6
+unfolding performOf
+returns-6 c =
     let w = c .before .before .before .before .args .w .now in
     likewise (c .clear .ensures) (by-case (performOf (moduleIn w)) (c .before .before .enum-told .given .1) refl)
 
@@ -48,8 +55,10 @@ perform-spec =
     (tie.spec
     (λ c. search needs) (λ c κs. search needs) (λ c. search needs) (λ c κs. search needs) (λ c. search needs)
     (λ c κs. search needs) (λ c. search needs) (λ c κs. search needs) (λ c. search needs) (λ c κs. search needs)
+    (λ c. search needs) (λ c κs. search needs)
     returns
     returns-2
     returns-3
     returns-4
-    returns-5)
+    returns-5
+    returns-6)

@@ -1,9 +1,9 @@
--- The refusals are tested in the order of the definition.
+-- The refusals are tested in the order of the definition; then it is the clock step.
 use borrow.Author.Needs.{needs}
 use mathlib.Core.Path.{refl}
 use Rattle.laws.proofs.Choices.{so, not-so}
 use Rattle.spi_rules.specs.Calls.{refuse, pinsOf}
-use Rattle.spi_module.proofs.Answers.{kept, changed, answered}
+use Rattle.spi_module.proofs.Answers.{kept, likewise}
 use Rattle.spi_module.proofs.pins.Statement.{statement}
 use Rattle.spi_module.proofs.pins.Tie as tie
 
@@ -23,7 +23,8 @@ returns-3 c =
     let settings-in = c .before .before .before .before .before .before .settings-in .ensures in
     let if1 = c .before .before .before .before .if1 .left in
     let own-clock = c .before .before .before .own-clock .ensures in
-    changed refl (not-so _ _ _ (rw settings-in at if1) (not-so _ _ _ (rw (own-clock, settings-in) at (c .before .before .if2 .left)) (answered _ (c .see .ensures) refl)))
+    likewise (c .clock-step .ensures)
+    (not-so _ _ _ (rw settings-in at if1) (not-so _ _ _ (rw (own-clock, settings-in) at (c .before .before .if2 .left)) refl))
 
 pub pins-spec : {M : Type 1} → statement M
 pins-spec =

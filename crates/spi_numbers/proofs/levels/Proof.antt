@@ -8,7 +8,7 @@ use Rattle.spi_numbers.proofs.levels.Tie as tie
 returns : tie.Need-returns
 unfolding levelsNumber seenNumber interruptOf sckOf
 returns c =
-    rw ((c .before .before .before .weight .ensures .0), (c .before .before .weight2 .ensures .0), (c .before .sdo-bits .ensures .0), (c .ss-bits .ensures .0), (c .before .before .before .before .interrupt-in .ensures), (c .before .before .before .before .before .pins-in .ensures))
+    (rw ((c .before .before .before .weight .ensures .0), (c .before .before .weight2 .ensures .0), (c .before .sdo-bits .ensures .0), (c .ss-bits .ensures .0), (c .before .before .before .before .interrupt-in .ensures), (c .before .before .before .before .before .pins-in .ensures)), search needs)
 
 pub levels-spec : {M : Type 1} → statement M
 levels-spec =

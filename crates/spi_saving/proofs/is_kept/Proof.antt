@@ -26,13 +26,19 @@ returns-5 : tie.Need-returns-5
 unfolding keeps
 returns-5 c = by-case keeps (c .enum-told3 .given .1) refl
 
+returns-6 : tie.Need-returns-6
+unfolding keeps
+returns-6 c = by-case keeps (c .enum-told4 .given .1) refl
+
 pub is-kept-spec : {M : Type 1} → statement M
 is-kept-spec =
     tie.close
     (tie.spec
     (λ c. search needs) (λ c. search needs) (λ c. search needs) (λ c. search needs) (λ c. search needs)
+    (λ c. search needs)
     returns
     returns-2
     returns-3
     returns-4
-    returns-5)
+    returns-5
+    returns-6)

@@ -1,8 +1,9 @@
 -- Each arm is the clause of the definition for its case.
 use borrow.Author.Needs.{needs}
 use Prim.Native.Nat.{ℕ}
-use mathlib.Core.Path.{sym}
+use mathlib.Core.Path.{refl, sym}
 use native.Mathlib.Omega.{arith}
+use Rattle.spi_script_rules.specs.Texts.{put}
 use Rattle.spi_script_rules.proofs.Texts.{written-case}
 use Rattle.spi_trace_rules.specs.TraceBytes.{entry}
 use Rattle.spi_save_rules.specs.Save.{recordOf}
@@ -38,6 +39,10 @@ returns-5 : tie.Need-returns-5
 unfolding recordOf
 returns-5 c = written-case recordOf (c .before .before .before .before .enum-told .given .1) (c .before .before .put-entry5 .ensures)
 
+returns-6 : tie.Need-returns-6
+unfolding recordOf put
+returns-6 c = written-case recordOf (c .enum-told2 .given .1) record { buffer = refl; behind = omega arith }
+
 pub put-call-spec : {M : Type 1} → statement M
 put-call-spec =
     tie.close
@@ -48,6 +53,7 @@ put-call-spec =
     cast-put-entry-2
     (λ c κs. search needs) (λ c. search needs) (λ c κs. search needs) (λ c κs. search needs) (λ c. search needs)
     (λ c κs. search needs) (λ c κs. search needs) (λ c. search needs) (λ c κs. search needs) (λ c. search needs)
+    (λ c. search needs)
     returns
     (λ c. search needs)
     returns-2
@@ -56,4 +62,5 @@ put-call-spec =
     (λ c. search needs)
     returns-4
     (λ c. search needs)
-    returns-5)
+    returns-5
+    returns-6)

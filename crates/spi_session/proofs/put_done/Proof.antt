@@ -37,14 +37,22 @@ returns-5 c =
     let w = c .before .before .before .before .args .w .now in
     written-case (λ (x : Call). doneText x (moduleIn w)) (c .before .before .enum-told5 .given .1) (c .put-ok4 .ensures)
 
+returns-6 : tie.Need-returns-6
+unfolding doneText
+returns-6 c =
+    let w = c .before .before .before .before .args .w .now in
+    written-case (λ (x : Call). doneText x (moduleIn w)) (c .before .before .enum-told6 .given .1) (c .put-ok5 .ensures)
+
 pub put-done-spec : {M : Type 1} → statement M
 put-done-spec =
     tie.close
     (tie.spec
     (λ c. search needs) (λ c κs. search needs) (λ c. search needs) (λ c κs. search needs) (λ c. search needs)
     (λ c κs. search needs) (λ c. search needs) (λ c κs. search needs) (λ c. search needs) (λ c κs. search needs)
+    (λ c. search needs) (λ c κs. search needs)
     returns
     returns-2
     returns-3
     returns-4
-    returns-5)
+    returns-5
+    returns-6)
