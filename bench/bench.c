@@ -17,6 +17,7 @@ static const struct {
     uint32_t times;
 } cases[CASES] = {
     {"busy host, 16 bits", "edge", 2000},
+    {"busy host, 16 bits, depth 16", "edge", 2000},
     {"tick and levels at every edge", "edge", 2000},
     {"clock steps, all levels looked at", "edge", 2000},
     {"frame host, 16 bits", "edge", 2000},

@@ -63,9 +63,33 @@ static struct outcome stepped_host(uint32_t times)
     return busy(STEPS, times);
 }
 
-/* The same of a frame host with FRMDLY 0. The first word's pulse takes a clock,
- * the others lie on the last bit of the word before, so the words follow each
- * other without a gap; SS is looked at there. */
+/* A busy host whose buffers hold 16 words, with twelve waiting throughout. */
+static struct outcome deep_host(uint32_t times)
+{
+    struct outcome o = {0, 0};
+    uint32_t seed = 1, bits;
+    module m;
+    int i;
+
+    START_DEEP(m, 16, MSTEN | MODE16);
+    for (i = 0; i < 13; i++)
+        o.sum = mixed(o.sum, write_register(OF(m), BUF, seed = next(seed)));
+    while (times-- > 0) {
+        bits = seed = next(seed);
+        for (i = 0; i < 32; i++) {
+            o.units += tick(OF(m), bits & 1, 0);
+            bits >>= 1;
+        }
+        o.sum = mixed(o.sum, read_register(OF(m), BUF));
+        o.sum = mixed(o.sum, write_register(OF(m), BUF, seed >> 7));
+    }
+    o.sum = SEEN(m, o.sum);
+    return o;
+}
+
+/* A busy frame host with FRMDLY 0. The first word's pulse takes a clock, the
+ * others lie on the last bit of the word before, so the words follow each other
+ * without a gap; SS is looked at there. */
 static struct outcome frame_host(uint32_t times)
 {
     struct outcome o = {0, 0};
@@ -141,7 +165,7 @@ static struct outcome linked_pair(uint32_t times)
             o.sum = mixed(o.sum, write_register(OF(host), BUF, seed));
             o.sum = mixed(o.sum, write_register(OF(end), BUF, seed >> 16));
         }
-        o.units += linked(OF(host), OF(end), 288);
+        o.units += linked(OF(host), OF(end), 544);
         for (i = 0; i < 8; i++) {
             o.sum = mixed(o.sum, read_register(OF(host), BUF));
             o.sum = mixed(o.sum, read_register(OF(end), BUF));
@@ -306,5 +330,5 @@ static struct outcome trace_long(uint32_t times)
 
 const struct side EITHER(library_side, plain_side) = {
     EITHER("library", "plain C"),
-    {busy_host, watched_host, stepped_host, frame_host, client_8, client_16,
-     linked_pair, registers, trace_played, trace_long}};
+    {busy_host, deep_host, watched_host, stepped_host, frame_host, client_8,
+     client_16, linked_pair, registers, trace_played, trace_long}};

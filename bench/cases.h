@@ -13,6 +13,7 @@ struct outcome {
 
 enum {
     BUSY_HOST,
+    DEEP_HOST,
     WATCHED_HOST,
     STEPPED_HOST,
     FRAME_HOST,

@@ -20,6 +20,7 @@
 #define MODULES 3
 
 enum kind {
+    POWER_UP, /* with a depth */
     READ,
     WRITE,
     TICK,
@@ -33,8 +34,8 @@ enum kind {
     KINDS
 };
 static const char *const names[KINDS] = {
-    "read",   "write",  "tick",  "pins", "clock step", "clear",
-    "levels", "linked", "clock", "play"};
+    "power-up", "read",   "write",  "tick",  "pins", "clock step",
+    "clear",    "levels", "linked", "clock", "play"};
 
 /* The file of a play, made from the call's first number. */
 static uint8_t file[SOME_TRACE_BYTES];
@@ -63,8 +64,9 @@ static uint64_t told(uint32_t number, uint32_t kind, double rate,
 }
 
 static struct ref_spi ref[MODULES];
-static unsigned long refused[20], plays, edges, overflows, fillers, aborts;
+static unsigned long refused[26], plays, edges, overflows, fillers, aborts;
 static unsigned long given, sampled, framed_words, marks, unmarked;
+static unsigned long deep[3]; /* modules set up, of depth 4, 8 and 16 */
 
 static unsigned ref_levels(const struct ref_spi *m)
 {
@@ -85,6 +87,9 @@ static uint64_t ask_ref(const struct call *c)
     double rate = 0, bittime = 0;
 
     switch (c->kind) {
+    case POWER_UP:
+        number = ref_power_up_depth(m, c->a);
+        break;
     case READ:
         number = ref_read(m, c->a, &value);
         break;
@@ -136,6 +141,8 @@ static uint64_t ask_plain(const struct call *c)
     struct plain_clock said;
 
     switch (c->kind) {
+    case POWER_UP:
+        return plain_power_up_with(m, c->a);
     case READ:
         return plain_read(m, c->a);
     case WRITE:
@@ -172,6 +179,8 @@ static uint64_t ask_library(const struct call *c)
     uint32_t answer;
 
     switch (c->kind) {
+    case POWER_UP:
+        return thurafeqa_power_up_with(m, c->a);
     case READ:
         return thurafeqa_read(m, c->a);
     case WRITE:
@@ -278,8 +287,9 @@ static int lazy[MODULES];
 
 static int reads(int i) { return !lazy[i] || ref[i].mark || one_in(40); }
 
-/* Disables module i and enables it with other settings; CKP, CKE and MODE16
- * are those of the others more often than not, for the linked runs. */
+/* Disables module i, or powers it up with a depth, and enables it with other
+ * settings; CKP, CKE and MODE16 are those of the others more often than not, for
+ * the linked runs. */
 static void configure(int i)
 {
     static unsigned common;
@@ -297,6 +307,9 @@ static void configure(int i)
     if (one_in(3))
         con2 |= 0x8000;
     lazy[i] = one_in(3);
+    if (one_in(4))
+        ask(POWER_UP, i, 0, one_in(8) ? rnd(40) : 4u << rnd(3), 0, 0);
+    deep[ref[i].depth / 8]++;
     ask(WRITE, i, 0, 0, rnd(0x8000), 0);
     ask(WRITE, i, 0, 1, con1, 0);
     ask(WRITE, i, 0, 2, con2, 0);
@@ -356,7 +369,7 @@ static void any(int i)
         break;
     case 4:
         if (one_in(4)) {
-            ask(LINKED, i, j, one_in(8) ? value % 320 : value % 40, 0, 0);
+            ask(LINKED, i, j, one_in(8) ? value % 560 : value % 40, 0, 0);
             look(j);
         }
         break;
@@ -367,7 +380,7 @@ static void any(int i)
         break;
     case 6:
         if (one_in(4)) /* fill, or read all */
-            for (j = 0; j < 10; j++)
+            for (j = 0; j < ref[i].depth + 2; j++)
                 ask(value & 1 && reads(i) ? READ : WRITE, i, 0, 3,
                     value + (uint32_t)j, 0);
         break;
@@ -402,11 +415,12 @@ int main(int argc, char **argv)
     printf("check: ok: %lu random calls: %lu edges, %lu fillers, %lu aborts, "
            "%lu overflows, %lu marks set and %lu cleared; framed: "
            "%lu words, %lu pulses given, %lu sampled; %lu traces played; "
-           "refused",
+           "set up at depth 4: %lu, 8: %lu, 16: %lu; refused",
            calls, edges, fillers, aborts, overflows, marks, unmarked,
-           framed_words, given, sampled, plays);
+           framed_words, given, sampled, plays, deep[0], deep[1], deep[2]);
     for (i = 1; i < 20; i++)
         if (i != 4 && i != 9 && i != 12) /* no call gives these */
-            printf(" %d: %lu%s", i, refused[i], i < 19 ? "," : "\n");
+            printf(" %d: %lu,", i, refused[i]);
+    printf(" 25: %lu\n", refused[25]);
     return 0;
 }

@@ -9,6 +9,7 @@
 #define THURAFEQA_NUMBERS 96
 
 void thurafeqa_power_up(uint16_t *m);
+uint32_t thurafeqa_power_up_with(uint16_t *m, uint32_t depth);
 uint32_t thurafeqa_read(uint16_t *m, uint32_t reg);
 uint32_t thurafeqa_write(uint16_t *m, uint32_t reg, uint32_t value);
 uint32_t thurafeqa_tick(uint16_t *m, uint32_t sdi, uint32_t ss);

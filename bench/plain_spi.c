@@ -46,17 +46,18 @@ static uint32_t refuse(uint32_t number) { return number << 16; }
 
 /* ---- rings; the caller has looked at the count ------------------------- */
 
+/* All have the words of the deepest, and the depth limits their count alone. */
 static void append(struct plain_ring *r, uint8_t *at, uint16_t word)
 {
     r->word[*at] = word;
-    *at = (*at + 1) & 7;
+    *at = (*at + 1) & 15;
     r->count++;
 }
 
 static uint16_t take(struct plain_ring *r, uint8_t *at)
 {
     uint16_t word = r->word[*at];
-    *at = (*at + 1) & 7;
+    *at = (*at + 1) & 15;
     r->count--;
     return word;
 }
@@ -66,7 +67,7 @@ static uint16_t take(struct plain_ring *r, uint8_t *at)
 /* A word has left the transmit buffer. */
 static void left(struct plain_spi *m)
 {
-    if ((m->raises == 4 && m->tx.count == 7) ||
+    if ((m->raises == 4 && m->tx.count + 1 == m->depth) ||
         (m->raises == 6 && m->tx.count == 0))
         m->flag = 1;
 }
@@ -114,8 +115,9 @@ static void finish(struct plain_spi *m)
         m->marked = m->depth > 1;
     } else {
         append(&m->rx, &m->rx.spi, m->in & (0xFFFF >> m->spare));
-        if (m->raises == 1 || (m->raises == 2 && m->rx.count >= 6) ||
-            (m->raises == 3 && m->rx.count == 8))
+        if (m->raises == 1 ||
+            (m->raises == 2 && 4 * m->rx.count >= 3 * m->depth) ||
+            (m->raises == 3 && m->rx.count == m->depth))
             m->flag = 1;
     }
     if (m->select && !m->filler) {
@@ -360,7 +362,7 @@ static uint32_t write_buf(struct plain_spi *m, unsigned value)
     } else if (!m->loaded && m->edges == 0) {
         load(m);
     }
-    if (m->raises == 7 && m->tx.count == 8)
+    if (m->raises == 7 && m->tx.count == m->depth)
         m->flag = 1;
     return 0;
 }
@@ -397,7 +399,7 @@ static void enable(struct plain_spi *m)
     m->ckp = (c & CKP) != 0;
     m->last = c & MODE16 ? 32 : 16;
     m->spare = c & MODE16 ? 0 : 8;
-    m->depth = m->con2 & SPIBEN ? 8 : 1;
+    m->depth = m->con2 & SPIBEN ? m->chosen : 1;
     m->sck = m->ckp;
     m->ss = 1;
     m->sdo = 0;
@@ -453,7 +455,20 @@ uint32_t plain_write(struct plain_spi *m, uint32_t reg, uint32_t value)
     }
 }
 
-void plain_power_up(struct plain_spi *m) { memset(m, 0, sizeof *m); }
+void plain_power_up(struct plain_spi *m)
+{
+    memset(m, 0, sizeof *m);
+    m->chosen = 8;
+}
+
+uint32_t plain_power_up_with(struct plain_spi *m, uint32_t depth)
+{
+    if (depth != 4 && depth != 8 && depth != 16)
+        return refuse(25);
+    plain_power_up(m);
+    m->chosen = (uint8_t)depth;
+    return 0;
+}
 
 void plain_clear(struct plain_spi *m) { m->flag = 0; }
 
@@ -481,7 +496,7 @@ uint32_t plain_linked(struct plain_spi *host, struct plain_spi *client,
     unsigned from_client = !(client->con1 & DISSDO);
     uint32_t used = 0;
 
-    if (limit > 288)
+    if (limit > 544)
         return refuse(11);
     if (host->clock == OFF || client->clock == OFF)
         return refuse(2);

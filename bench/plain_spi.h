@@ -9,7 +9,7 @@
 
 /* A ring of words: the CPU's position, the SPI engine's, and the words held. */
 struct plain_ring {
-    uint16_t word[8];
+    uint16_t word[16];
     uint8_t cpu, spi;
     uint8_t count;
 };
@@ -29,7 +29,7 @@ struct plain_spi {
     uint8_t cke, ckp;
     uint8_t last;   /* the edges of a word */
     uint8_t spare;  /* 16 less the width */
-    uint8_t depth;
+    uint8_t depth;  /* 1 in standard operation, else as power-up chose */
     uint8_t raises; /* SISEL; 8 in standard operation */
     uint8_t frame;  /* framed: pulses before words, with them, from outside */
     uint8_t active; /* the level of a pulse */
@@ -41,6 +41,7 @@ struct plain_spi {
     uint8_t flag;
     uint8_t pulse; /* a frame host gives one; a frame client has sampled one */
     uint8_t marked; /* a word was lost in enhanced operation since enabled */
+    uint8_t chosen; /* the depth in enhanced operation: 4, 8 or 16 */
 };
 
 /* A clock report in numbers: the refusal number; 1 for internal, 2 for
@@ -50,7 +51,8 @@ struct plain_clock {
     double rate, bittime, below;
 };
 
-void plain_power_up(struct plain_spi *m);
+void plain_power_up(struct plain_spi *m); /* with the depth 8 */
+uint32_t plain_power_up_with(struct plain_spi *m, uint32_t depth);
 uint32_t plain_read(struct plain_spi *m, uint32_t reg);
 uint32_t plain_write(struct plain_spi *m, uint32_t reg, uint32_t value);
 uint32_t plain_tick(struct plain_spi *m, uint32_t sdi, uint32_t ss);

@@ -9,6 +9,7 @@
 typedef uint16_t module[THURAFEQA_NUMBERS];
 #define OF(m) (m)
 #define power_up thurafeqa_power_up
+#define power_up_with thurafeqa_power_up_with
 #define read_register thurafeqa_read
 #define write_register thurafeqa_write
 #define tick thurafeqa_tick
@@ -24,6 +25,7 @@ typedef uint16_t module[THURAFEQA_NUMBERS];
 typedef struct plain_spi module;
 #define OF(m) (&(m))
 #define power_up plain_power_up
+#define power_up_with plain_power_up_with
 #define read_register plain_read
 #define write_register plain_write
 #define tick plain_tick
@@ -46,10 +48,15 @@ enum { STAT, CON1, CON2, BUF };
 #define FRMEN 0x8000u
 #define SPIBEN 0x0001u
 
-/* A module in enhanced operation, enabled; and a frame host or another one. */
-#define START_WITH(m, con1, con2)                                             \
-    (power_up(OF(m)), write_register(OF(m), CON1, con1),                      \
-     write_register(OF(m), CON2, con2), write_register(OF(m), STAT, 0x8000))
+#define ENABLE(m, con1, con2)                                                 \
+    (write_register(OF(m), CON1, con1), write_register(OF(m), CON2, con2),    \
+     write_register(OF(m), STAT, 0x8000))
+
+/* A module in enhanced operation, enabled; a frame host or another one; and one
+ * of another depth than 8. */
+#define START_WITH(m, con1, con2) (power_up(OF(m)), ENABLE(m, con1, con2))
 #define START(m, con1) START_WITH(m, con1, SPIBEN)
+#define START_DEEP(m, depth, con1)                                            \
+    (power_up_with(OF(m), depth), ENABLE(m, con1, SPIBEN))
 
 #endif

@@ -58,11 +58,11 @@ pub mod register {
 
 /// The version of this file: major, minor and patch numbers. [`version`] tells the library's.
 #[allow(dead_code)]
-pub const VERSION: (u8, u8, u8) = (5, 3, 0);
+pub const VERSION: (u8, u8, u8) = (6, 0, 0);
 
 /// The format of a module's words. It rises wherever their meaning changes, so save it beside them.
 #[allow(dead_code)]
-pub const FORMAT: u32 = 3;
+pub const FORMAT: u32 = 4;
 
 /// One module. Equal modules have equal words; two that differ may still behave alike.
 #[repr(C)]
@@ -83,6 +83,7 @@ struct ClockReport {
 // the module or in the other slice.
 unsafe extern "C" {
     safe fn thurafeqa_power_up(m: &mut Module);
+    safe fn thurafeqa_power_up_with(m: &mut Module, depth: u32) -> u32;
     safe fn thurafeqa_read(m: &mut Module, register: u32) -> u32;
     safe fn thurafeqa_write(m: &mut Module, register: u32, value: u32) -> u32;
     safe fn thurafeqa_clock_step(m: &mut Module, sck: u32, sdi: u32, ss: u32) -> u32;
@@ -142,7 +143,7 @@ pub enum Refusal {
     UnreadableLine = 9,
     /// Linked modules differ in CKP, CKE or width.
     DifferentModes = 10,
-    /// A linked run is asked for more than 288 edges.
+    /// A linked run is asked for more than 544 edges.
     TooManyEdges = 11,
     /// Both prescalers of a host with its own clock are 1:1 where STAT would enable it.
     Undivided = 13,
@@ -167,6 +168,8 @@ pub enum Refusal {
     NoModule = 22,
     /// A TI module is given a character length of 0 or above 16.
     WrongLength = 24,
+    /// Power-up is asked for buffers of another depth than 4, 8 or 16 words.
+    NoSuchDepth = 25,
 }
 
 impl Refusal {
@@ -176,7 +179,7 @@ impl Refusal {
         #[rustfmt::skip]
         let all = [NoSuchRegister, Disabled, Enabled, TransmitFull, ReceiveEmpty, WrongClock, NoRate, UnreadableLine,
             DifferentModes, TooManyEdges, Undivided, LateSampling, UnselectedCke, Overflowed, BadContents, BadRecord,
-            TooManyCalls, NoRoom, BadList, NoModule, WrongLength];
+            TooManyCalls, NoRoom, BadList, NoModule, WrongLength, NoSuchDepth];
         all.iter().copied().find(|r| *r as u32 == number)
     }
 
@@ -191,7 +194,7 @@ impl Refusal {
             Refusal::NoRate => "the instruction rate is 0",
             Refusal::UnreadableLine => "the line cannot be read",
             Refusal::DifferentModes => "the linked modules differ in clock mode or width",
-            Refusal::TooManyEdges => "more than 288 edges are asked for",
+            Refusal::TooManyEdges => "more than 544 edges are asked for",
             Refusal::Undivided => "both prescalers are 1:1",
             Refusal::LateSampling => "late sampling is not modelled",
             Refusal::UnselectedCke => "a client with CKE needs SSEN",
@@ -203,6 +206,7 @@ impl Refusal {
             Refusal::BadList => "a board has one to four modules",
             Refusal::NoModule => "the board has no such module, or it is named twice",
             Refusal::WrongLength => "a character has 1 to 16 bits",
+            Refusal::NoSuchDepth => "buffers hold 4, 8 or 16 words",
         }
     }
 }
@@ -338,6 +342,14 @@ impl Module {
         let mut m = Module([0; 96]);
         thurafeqa_power_up(&mut m);
         m
+    }
+
+    /// Power-up of a part whose buffers hold 4, 8 or 16 words in enhanced operation. [`Module::new`] has 8, and no other call changes
+    /// the depth.
+    ///
+    /// Refused: `NoSuchDepth`, and the module is as it was.
+    pub fn power_up_with(&mut self, depth: u32) -> Result<(), Refusal> {
+        value(thurafeqa_power_up_with(self, depth)).map(|_| ())
     }
 
     /// The module's words, to save beside [`FORMAT`].
@@ -477,6 +489,7 @@ const CLEAR: u32 = 5;
 const CLOCK: u32 = 6;
 const LEVELS: u32 = 7;
 const CLOCK_STEP: u32 = 8;
+const POWER_UP_WITH: u32 = 9;
 
 #[allow(dead_code)] // a program need not make every call
 impl<'a> Board<'a> {
@@ -536,6 +549,11 @@ impl<'a> Board<'a> {
     /// Power-up of one module: disabled, every register 0.
     pub fn power_up(&mut self, n: u32) -> Result<(), Refusal> {
         self.call(n, POWER_UP, 0, 0, 0).map(|_| ())
+    }
+
+    /// See [`Module::power_up_with`].
+    pub fn power_up_with(&mut self, n: u32, depth: u32) -> Result<(), Refusal> {
+        self.call(n, POWER_UP_WITH, depth, 0, 0).map(|_| ())
     }
 
     /// See [`Module::read`].

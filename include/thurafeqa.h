@@ -66,8 +66,8 @@ extern "C" {
 /* The version of this header. thurafeqa_version() tells the library's: the two
  * must have the same major number, and the library's minor number must not be
  * lower. */
-#define THURAFEQA_VERSION_MAJOR 5u
-#define THURAFEQA_VERSION_MINOR 3u
+#define THURAFEQA_VERSION_MAJOR 6u
+#define THURAFEQA_VERSION_MINOR 0u
 #define THURAFEQA_VERSION_PATCH 0u
 #define THURAFEQA_VERSION                                                      \
     (THURAFEQA_VERSION_MAJOR << 16 | THURAFEQA_VERSION_MINOR << 8 |            \
@@ -75,7 +75,7 @@ extern "C" {
 
 /* The format of a module's memory. It rises wherever the meaning of the numbers
  * changes, so save it beside them. */
-#define THURAFEQA_FORMAT 3u
+#define THURAFEQA_FORMAT 4u
 
 /* One module. */
 typedef struct {
@@ -98,7 +98,7 @@ typedef char thurafeqa_has_192_bytes[sizeof(thurafeqa) == 192 ? 1 : -1];
 #define THURAFEQA_NO_RATE 8u          /* the instruction rate is 0 */
 #define THURAFEQA_UNREADABLE_LINE 9u  /* of scripts; no call here gives it */
 #define THURAFEQA_DIFFERENT_MODES 10u /* linked: CKP, CKE or width differ */
-#define THURAFEQA_TOO_MANY_EDGES 11u  /* linked: the limit is above 288 */
+#define THURAFEQA_TOO_MANY_EDGES 11u  /* linked: the limit is above 544 */
 #define THURAFEQA_UNDIVIDED 13u       /* enabling: both prescalers are 1:1 */
 #define THURAFEQA_LATE_SAMPLING 14u   /* enabling: SMP is set */
 #define THURAFEQA_UNSELECTED_CKE 15u  /* enabling: client, CKE, no SSEN */
@@ -110,6 +110,7 @@ typedef char thurafeqa_has_192_bytes[sizeof(thurafeqa) == 192 ? 1 : -1];
 #define THURAFEQA_BAD_LIST 21u        /* board: not one to four modules */
 #define THURAFEQA_NO_MODULE 22u       /* board: not there, or named twice */
 #define THURAFEQA_WRONG_LENGTH 24u    /* TI: no character length 1 to 16 */
+#define THURAFEQA_NO_SUCH_DEPTH 25u   /* power-up: not 4, 8 or 16 words */
 
 /* The refusal number of an answer, 0 if the call was done. */
 static inline uint16_t thurafeqa_refusal(uint32_t answer)
@@ -132,7 +133,7 @@ static inline uint16_t thurafeqa_value(uint32_t answer)
 
 /* STAT. A write takes SPIEN, SPISIDL and SISEL, and a 0 in SPIROV clears that
  * bit; the others are read-only. SPIBEC, SRMPT and SRXMPT read 0 in standard
- * operation and while disabled, and SPIBEC shows 8 words as 7. */
+ * operation and while disabled, and SPIBEC shows more than 7 words as 7. */
 #define THURAFEQA_STAT_SPIEN 0x8000u   /* enabled */
 #define THURAFEQA_STAT_SPISIDL 0x2000u /* kept, without effect */
 #define THURAFEQA_STAT_SPIBEC 0x0700u  /* host: waiting; client: unread */
@@ -161,7 +162,7 @@ static inline uint16_t thurafeqa_value(uint32_t answer)
 #define THURAFEQA_CON2_SPIFSD 0x4000u /* frame client, else frame host */
 #define THURAFEQA_CON2_FRMPOL 0x2000u /* a pulse is high, else low */
 #define THURAFEQA_CON2_FRMDLY 0x0002u /* with the first bit, else before it */
-#define THURAFEQA_CON2_SPIBEN 0x0001u /* enhanced: buffers of 8 words, else 1 */
+#define THURAFEQA_CON2_SPIBEN 0x0001u /* enhanced: the depth's words, else 1 */
 
 /* Where the fields of more than one bit begin. */
 #define THURAFEQA_STAT_SPIBEC_SHIFT 8
@@ -170,8 +171,16 @@ static inline uint16_t thurafeqa_value(uint32_t answer)
 #define THURAFEQA_CON1_PPRE_SHIFT 0
 
 /* Power-up: every register 0, the interrupt flag clear, the module disabled.
- * The memory may hold anything before. Never refused. */
+ * The memory may hold anything before. The buffers hold 8 words in enhanced
+ * operation. Never refused. */
 void thurafeqa_power_up(thurafeqa *m);
+
+/* The same for a part whose buffers hold 4, 8 or 16 words in enhanced
+ * operation; in standard operation they hold one. SPITBF, SPIRBF, refusal 5 and
+ * lost words go by this depth, and so do SISEL 2 (three quarters of it or
+ * more), 3 and 7 (all of it) and 4 (one less). Only power-up changes it.
+ * Refusal: 25 for another depth. The module is then unchanged. */
+uint32_t thurafeqa_power_up_with(thurafeqa *m, uint32_t depth);
 
 /* Reads a register; the answer's value is the register's. Reading BUF takes the
  * oldest unread word, and with SISEL 0 in enhanced operation the read that
@@ -240,7 +249,7 @@ uint32_t thurafeqa_levels(const thurafeqa *m);
 
 /* Runs two modules on one wire until the host has no more to send, or for
  * `limit` edges; the answer's value is the number of edges that the host made.
- * Client and host must be two different objects. A limit of 288 ends with an
+ * Client and host must be two different objects. A limit of 544 ends with an
  * idle host, whatever calls were made since power-up. The client's select stays
  * low after the run.
  * Refusals: 11, then 2 (either disabled), 7 (the host has no clock of its own,
@@ -327,7 +336,7 @@ typedef struct {
  * Use the functions over thurafeqa_board below. They call three of the library,
  * which a program need not call itself: thurafeqa_board_owed for the question,
  * thurafeqa_board_linked for the linked run, and thurafeqa_board_call for all
- * others. That one takes a kind of call, a kind above 8 counting as 7, and its
+ * others. That one takes a kind of call, a kind above 9 counting as 7, and its
  * arguments in their order, those left over having no effect. Only a clock
  * report that is not refused writes to *report. Both answer in 64 bits: in the
  * lower 32 what the call answers, in the upper 32 the number of words owed
@@ -341,6 +350,7 @@ typedef struct {
 #define THURAFEQA_BOARD_CLOCK 6u  /* rate */
 #define THURAFEQA_BOARD_LEVELS 7u
 #define THURAFEQA_BOARD_CLOCK_STEP 8u /* SCK, SDI, SS */
+#define THURAFEQA_BOARD_POWER_UP_WITH 9u /* depth */
 uint64_t thurafeqa_board_call(thurafeqa *modules, size_t count, uint32_t owed,
                               uint32_t n, uint32_t kind, uint32_t x, uint32_t y,
                               uint32_t z, thurafeqa_clock_report *report);
@@ -381,6 +391,13 @@ static inline uint32_t thurafeqa_board_owes(const thurafeqa_board *b)
 static inline uint32_t thurafeqa_board_power_up(thurafeqa_board *b, uint32_t n)
 {
     return thurafeqa_board_ask(b, n, THURAFEQA_BOARD_POWER_UP, 0, 0, 0);
+}
+
+static inline uint32_t thurafeqa_board_power_up_with(thurafeqa_board *b,
+                                                     uint32_t n, uint32_t depth)
+{
+    return thurafeqa_board_ask(b, n, THURAFEQA_BOARD_POWER_UP_WITH, depth, 0,
+                               0);
 }
 
 static inline uint32_t thurafeqa_board_read(thurafeqa_board *b, uint32_t n,

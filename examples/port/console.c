@@ -1,7 +1,8 @@
 /* A console with a board of four modules. SPI1 and SPI2 are joined by a wire on
- * the board, SPI3 has its output joined to its input, and SPI4 is not in use.
- * The firmware names a module by its place in the list, from 0. A screen shows
- * how many words are still to be sent. */
+ * the board, SPI3 has its output joined to its input, and SPI4, which has
+ * buffers of 16 words, is joined to nothing. The firmware names a module by its
+ * place in the list, from 0. A screen shows how many words are still to be
+ * sent. */
 #include "thurafeqa.h"
 
 #include <stdio.h>
@@ -48,7 +49,7 @@ static void send_text(thurafeqa_board *b, const char *text)
              thurafeqa_board_write(b, SPI2, THURAFEQA_BUF, 0x4F4B));
     }
     print_board(b);
-    edges = told("linked run", thurafeqa_board_run(b, SPI1, SPI2, 288));
+    edges = told("linked run", thurafeqa_board_run(b, SPI1, SPI2, 544));
     printf("SPI1 and SPI2: %d edges\n", edges);
     print_board(b);
     printf("SPI2 read \"");
@@ -82,6 +83,24 @@ static void send_round(thurafeqa_board *b, uint8_t byte)
            edges);
 }
 
+/* SPI4 takes words until its transmit buffer is full: one is in the shift
+ * register and 16 wait, which SPIBEC shows as 7. Power-up drops them. */
+static void fill_deep(thurafeqa_board *b)
+{
+    uint32_t words = 0;
+
+    told("power-up", thurafeqa_board_power_up_with(b, SPI4, 16));
+    open_module(b, SPI4, THURAFEQA_CON1_MSTEN | THURAFEQA_CON1_MODE16,
+                THURAFEQA_CON2_SPIBEN);
+    while (thurafeqa_refusal(thurafeqa_board_write(b, SPI4, THURAFEQA_BUF,
+                                                   words)) == 0)
+        words++;
+    printf("SPI4 took %u words\n", (unsigned)words);
+    print_board(b);
+    told("power-up", thurafeqa_board_power_up_with(b, SPI4, 16));
+    print_board(b);
+}
+
 int main(void)
 {
     thurafeqa spi[MODULES + 1];
@@ -105,14 +124,18 @@ int main(void)
     told("STAT write", thurafeqa_board_write(&board, SPI3, THURAFEQA_STAT, 0));
     print_board(&board);
 
+    fill_deep(&board);
+
     /* what a port may get wrong: nothing changes */
     told("read of SPI5", thurafeqa_board_read(&board, 4, THURAFEQA_STAT));
     told("run of SPI1 with itself",
-         thurafeqa_board_run(&board, SPI1, SPI1, 288));
+         thurafeqa_board_run(&board, SPI1, SPI1, 544));
     told("read on a board of five",
          thurafeqa_board_read(&longer, SPI1, THURAFEQA_STAT));
     told("question to a board of five", thurafeqa_board_owes(&longer));
     told("tick of SPI4", thurafeqa_board_tick(&board, SPI4, 0, 0));
+    told("power-up of SPI4 with 12 words",
+         thurafeqa_board_power_up_with(&board, SPI4, 12));
     print_board(&board);
     return 0;
 }

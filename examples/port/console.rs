@@ -1,6 +1,6 @@
 //! A console with a board of four modules. SPI1 and SPI2 are joined by a wire on the board, SPI3 has its output joined to its
-//! input, and SPI4 is not in use. The firmware names a module by its place in the list, from 0. A screen shows how many words
-//! are still to be sent. It prints what console.c prints.
+//! input, and SPI4, which has buffers of 16 words, is joined to nothing. The firmware names a module by its place in the list,
+//! from 0. A screen shows how many words are still to be sent. It prints what console.c prints.
 
 #[path = "../../bindings/thurafeqa.rs"]
 mod thurafeqa;
@@ -35,7 +35,7 @@ fn send_text(b: &mut Board, text: &[u8]) -> Result<(), Refusal> {
         b.write(SPI2, BUF, 0x4F4B)?;
     }
     print_board(b)?;
-    println!("SPI1 and SPI2: {} edges", b.linked(SPI1, SPI2, 288)?);
+    println!("SPI1 and SPI2: {} edges", b.linked(SPI1, SPI2, 544)?);
     print_board(b)?;
     print!("SPI2 read \"");
     for _ in text.chunks(2) {
@@ -64,6 +64,21 @@ fn send_round(b: &mut Board, byte: u8) -> Result<(), Refusal> {
     Ok(())
 }
 
+/// SPI4 takes words until its transmit buffer is full: one is in the shift register and 16 wait, which SPIBEC shows as 7.
+/// Power-up drops them.
+fn fill_deep(b: &mut Board) -> Result<(), Refusal> {
+    let mut words = 0;
+    b.power_up_with(SPI4, 16)?;
+    open(b, SPI4, CON1_MSTEN | CON1_MODE16, CON2_SPIBEN)?;
+    while b.write(SPI4, BUF, words).is_ok() {
+        words += 1;
+    }
+    println!("SPI4 took {words} words");
+    print_board(b)?;
+    b.power_up_with(SPI4, 16)?;
+    print_board(b)
+}
+
 fn refused<T>(what: &str, answer: Result<T, Refusal>) {
     if let Err(refusal) = answer {
         println!("port: {what} refused with {}", refusal as u32);
@@ -88,14 +103,17 @@ fn main() -> Result<(), Refusal> {
     b.write(SPI3, STAT, 0)?;
     print_board(&mut b)?;
 
+    fill_deep(&mut b)?;
+
     // what a port may get wrong: nothing changes
     refused("read of SPI5", b.read(4, STAT));
-    refused("run of SPI1 with itself", b.linked(SPI1, SPI1, 288));
+    refused("run of SPI1 with itself", b.linked(SPI1, SPI1, 544));
     let owed = b.owed()?;
     let mut longer = Board::with(&mut spi, owed);
     refused("read on a board of five", longer.read(SPI1, STAT));
     refused("question to a board of five", longer.owed());
     let mut b = Board::with(&mut spi[..4], owed);
     refused("tick of SPI4", b.tick(SPI4, false, false));
+    refused("power-up of SPI4 with 12 words", b.power_up_with(SPI4, 12));
     print_board(&mut b)
 }

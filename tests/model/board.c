@@ -1,5 +1,5 @@
 /* A board of modules over the second model. A comment gives the part of request
- * Seven or Eight that the code below it follows, in other words. */
+ * Seven, Eight or Twelve that the code below it follows, in other words. */
 #include "board.h"
 
 /* A board has at least one module and at most four: 21, which is looked at
@@ -60,6 +60,22 @@ int board_owed(const struct board *b, unsigned *total)
 
 /* A call is made on the record that it names, as if that were alone, and the
  * total follows that record. */
+
+/* Request Twelve: 25, for a depth that there is not, is the module's own and
+ * comes behind 21 and 22. The words of a module that is powered up are owed no
+ * longer; those of one that is not are. */
+int board_power_up_depth(struct board *b, uint32_t n, unsigned depth)
+{
+    int r = named(b, n);
+    unsigned before;
+
+    if (r != 0)
+        return r;
+    before = board_owes(&b->module[n]);
+    r = ref_power_up_depth(&b->module[n], depth);
+    keep_total(b, before, board_owes(&b->module[n]));
+    return r;
+}
 
 int board_power_up(struct board *b, uint32_t n)
 {

@@ -1,6 +1,6 @@
 /* A board: one to four modules of the second model in a list, and beside it the
- * words that they still owe. Written from requests Seven and Eight of document
- * 02 and from nothing else. */
+ * words that they still owe. Written from requests Seven, Eight and Twelve of
+ * document 02 and from nothing else. */
 #ifndef BOARD_H
 #define BOARD_H
 
@@ -37,8 +37,10 @@ int board_owed(const struct board *b, unsigned *total);
 
 /* The calls of one module, by its number, and the linked run of two. Each
  * answers 21 or 22, and then nothing is changed or told; else what ref_spi.h
- * says of the call with the name behind board_. */
+ * says of the call with the name behind board_. Power-up comes without a depth,
+ * which is 8 then, and with one; the modules of a board may differ in it. */
 int board_power_up(struct board *b, uint32_t n);
+int board_power_up_depth(struct board *b, uint32_t n, unsigned depth);
 int board_read(struct board *b, uint32_t n, unsigned reg, unsigned *value);
 int board_write(struct board *b, uint32_t n, unsigned reg, unsigned value);
 int board_tick(struct board *b, uint32_t n, int sdi, int ss);

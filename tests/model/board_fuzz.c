@@ -1,8 +1,9 @@
 /* Boards of the second model (board.c). First some that are worked out: figures
  * of document 01 on modules of a board, linked runs between any two, the order
- * of the refusals, and words owed. Then random calls on lists of none to six
- * modules: beside the list goes a plain model for each of its modules, to which
- * the same calls are made one by one, and after every call
+ * of the refusals, words owed, and modules of several depths. Then random calls
+ * on lists of none to six modules, of any depths: beside the list goes a plain
+ * model for each of its modules, to which the same calls are made one by one,
+ * and after every call
  * - the answer is 21 exactly if the list has none or more than four, else 22
  *   exactly if a module that is named is not there or is named twice, else that
  *   of the plain model, with all that it tells;
@@ -151,11 +152,11 @@ static void every_two(void)
                 EXPECT(board_write(&b, c, 3, 0x3C) == 0);
                 memcpy(copy, six, sizeof six);
                 if (h == c) {
-                    EXPECT(board_linked(&b, h, c, 288, &used) == 22);
+                    EXPECT(board_linked(&b, h, c, 544, &used) == 22);
                     EXPECT(used == 77 && kept(copy, 9, 9));
                     continue;
                 }
-                EXPECT(board_linked(&b, h, c, 288, &used) == 0 && used == 16);
+                EXPECT(board_linked(&b, h, c, 544, &used) == 0 && used == 16);
                 EXPECT(kept(copy, h, c));
                 EXPECT(get(&b, h, 3) == 0x3C && get(&b, c, 3) == 0xA5);
             }
@@ -199,16 +200,24 @@ static void order(void)
     EXPECT(board_step(&two, 2, 1, 0, 0) == 22);
     EXPECT(board_step(&b, 2, 1, 0, 0) == 2);
     EXPECT(board_power_up(&five, 0) == 21 && board_power_up(&b, 4) == 22);
+    EXPECT(board_power_up_depth(&five, 0, 5) == 21); /* before 25 */
+    EXPECT(board_power_up_depth(&five, 0, 4) == 21);
+    EXPECT(board_power_up_depth(&none, 0, 8) == 21);
+    EXPECT(board_power_up_depth(&five, 9, 5) == 21); /* before 22 and 25 */
+    EXPECT(board_power_up_depth(&b, 4, 5) == 22);    /* before 25 */
+    EXPECT(board_power_up_depth(&two, 2, 16) == 22);
+    EXPECT(board_power_up_depth(&b, 0, 5) == 25);
+    EXPECT(board_power_up_depth(&one, 0, 0x10008u) == 25);
     EXPECT(board_clear(&none, 0) == 21 && board_clear(&one, 1) == 22);
     EXPECT(board_see(&five, 9, &seen) == 21 && board_see(&b, 9, &seen) == 22);
-    EXPECT(board_linked(&five, 0, 1, 288, &v) == 21);
-    EXPECT(board_linked(&five, 1, 1, 289, &v) == 21); /* before 22 and 11 */
-    EXPECT(board_linked(&b, 0, 4, 289, &v) == 22);    /* before 11 */
-    EXPECT(board_linked(&b, 4, 1, 289, &v) == 22);
-    EXPECT(board_linked(&b, 0, 0, 289, &v) == 22);
+    EXPECT(board_linked(&five, 0, 1, 544, &v) == 21);
+    EXPECT(board_linked(&five, 1, 1, 545, &v) == 21); /* before 22 and 11 */
+    EXPECT(board_linked(&b, 0, 4, 545, &v) == 22);    /* before 11 */
+    EXPECT(board_linked(&b, 4, 1, 545, &v) == 22);
+    EXPECT(board_linked(&b, 0, 0, 545, &v) == 22);
     EXPECT(board_linked(&b, 2, 2, 0, &v) == 22); /* before 2 */
     EXPECT(board_linked(&b, 1, 1, 0, &v) == 22); /* before 7 */
-    EXPECT(board_linked(&b, 0, 1, 289, &v) == 11);
+    EXPECT(board_linked(&b, 0, 1, 545, &v) == 11);
     EXPECT(board_linked(&b, 0, 2, 0, &v) == 2);
     EXPECT(board_linked(&b, 1, 0, 0, &v) == 7);
     EXPECT(board_linked(&one, 0, 0, 0, &v) == 22);
@@ -344,8 +353,8 @@ static void owed_on_a_wire(void)
     EXPECT(owed(&b) == 4);
     EXPECT(board_linked(&b, 2, 0, 15, &used) == 0 && owed(&b) == 4);
     EXPECT(board_linked(&b, 2, 0, 1, &used) == 0 && owed(&b) == 2);
-    EXPECT(board_linked(&b, 2, 0, 289, &used) == 11 && owed(&b) == 2);
-    EXPECT(board_linked(&b, 2, 0, 288, &used) == 0 && used == 32);
+    EXPECT(board_linked(&b, 2, 0, 545, &used) == 11 && owed(&b) == 2);
+    EXPECT(board_linked(&b, 2, 0, 544, &used) == 0 && used == 32);
     EXPECT(owed(&b) == 0);
     end("words owed on a wire");
 }
@@ -371,6 +380,43 @@ static void totals(void)
     end("totals made otherwise");
 }
 
+/* Request Twelve: a board of several depths. Each module has its own; a refused
+ * power-up leaves module and total, one that is done takes what was owed. */
+static void depths(void)
+{
+    static const unsigned depth[4] = {16, 4, 8, 16};
+    struct board b = fresh(4);
+    struct ref_spi copy[6];
+    unsigned n, i, used = 77;
+
+    for (n = 0; n < 4; n++) {
+        EXPECT(board_power_up_depth(&b, n, depth[n]) == 0);
+        enable(&b, n, n == 3 ? 0x0480 : 0x0420, 1);
+        for (i = 0; i < depth[n] + (n < 3); i++)
+            EXPECT(board_write(&b, n, 3, 0x1000 * n + i) == 0);
+        EXPECT(board_write(&b, n, 3, 0) == 5);
+    }
+    EXPECT(owed(&b) == 17 + 5 + 9 + 16);
+    EXPECT(get(&b, 0, 0) == 0x8722 && get(&b, 1, 0) == 0x8422);
+    EXPECT(get(&b, 2, 0) == 0x8722 && get(&b, 3, 0) == 0x80A2);
+    memcpy(copy, six, sizeof six);
+    EXPECT(board_power_up_depth(&b, 0, 12) == 25 && owed(&b) == 47);
+    EXPECT(board_power_up_depth(&b, 2, 0) == 25 && owed(&b) == 47);
+    EXPECT(kept(copy, 9, 9));
+    EXPECT(board_linked(&b, 1, 3, 544, &used) == 0 && used == 5 * 32);
+    EXPECT(owed(&b) == 47 - 5 - 5 && kept(copy, 1, 3));
+    EXPECT(six[1].mark && !six[3].mark && six[3].rx.n == 5);
+    EXPECT(board_power_up_depth(&b, 3, 4) == 0 && owed(&b) == 26);
+    enable(&b, 3, 0x0480, 1);
+    EXPECT(board_linked(&b, 0, 3, 545, &used) == 11 && owed(&b) == 26);
+    EXPECT(board_linked(&b, 0, 3, 544, &used) == 0 && used == 544);
+    EXPECT(owed(&b) == 9 && six[3].mark && six[3].rx.n == 4);
+    EXPECT(board_power_up_depth(&b, 2, 16) == 0 && owed(&b) == 0);
+    EXPECT(board_power_up(&b, 0) == 0 && six[0].depth == 8);
+    EXPECT(six[1].depth == 4 && six[2].depth == 16 && six[3].depth == 4);
+    end("modules of several depths");
+}
+
 /* ---- random calls -------------------------------------------------------- */
 
 static unsigned long seed, calls, made;
@@ -394,11 +440,12 @@ static unsigned rnd(unsigned n)
 static int one_in(unsigned n) { return rnd(n) == 0; }
 
 enum kind {
-    POWER_UP, READ, WRITE, TICK, PINS, STEP, CLEAR, CLOCK, SEE, LINKED, KINDS
+    POWER_UP, READ, WRITE, TICK, PINS, STEP, CLEAR, CLOCK, SEE, LINKED, DEEP,
+    KINDS
 };
 static const char *const kind_name[KINDS] = {
-    "power-up", "read",  "write",  "tick",  "pins",
-    "step",     "clear", "clock",  "levels", "linked"};
+    "power-up", "read",   "write",  "tick",   "pins", "step",
+    "clear",    "clock",  "levels", "linked", "power-up with a depth"};
 
 struct call {
     enum kind kind;
@@ -434,6 +481,7 @@ static void ask_board(struct board *b, const struct call *c, struct told *t)
                                 &t->bit_time);
         break;
     case SEE: t->answer = board_see(b, c->n, &t->seen); break;
+    case DEEP: t->answer = board_power_up_depth(b, c->n, c->x); break;
     default:
         t->answer = board_linked(b, c->n, c->other, c->x, &t->value);
         break;
@@ -465,6 +513,7 @@ static void ask_alone(struct ref_spi *m, struct ref_spi *other,
         t->seen.sdo = ref_sdo(m);
         t->seen.ss = ref_ss(m);
         break;
+    case DEEP: t->answer = ref_power_up_depth(m, c->x); break;
     default: t->answer = ref_linked(m, other, c->x, &t->value); break;
     }
 }
@@ -482,11 +531,15 @@ static long ledger[6];
 
 /* How often each kind of call was done, by the list's length and the module's
  * number; refused with 21 and 22, by kind; linked runs, by their two; 21 where
- * 22 stands behind it; 22 where 1, 8, 11, 2 and 7 do; 21 where they do. */
+ * 22 stands behind it; 22 where 1, 8, 11, 25, 2 and 7 do; 21 where they do.
+ * Power-ups with each depth that there is, and refused with 25, and linked runs
+ * between two depths. */
 static unsigned long done[KINDS][5][4], refused[2][KINDS], pairs[4][4];
 static unsigned long both_wrong, twice, own_refusals;
-enum behind { ONE, TWO, SEVEN, EIGHT, ELEVEN, BEHINDS };
-static const char *const behind_name[BEHINDS] = {"1", "2", "7", "8", "11"};
+static unsigned long deep_done[3], deep_refused, deep_linked;
+enum behind { ONE, TWO, SEVEN, EIGHT, ELEVEN, DEPTH, BEHINDS };
+static const char *const behind_name[BEHINDS] = {"1", "2",  "7",
+                                                 "8", "11", "25"};
 static unsigned long behind[2][BEHINDS];
 
 /* The refusal of the module's own that stands behind 21 or 22, as far as the
@@ -501,8 +554,10 @@ static void meet_behind(const struct call *c, int which)
         behind[which][ONE]++;
     if (c->kind == CLOCK && c->x == 0)
         behind[which][EIGHT]++;
-    if (linked && c->x > 288)
+    if (linked && c->x > 544)
         behind[which][ELEVEN]++;
+    if (c->kind == DEEP && c->x != 4 && c->x != 8 && c->x != 16)
+        behind[which][DEPTH]++;
     if ((linked || c->kind == TICK) && ((m && !m->spien) ||
                                         (linked && o && !o->spien)))
         behind[which][TWO]++;
@@ -581,7 +636,8 @@ static void enter(const struct call *c, int answer, const struct ref_spi *was)
     if (answer != 0)
         return;
     switch (c->kind) {
-    case POWER_UP: ledger[c->n] = 0; break;
+    case POWER_UP:
+    case DEEP: ledger[c->n] = 0; break;
     case WRITE:
         if (c->x == 3)
             ledger[c->n]++;
@@ -661,8 +717,13 @@ static void meet(const struct call *c, int answer)
     }
     own_refusals += answer > 0;
     done[c->kind][count][c->n]++;
-    if (c->kind == LINKED && answer == 0)
+    if (c->kind == LINKED && answer == 0) {
         pairs[c->n][c->other]++;
+        deep_linked += alone[c->n].depth != alone[c->other].depth;
+    }
+    if (c->kind == DEEP && answer == 0)
+        deep_done[c->x == 4 ? 0 : c->x == 8 ? 1 : 2]++;
+    deep_refused += answer == 25;
 }
 
 static void make(const struct call *c)
@@ -725,6 +786,17 @@ static void call(enum kind kind, uint32_t n, unsigned x, unsigned y, unsigned z)
     make(&c);
 }
 
+/* A depth: most often one that there is. */
+static unsigned some_depth(void)
+{
+    static const unsigned right[] = {4, 8, 16};
+    static const unsigned far[] = {0x10004, 0x10008, 0x80000010u, 0xFFFFFFFFu};
+
+    if (one_in(4))
+        return one_in(4) ? far[rnd(4)] : rnd(20);
+    return right[rnd(3)];
+}
+
 static void link_two(void)
 {
     struct call c = {LINKED, 0, 0, 0, 0, 0};
@@ -745,7 +817,7 @@ static void link_two(void)
     call(WRITE, o, 3, rnd(0x10000), 0);
     c.n = h;
     c.other = o;
-    c.x = one_in(4) ? 285 + rnd(8) : rnd(289);
+    c.x = one_in(4) ? 541 + rnd(8) : rnd(545);
     make(&c);
 }
 
@@ -762,6 +834,8 @@ static void any_call(void)
     case 2:
         if (one_in(6))
             call(POWER_UP, n, 0, 0, 0);
+        else if (one_in(3))
+            call(DEEP, n, some_depth(), 0, 0);
         break;
     case 3: call(CLEAR, n, 0, 0, 0); break;
     case 4: call(CLOCK, n, one_in(4) ? 0 : rnd(0x7FFFFFFF), 0, 0); break;
@@ -776,7 +850,7 @@ static void any_call(void)
         call(WRITE, n, 0, 0x8000 | rnd(0x40), 0);
         break;
     case 8:
-        for (i = 0; i < 3; i++)
+        for (i = one_in(8) ? 17 : 3; i > 0; i--) /* now and then, to fill */
             call(WRITE, n, 3, rnd(0x10000), 0);
         break;
     case 9:
@@ -809,7 +883,10 @@ static void run_list(void)
     for (i = 0; i < 8; i++)
         list[i] = guard;
     for (i = 0; i < 6; i++) {
-        ref_power_up(&alone[i]);
+        if (one_in(2))
+            ref_power_up(&alone[i]);
+        else if (ref_power_up_depth(&alone[i], 4u << rnd(3)) != 0)
+            fail("a depth that there is");
         ledger[i] = 0;
         if (i < (int)count) {
             /* a list that is too long has modules at work too */
@@ -837,8 +914,8 @@ static void print_met(const char *what, unsigned long n)
 
 static void print_totals(void)
 {
-    static const enum kind falls[] = {POWER_UP, WRITE, TICK,
-                                      PINS,     STEP,  LINKED};
+    static const enum kind falls[] = {POWER_UP, DEEP, WRITE, TICK,
+                                      PINS,     STEP, LINKED};
     int k;
 
     printf("totals:");
@@ -894,6 +971,13 @@ static void print_all(void)
             missing += pairs[n][o] == 0;
         }
     }
+    printf("\npowered up with");
+    print_met("4", deep_done[0]);
+    print_met("8", deep_done[1]);
+    print_met("16", deep_done[2]);
+    print_met("another, 25", deep_refused);
+    printf(", linked runs of");
+    print_met("two depths", deep_linked);
     printf("\n");
     print_totals();
 }
@@ -910,6 +994,7 @@ int main(int argc, char **argv)
     owed_by_clients();
     owed_on_a_wire();
     totals();
+    depths();
     if (failures > 0)
         return 1;
     rs = seed * UINT64_C(0x9E3779B97F4A7C15) + 1;

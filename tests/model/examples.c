@@ -3,7 +3,8 @@
  * Examples f, k and l are tried in more modes than the paper names. Examples b
  * and d give the numbers of document 02's request One, and further cases tell
  * which number stands where there are several mistakes. Then come the frames of
- * request Three, in every pairing, and request Four's mark, in every role. */
+ * request Three, in every pairing, request Four's mark, in every role, and the
+ * buffers of request Twelve, in every depth. */
 #include "ref_spi.h"
 #include "script.h"
 
@@ -47,6 +48,21 @@ static struct ref_spi fresh(unsigned con1, unsigned con2, unsigned stat, int *r)
     EXPECT(ref_write(&m, 1, con1) == 0);
     EXPECT(ref_write(&m, 2, con2) == 0);
     *r = ref_write(&m, 0, stat);
+    return m;
+}
+
+/* The depths, and a module of one of them, set up and turned on. */
+#define DEPTHS 3
+static const unsigned depths[DEPTHS] = {4, 8, 16};
+
+static struct ref_spi deep(unsigned depth, unsigned con1, unsigned con2,
+                           unsigned stat)
+{
+    struct ref_spi m;
+    EXPECT(ref_power_up_depth(&m, depth) == 0);
+    EXPECT(ref_write(&m, 1, con1) == 0);
+    EXPECT(ref_write(&m, 2, con2) == 0);
+    EXPECT(ref_write(&m, 0, stat) == 0);
     return m;
 }
 
@@ -304,7 +320,7 @@ static void framed_linked(void)
         cb = c;
         if (want == 0 && mode & 8)
             want = 10; /* 7 comes before 10, which is of other modes */
-        EXPECT(ref_linked(&h, &c, 289, &used) == 11);
+        EXPECT(ref_linked(&h, &c, 545, &used) == 11);
         EXPECT(ref_linked(&h, &c, 16, &used) == want);
         if (want != 0) {
             EXPECT(used == 999);
@@ -320,7 +336,8 @@ static void framed_linked(void)
 /* ---- request Four ----------------------------------------------------- */
 
 /* The modules that can be enabled, in both widths, standard and enhanced: the
- * number holds CKP, MODE16, SPIBEN and one of eleven kinds. */
+ * number holds CKP, MODE16, SPIBEN and one of eleven kinds. Beside it goes the
+ * depth of request Twelve, in which standard operation has no part. */
 #define MARK_KINDS 11
 #define MARK_MODES (MARK_KINDS * 8)
 
@@ -329,7 +346,7 @@ struct overflow {
     int own, fclient, active, w, ben, depth;
 };
 
-static struct overflow overflow_mode(unsigned mode)
+static struct overflow overflow_mode(unsigned mode, unsigned depth)
 {
     static const struct {
         unsigned con1, con2;
@@ -343,16 +360,14 @@ static struct overflow overflow_mode(unsigned mode)
                     (mode & 2 ? 0x0400 : 0);
     unsigned con2 = kind[mode / 8].con2 | (mode & 4 ? 1 : 0);
     struct overflow o;
-    int r;
 
     o.own = (con1 & 0x1020) == 0x0020;
     o.fclient = con2 >> 14 == 3;
     o.active = con2 >> 13 & 1;
     o.w = mode & 2 ? 16 : 8;
     o.ben = con2 & 1;
-    o.depth = o.ben ? 8 : 1;
-    o.m = fresh(con1, con2, 0x8000, &r);
-    EXPECT(r == 0);
+    o.depth = o.ben ? (int)depth : 1;
+    o.m = deep(depth, con1, con2, 0x8000);
     return o;
 }
 
@@ -391,8 +406,9 @@ static void marked_roles(void)
     int k;
 
     begin();
-    for (mode = 0; mode < 2 * MARK_MODES; mode++) {
-        struct overflow o = overflow_mode(mode / 2);
+    for (mode = 0; mode < DEPTHS * 2 * MARK_MODES; mode++) {
+        struct overflow o =
+            overflow_mode(mode / 2 % MARK_MODES, depths[mode / 2 / MARK_MODES]);
         unsigned ones = 0xFFFFu >> (16 - o.w);
 
         for (k = 0; k < o.depth; k++)
@@ -417,9 +433,9 @@ static void marked_roles(void)
         exchange(&o, 0xC3C3, 0);
         EXPECT(receive_side(&o) == 0x0041);
         EXPECT(get(&o.m, 3) == 0xE0010);
-        for (k = 0; k < 8; k++) /* all are as they came */
+        for (k = 0; k < o.depth; k++) /* all are as they came */
             EXPECT(o.m.rx.word[k] == (k & 1 ? ones : 0));
-        EXPECT(o.m.rx.n == 8 && o.m.mark);
+        EXPECT(o.m.rx.n == o.depth && o.m.mark);
         /* turned off by a write that clears SPIROV, or by one that does not */
         off = mode & 1 ? 0x0040 : 0x0000;
         EXPECT(ref_write(&o.m, 0, off) == 0);
@@ -444,7 +460,7 @@ static void marked_sisel(void)
 
     begin();
     for (sisel = 0; sisel < 8; sisel++) {
-        struct overflow o = overflow_mode(4); /* a host, 8 bits, enhanced */
+        struct overflow o = overflow_mode(4, 8); /* host, 8 bits, enhanced */
         int raised[4]; /* a write, eight more, a finish, the last finish */
 
         for (k = 0; k < 9; k++)
@@ -501,7 +517,7 @@ static void marked_linked(void)
             EXPECT(ref_write(&h, 3, 0xA0 + i) == 0);
             EXPECT(ref_write(&c, 3, 0x50 + i) == 0);
             for (k = 0; k < pieces; k++) {
-                unsigned limit = pieces == 1 ? 288 : k == 0 ? 5 : 11;
+                unsigned limit = pieces == 1 ? 544 : k == 0 ? 5 : 11;
 
                 EXPECT(ref_linked(&h, &c, limit, &used) == 0);
                 EXPECT(used == (pieces == 1 ? 16 : limit));
@@ -514,7 +530,7 @@ static void marked_linked(void)
         /* one end is turned off and on; the other keeps its mark */
         EXPECT(ref_write(&h, 0, 0) == 0 && ref_write(&h, 0, 0x8000) == 0);
         EXPECT(ref_write(&h, 3, 0x77) == 0 && ref_write(&c, 3, 0x88) == 0);
-        EXPECT(ref_linked(&h, &c, 288, &used) == 0 && used == 16);
+        EXPECT(ref_linked(&h, &c, 544, &used) == 0 && used == 16);
         EXPECT(get(&h, 3) == 0x88);
         EXPECT(get(&c, 3) == (client_deep ? 0xE0010 : 0x77));
     }
@@ -523,8 +539,8 @@ static void marked_linked(void)
 
 /* Modules as no calls make them. Marked with room: 16 stands before 6, a word
  * is dropped all the same, and turning it off helps. Marked and off: 2 stands
- * before 16. From power-up a marked module is enabled and has eight words
- * unread, so there none of this can be seen. */
+ * before 16. From power-up a marked module is enabled and has as many words
+ * unread as its buffer holds, so there none of this can be seen. */
 static void marked_made(void)
 {
     struct overflow o;
@@ -532,7 +548,7 @@ static void marked_made(void)
 
     begin();
     for (unread = 0; unread < 8; unread++) {
-        o = overflow_mode(4);
+        o = overflow_mode(4, 8);
         o.m.rx.n = unread;
         o.m.mark = 1;
         EXPECT(get(&o.m, 3) == 0xE0010);
@@ -548,6 +564,205 @@ static void marked_made(void)
     o.m.mark = 1;
     EXPECT(get(&o.m, 3) == 0xE0002);
     end("made otherwise, marked with room: 16, and words drop");
+}
+
+/* ---- request Twelve --------------------------------------------------- */
+
+/* Every other number is refused with 25, and the module stays as it was: off
+ * or at work. A depth that there is makes a new module of any. */
+static void depth_refused(void)
+{
+    static const unsigned far[] = {0x10004u, 0x10008u, 0x100u, 0x80000008u,
+                                   0xFFFFFFFCu, 0xFFFFFFFFu};
+    unsigned i, n;
+
+    begin();
+    for (i = 0; i < 70; i++) {
+        unsigned depth = i < 64 ? i : far[i - 64];
+        int is = depth == 4 || depth == 8 || depth == 16;
+        struct ref_spi m = deep(depths[i % DEPTHS], 0x0020, 1, 0x801C), before;
+
+        for (n = 0; n < 4; n++)
+            EXPECT(ref_write(&m, 3, n) == 0);
+        if (is) {
+            memset(&before, 0, sizeof before);
+            before.depth = (int)depth;
+            EXPECT(ref_power_up_depth(&m, depth) == 0);
+            EXPECT(memcmp(&m, &before, sizeof m) == 0);
+            before.depth = 8; /* and without a depth it is 8 again */
+            ref_power_up(&m);
+            EXPECT(memcmp(&m, &before, sizeof m) == 0);
+            continue;
+        }
+        for (n = 0; n < 2; n++) { /* at work, then turned off */
+            before = m;
+            EXPECT(ref_power_up_depth(&m, depth) == 25);
+            EXPECT(memcmp(&m, &before, sizeof m) == 0);
+            EXPECT(ref_write(&m, 0, 0) == 0);
+        }
+    }
+    end("25 for other depths, and nothing is changed");
+}
+
+/* Examples h and i, and what a client shows; the figures are worked out from
+ * the STAT bits. A full host of 4 shows 4 in SPIBEC, deeper ones show 7. */
+static void depth_full(void)
+{
+    static const struct {
+        unsigned depth, host, client; /* STAT, full and enabled */
+    } figure[DEPTHS] = {
+        {4, 0x8422, 0x8481}, {8, 0x8722, 0x8781}, {16, 0x8722, 0x8781}};
+    unsigned d, i;
+
+    begin();
+    for (d = 0; d < DEPTHS; d++) {
+        unsigned n = figure[d].depth, edges = 0;
+        struct ref_spi m = deep(n, 0x0020, 1, 0x8000);
+
+        for (i = 0; i < n + 1; i++) {
+            /* one is in the shift register, i wait */
+            EXPECT(ref_write(&m, 3, 0x10 + i) == 0);
+            EXPECT((get(&m, 0) >> 8 & 7) == (i > 7 ? 7 : i));
+            EXPECT((get(&m, 0) >> 1 & 1) == (i == n));
+        }
+        EXPECT(get(&m, 0) == figure[d].host);
+        EXPECT(ref_write(&m, 3, 0x99) == 5);
+        EXPECT(get(&m, 0) == figure[d].host);
+        while (ref_tick(&m, ref_sdo(&m), 0) == 0)
+            edges++;
+        EXPECT(edges == 16 * (n + 1));
+        EXPECT(get(&m, 0) == 0x80C1);
+        EXPECT(m.rx.n == (int)n && m.mark);
+        for (i = 0; i < n; i++)
+            EXPECT(m.rx.word[i] == 0x10 + i);
+        EXPECT(get(&m, 3) == 0xE0010);
+
+        /* a client under select control: no word is out of its buffer, and
+         * SPIBEC counts the unread */
+        m = deep(n, 0x0080, 1, 0x8000);
+        for (i = 0; i < n; i++)
+            EXPECT(ref_write(&m, 3, i) == 0);
+        EXPECT(ref_write(&m, 3, 0) == 5);
+        EXPECT(get(&m, 0) == 0x80A2);
+        for (i = 0; i < 16 * n; i++)
+            EXPECT(ref_pins(&m, ~(int)i & 1, 1, 0) == 0);
+        EXPECT(get(&m, 0) == figure[d].client);
+        for (i = n; i > 0; i--) {
+            EXPECT((get(&m, 0) >> 8 & 7) == (i > 7 ? 7 : i));
+            EXPECT(get(&m, 3) == 0xFF);
+        }
+        EXPECT(get(&m, 3) == 0xE0006 && get(&m, 0) == 0x80A0);
+    }
+    end("h and i in buffers of 4, 8 and 16");
+}
+
+/* Which appends raise the flag under SISEL 2 and 3, which leavings under 4 and
+ * which writes under 7, each told by the words that are then in the buffer. */
+static void depth_sisel(void)
+{
+    static const int quarters[DEPTHS] = {3, 6, 12};
+    unsigned d, sisel, i, k;
+
+    begin();
+    for (d = 0; d < DEPTHS; d++) {
+        for (sisel = 2; sisel < 8; sisel++) {
+            unsigned n = depths[d];
+            struct ref_spi m = deep(n, 0x0020, 1, 0x8000 | sisel << 2);
+
+            for (i = 0; i < n + 1; i++) {
+                EXPECT(ref_write(&m, 3, i) == 0);
+                EXPECT(ref_flag(&m) == ((sisel == 7 && i == n) ||
+                                        (sisel == 6 && i == 0)));
+                ref_clear(&m);
+            }
+            for (i = 1; i < n + 2; i++) { /* words finished */
+                for (k = 0; k < 16; k++)
+                    EXPECT(ref_tick(&m, 0, 0) == 0);
+                EXPECT(ref_flag(&m) ==
+                       ((sisel == 2 && (int)i >= quarters[d] && i <= n) ||
+                        (sisel == 3 && i == n) || (sisel == 4 && i == 1) ||
+                        (sisel == 5 && i == n + 1) ||
+                        (sisel == 6 && i == n)));
+                ref_clear(&m);
+            }
+        }
+    }
+    end("SISEL 2 to 7 in buffers of 4, 8 and 16");
+}
+
+/* Standard operation has one word in each depth, and the depth is there again
+ * when SPIBEN is: no register call changes it. */
+static void depth_standard(void)
+{
+    unsigned d, i;
+
+    begin();
+    for (d = 0; d < DEPTHS; d++) {
+        unsigned n = depths[d];
+        struct ref_spi m = deep(n, 0x0020, 0, 0x8000);
+
+        EXPECT(ref_write(&m, 3, 1) == 0);
+        EXPECT(ref_write(&m, 3, 2) == 0 && get(&m, 0) == 0x8002);
+        EXPECT(ref_write(&m, 3, 3) == 5); /* example g */
+        for (i = 0; i < 16; i++)
+            EXPECT(ref_tick(&m, 1, 0) == 0);
+        EXPECT(ref_flag(&m) == 1 && get(&m, 0) == 0x8001);
+        for (i = 0; i < 16; i++)
+            EXPECT(ref_tick(&m, 0, 0) == 0);
+        EXPECT(get(&m, 0) == 0x8041 && !m.mark && get(&m, 3) == 0xFF);
+        EXPECT(ref_write(&m, 0, 0) == 0 && ref_write(&m, 2, 1) == 0);
+        EXPECT(ref_write(&m, 0, 0x8000) == 0);
+        for (i = 0; i < n + 1; i++)
+            EXPECT(ref_write(&m, 3, i) == 0);
+        EXPECT(ref_write(&m, 3, 0) == 5);
+        EXPECT(m.depth == (int)n);
+    }
+    end("standard operation holds one word in every depth");
+}
+
+/* Linked runs between all depths: each end holds what it has room for and is
+ * marked by its own losses. The host sends all that it can owe, up to the 544
+ * edges that may be asked for; 545 is too many whatever the depths. */
+static void depth_linked(void)
+{
+    unsigned d, i;
+
+    begin();
+    for (d = 0; d < DEPTHS * DEPTHS; d++) {
+        unsigned hn = depths[d / DEPTHS], cn = depths[d % DEPTHS];
+        unsigned words = hn + 1, used = 999;
+        struct ref_spi h = deep(hn, 0x0420, 1, 0x8000);
+        struct ref_spi c = deep(cn, 0x0480, 1, 0x8000);
+        struct ref_spi hb, cb;
+
+        for (i = 0; i < words; i++)
+            EXPECT(ref_write(&h, 3, 0x8000 + i) == 0);
+        for (i = 0; i < cn; i++)
+            EXPECT(ref_write(&c, 3, 0x4000 + i) == 0);
+        EXPECT(ref_write(&h, 3, 0) == 5 && ref_write(&c, 3, 0) == 5);
+        hb = h;
+        cb = c;
+        EXPECT(ref_linked(&h, &c, 545, &used) == 11 && used == 999);
+        EXPECT(memcmp(&h, &hb, sizeof h) == 0);
+        EXPECT(memcmp(&c, &cb, sizeof c) == 0);
+        if (hn == 16) { /* 288 edges do not bring its last word */
+            EXPECT(ref_linked(&hb, &cb, 288, &used) == 0 && used == 288);
+            EXPECT(hb.loaded && hb.tx.n == 7);
+        }
+        EXPECT(ref_linked(&h, &c, 544, &used) == 0);
+        EXPECT(used == 32 * words);
+        EXPECT(ref_tick(&h, 0, 0) == REF_NO_EDGE);
+        EXPECT(h.rx.n == (int)hn && h.mark);
+        for (i = 0; i < hn; i++) /* a client with no more sends zeros */
+            EXPECT(h.rx.word[i] == (i < cn ? 0x4000 + i : 0));
+        EXPECT(c.mark == (words > cn));
+        EXPECT(c.rx.n == (int)(words < cn ? words : cn));
+        for (i = 0; i < words && i < cn; i++)
+            EXPECT(c.rx.word[i] == 0x8000 + i);
+        EXPECT(c.tx.n == (int)(words < cn ? cn - words : 0));
+        EXPECT(h.depth == (int)hn && c.depth == (int)cn);
+    }
+    end("linked: buffers of any two depths; 544 and 545");
 }
 
 int main(void)
@@ -969,10 +1184,10 @@ int main(void)
         for (i = 0; i < 8; i++)
             EXPECT(ref_write(&c, 3, 0x4000 + i) == 0);
         EXPECT(ref_write(&c, 3, 0) == 5); /* eight are all it takes */
-        EXPECT(ref_linked(&h, &c, 289, &used) == 11);
+        EXPECT(ref_linked(&h, &c, 545, &used) == 11);
         EXPECT(used == 999);
-        EXPECT(ref_linked(&h, &c, 288, &used) == 0);
-        EXPECT(used == 288);
+        EXPECT(ref_linked(&h, &c, 544, &used) == 0);
+        EXPECT(used == 288); /* all that buffers of eight words owe */
         EXPECT(ref_tick(&h, 0, 0) == REF_NO_EDGE);
         EXPECT(get(&h, 0) == 0x80C1);
         EXPECT(get(&c, 0) == 0x87C1);
@@ -984,7 +1199,7 @@ int main(void)
         EXPECT(get(&h, 3) == 0xE0010);
         EXPECT(get(&c, 3) == 0xE0010);
     }
-    end("also: limits 288 and 289");
+    end("also: limits 544 and 545");
 
     framed_host();
     framed_client();
@@ -995,6 +1210,12 @@ int main(void)
     marked_sisel();
     marked_linked();
     marked_made();
+
+    depth_refused();
+    depth_full();
+    depth_sisel();
+    depth_standard();
+    depth_linked();
 
     printf("%s\n", failures == 0 ? "all examples passed" : "EXAMPLES FAILED");
     return failures != 0;

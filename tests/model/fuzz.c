@@ -6,7 +6,8 @@
  * module the ledger sees the SS level, given or shown, and nothing else of its
  * pulses: what the paper says of them is held to that level. Of request Four it
  * counts the words lost: in enhanced operation the mark must stand exactly if
- * there is one since SPIEN went on.
+ * there is one since SPIEN went on. Of request Twelve it knows the depth that
+ * power-up was given, which must be the module's until the next.
  *
  * usage: fuzz [seed] [calls]
  */
@@ -43,6 +44,8 @@ static int one_in(unsigned n) { return rnd(n) == 0; }
 /* ---- the ledger ------------------------------------------------------ */
 
 struct ledger {
+    int depth; /* chosen at power-up */
+
     /* what the register writes that were not refused have stored */
     unsigned con1, con2, stat_rw; /* stat_rw: SPIEN, SPISIDL, SISEL */
     int rov, flag;
@@ -71,7 +74,14 @@ struct pair {
 };
 
 static unsigned long st_sent, st_kept, st_lost, st_filler, st_abort, st_linked,
-    st_enable, st_drain, st_refused[17], st_noedge, st_flagset[9];
+    st_enable, st_drain, st_refused[26], st_noedge;
+
+/* By depth, 4, 8 and 16: power-ups; flags set, by SISEL and in standard
+ * operation; writes refused for want of room; words lost in enhanced operation;
+ * drains from full buffers. Linked runs, by the host's depth and the client's,
+ * of these with SPIBEN at both ends. */
+static unsigned long st_power_up[3], st_flagset[3][9], st_no_room[3],
+    st_lost_deep[3], st_full_drain[3], st_depths[3][3];
 
 static unsigned long st_together; /* enabling with more than one mistake */
 static unsigned long st_step[2][2]; /* merged calls: own clock, framed */
@@ -93,7 +103,11 @@ static unsigned long st_marked[2][2], st_lost_standard, st_lost_marked,
 static int l_en(const struct ledger *l) { return l->stat_rw >> 15 & 1; }
 static int l_w(const struct ledger *l) { return l->con1 & 0x400 ? 16 : 8; }
 static int l_ben(const struct ledger *l) { return (int)(l->con2 & 1); }
-static int l_depth(const struct ledger *l) { return l_ben(l) ? 8 : 1; }
+static int l_depth(const struct ledger *l) { return l_ben(l) ? l->depth : 1; }
+static int l_which(const struct ledger *l) /* of the three depths */
+{
+    return l->depth == 4 ? 0 : l->depth == 8 ? 1 : 2;
+}
 static int l_host(const struct ledger *l) { return (l->con1 & 0x20) != 0; }
 static int l_own(const struct ledger *l) { return (l->con1 & 0x1020) == 0x20; }
 static int l_framed(const struct ledger *l) { return (l->con2 & 0x8000) != 0; }
@@ -182,7 +196,14 @@ static unsigned l_stat(const struct ledger *l)
 static void l_setflag(struct ledger *l, int which)
 {
     l->flag = 1;
-    st_flagset[which]++;
+    st_flagset[l_which(l)][which]++;
+}
+
+/* Request Twelve: three quarters of each depth. */
+static int l_quarters(const struct ledger *l)
+{
+    static const int three[3] = {3, 6, 12};
+    return three[l_which(l)];
 }
 
 /* Document 01, Interrupt flag, told from what the step did. */
@@ -197,12 +218,14 @@ static void l_events(struct ledger *l, int wrote, int read, int finished,
     switch (l_sisel(l)) {
     case 0: if (read && l_unread(l) == 0) l_setflag(l, 0); break;
     case 1: if (appended) l_setflag(l, 1); break;
-    case 2: if (appended && l_unread(l) >= 6) l_setflag(l, 2); break;
-    case 3: if (appended && l_unread(l) == 8) l_setflag(l, 3); break;
-    case 4: if (left && l_waiting(l) == 7) l_setflag(l, 4); break;
+    case 2:
+        if (appended && l_unread(l) >= l_quarters(l)) l_setflag(l, 2);
+        break;
+    case 3: if (appended && l_unread(l) == l->depth) l_setflag(l, 3); break;
+    case 4: if (left && l_waiting(l) + 1 == l->depth) l_setflag(l, 4); break;
     case 5: if (finished && l_unfinished(l) == 0) l_setflag(l, 5); break;
     case 6: if (left && l_waiting(l) == 0) l_setflag(l, 6); break;
-    case 7: if (wrote && l_waiting(l) == 8) l_setflag(l, 7); break;
+    case 7: if (wrote && l_waiting(l) == l->depth) l_setflag(l, 7); break;
     }
 }
 
@@ -215,6 +238,7 @@ static void demand3(struct pair *p)
     unsigned v = 0xFFFFFFFFu;
     int i, at;
 
+    CHECK(m->depth == l->depth);
     CHECK(ref_read(m, 0, &v) == 0);
     CHECK(v == l_stat(l));
     CHECK(ref_flag(m) == l->flag);
@@ -253,10 +277,10 @@ static void demand3(struct pair *p)
         CHECK(m->rx.word[i] == l->kept[l->n_read + i]);
     CHECK(l->n_received == l->n_kept + l->n_lost);
 
-    /* The mark, and what cannot change under it: the eight words unread. */
+    /* The mark, and what cannot change under it: a full buffer unread. */
     CHECK(m->mark == l_marked(l));
     if (m->mark)
-        CHECK(l_unread(l) == 8);
+        CHECK(l_unread(l) == l->depth);
 
     CHECK(m->begun == l->begun && m->filler == l->filler && m->edges == l->k);
 
@@ -311,7 +335,7 @@ static void framed_drain(const struct pair *p)
     while (c.begun || c.loaded || c.tx.n > 0) {
         CHECK(ref_tick(&c, (int)rnd(2), (int)rnd(2)) == 0);
         edges++;
-        CHECK(edges <= 291);
+        CHECK(edges <= 2 * 16 * (l->depth + 1) + 3);
     }
     CHECK(edges == want);
     for (edges = 0; edges < 40; edges++) { /* and it runs on, in silence */
@@ -337,10 +361,12 @@ static void drain(const struct pair *p)
         return;
     }
     st_drain++;
+    st_full_drain[l_which(&p->l)] +=
+        (unsigned long)(l_ben(&p->l) && l_waiting(&p->l) == p->l.depth);
     want = 2 * l_w(&p->l) * l_unfinished(&p->l) - p->l.k;
     while (ref_tick(&c, (int)rnd(2), (int)rnd(2)) == 0) {
         edges++;
-        CHECK(edges <= 288);
+        CHECK(edges <= 2 * 16 * (p->l.depth + 1));
         if (one_in(40))
             (void)ref_read(&c, 3, &v); /* must make no difference */
     }
@@ -390,6 +416,7 @@ static void do_write(struct pair *p, unsigned reg, unsigned value)
     else if (reg == 3 && l_waiting(l) == l_depth(l))
         want = 5;
     CHECK(r == want);
+    st_no_room[l_which(l)] += (unsigned long)(r == 5 && l_ben(l));
     if (r != 0) {
         refused(p, &before, r);
         demand3(p);
@@ -506,6 +533,7 @@ static void l_edge(struct pair *p, int sdi, int sdo_before, int sdo_after)
             l->n_lost++;
             l->rov = 1;
             st_lost++;
+            st_lost_deep[l_which(l)] += (unsigned long)l_ben(l);
             /* SPIROV must be up as soon as the word is lost */
             CHECK(ref_read(&p->m, 0, &v) == 0 && (v & 0x40));
         } else {
@@ -748,7 +776,7 @@ static void do_linked(struct pair *h, struct pair *c, unsigned limit)
     int r = ref_linked(&hc, &cc, limit, &used);
 
     calls++;
-    if (limit > 288)
+    if (limit > 544)
         want = 11;
     else if (!l_en(&h->l) || !l_en(&c->l))
         want = 2;
@@ -768,6 +796,8 @@ static void do_linked(struct pair *h, struct pair *c, unsigned limit)
         return;
     }
     st_linked++;
+    st_depths[l_which(&h->l)][l_which(&c->l)] +=
+        (unsigned long)(l_ben(&h->l) && l_ben(&c->l));
     /* the same again, call by call, and entered */
     do_pins(c, ref_sck(&h->m), wire(&h->m), 0);
     for (;;) {
@@ -817,6 +847,40 @@ static void do_clock(struct pair *p)
     } else {
         CHECK(kind == 2 && rate == (double)f);
     }
+}
+
+/* Request Twelve: a depth that there is not is refused and changes not one
+ * byte. */
+static void do_wrong_depth(struct pair *p)
+{
+    static const unsigned near[] = {0, 1, 2, 3, 5, 6, 7, 9, 12, 15, 17, 32};
+    struct ref_spi before = p->m;
+    unsigned depth = one_in(3) ? 0x10000u * (1 + rnd(0xFFFF)) + 4 * rnd(5)
+                               : near[rnd(12)];
+
+    calls++;
+    CHECK(ref_power_up_depth(&p->m, depth) == 25);
+    refused(p, &before, 25);
+}
+
+/* Power-up of a module in any state, with a depth or without. */
+static void do_power_up(struct pair *p)
+{
+    static const unsigned depths[3] = {4, 8, 16};
+    unsigned depth = depths[rnd(3)];
+
+    if (one_in(4))
+        do_wrong_depth(p);
+    calls++;
+    if (depth == 8 && one_in(2))
+        ref_power_up(&p->m);
+    else
+        CHECK(ref_power_up_depth(&p->m, depth) == 0);
+    memset(&p->l, 0, sizeof p->l);
+    p->l.depth = (int)depth;
+    st_power_up[l_which(&p->l)]++;
+    CHECK(!p->m.sck && !p->m.ss && !p->m.sdo && !p->m.pulse);
+    demand3(p);
 }
 
 /* ---- random sequences ------------------------------------------------ */
@@ -908,7 +972,7 @@ static void random_call(struct pair *p, unsigned mood)
     } else if (x < q[0] + q[1] + q[2]) {
         do_read(p, 3);
     } else {
-        switch (rnd(12)) {
+        switch (rnd(13)) {
         case 0: do_clear(p); break;
         case 1: do_read(p, rnd(3)); break;
         case 2: do_read(p, one_in(2) ? 4 : rnd(70000)); break;
@@ -932,7 +996,25 @@ static void random_call(struct pair *p, unsigned mood)
                 do_clear(p);
             }
             break;
+        case 12: do_wrong_depth(p); break;
         }
+    }
+}
+
+static void print_depths(void)
+{
+    int d, i;
+
+    for (d = 0; d < 3; d++) {
+        printf("depth %2d: power-ups %lu, no room %lu, words lost %lu, full "
+               "drains %lu\n  linked with 4: %lu, 8: %lu, 16: %lu; flag set "
+               "by SISEL",
+               4 << d, st_power_up[d], st_no_room[d], st_lost_deep[d],
+               st_full_drain[d], st_depths[d][0], st_depths[d][1],
+               st_depths[d][2]);
+        for (i = 0; i < 8; i++)
+            printf(" %d:%lu", i, st_flagset[d][i]);
+        printf(" standard:%lu\n", st_flagset[d][8]);
     }
 }
 
@@ -980,18 +1062,16 @@ int main(int argc, char **argv)
     for (i = 0; i < 20; i++)
         (void)rnd(2);
 
+    do_power_up(&a);
+    do_power_up(&b);
     while (calls < limit) {
         unsigned turns = 20 + rnd(400);
         unsigned mood = rnd(6);
 
-        if (one_in(20)) {
-            memset(&a, 0, sizeof a);
-            memset(&b, 0, sizeof b);
-            ref_power_up(&a.m);
-            ref_power_up(&b.m);
-            demand3(&a);
-            demand3(&b);
-        }
+        if (one_in(10))
+            do_power_up(&a);
+        if (one_in(10))
+            do_power_up(&b);
         if (one_in(2)) {
             /* one module by itself, in any mode */
             set_up(&a, random_con1(), random_con2());
@@ -1018,9 +1098,10 @@ int main(int argc, char **argv)
             while (turns--) {
                 random_call(one_in(2) ? &a : &b, mood);
                 if (one_in(4)) {
-                    static const unsigned lim[] = {0, 1, 2, 3, 15, 16, 17, 31,
-                                                   32, 33, 287, 288, 289};
-                    unsigned n = one_in(2) ? lim[rnd(13)] : rnd(300);
+                    static const unsigned lim[] = {
+                        0,  1,  2,  3,   15,  16,  17,  31,
+                        32, 33, 287, 288, 289, 543, 544, 545};
+                    unsigned n = one_in(2) ? lim[rnd(16)] : rnd(556);
                     if (one_in(60))
                         n = 0xFFFFFFFFu;
                     if (one_in(30))
@@ -1045,11 +1126,9 @@ int main(int argc, char **argv)
     for (i = 1; i <= 16; i++)
         if (i != 4 && i != 9 && i != 12) /* no call gives these */
             printf(" %d:%lu", i, st_refused[i]);
-    printf(", with several mistakes at once %lu\nflag set by SISEL",
+    printf(" 25:%lu, with several mistakes at once %lu\n", st_refused[25],
            st_together);
-    for (i = 0; i < 8; i++)
-        printf(" %d:%lu", i, st_flagset[i]);
-    printf(" standard:%lu\n", st_flagset[8]);
+    print_depths();
     printf("merged calls: own clock %lu, framed %lu, pin clock %lu, framed "
            "%lu\n",
            st_step[1][0], st_step[1][1], st_step[0][0], st_step[0][1]);

@@ -88,13 +88,13 @@ static void print_runs(void)
     for (wide = 0; wide < 2; wide++)
         for (ckp = 0; ckp < 2; ckp++)
             for (cke = 0; cke < 2; cke++)
-                print_run(ckp, cke, wide, 288);
-    print_run(0, 0, 1, 289);
+                print_run(ckp, cke, wide, 544);
+    print_run(0, 0, 1, 545);
     print_run(0, 0, 1, 32);
     printf("framed host:");
-    print_pair(enabled(0x0420, 1), enabled(0x0480, 0), 288);
+    print_pair(enabled(0x0420, 1), enabled(0x0480, 0), 544);
     printf("framed client:");
-    print_pair(enabled(0x0420, 0), enabled(0x0480, 1), 288);
+    print_pair(enabled(0x0420, 0), enabled(0x0480, 1), 544);
 }
 
 /* ---- example l ------------------------------------------------------- */

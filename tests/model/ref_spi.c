@@ -16,8 +16,8 @@ static void list_append(struct ref_list *l, unsigned word)
 static unsigned list_take_first(struct ref_list *l)
 {
     unsigned first = l->word[0];
-    memmove(&l->word[0], &l->word[1], 7 * sizeof l->word[0]);
-    l->word[7] = 0;
+    memmove(&l->word[0], &l->word[1], (REF_MOST - 1) * sizeof l->word[0]);
+    l->word[REF_MOST - 1] = 0;
     l->n = l->n - 1;
     return first;
 }
@@ -35,11 +35,12 @@ static int width(const struct ref_spi *m)
     return m->mode16 ? 16 : 8;
 }
 
-/* Registers: SPIBEN makes both buffers eight words deep; without it there
- * is room for a single word. */
-static int depth(const struct ref_spi *m)
+/* Registers: with SPIBEN both buffers are as deep as request Twelve has had it
+ * chosen at power-up; without it there is room for a single word, whatever was
+ * chosen. */
+static int holds(const struct ref_spi *m)
 {
-    return m->spiben ? 8 : 1;
+    return m->spiben ? m->depth : 1;
 }
 
 /* One edge at a time: only a host makes clock edges itself, and not under
@@ -89,11 +90,23 @@ static int top_bit(const struct ref_spi *m, unsigned word)
 
 /* ---- power-up, clear, viewers ---------------------------------------- */
 
-/* Registers: a module starts with every register, buffer and level at 0 and
+/* Request Twelve: there are parts with buffers of three depths and no others.
+ * A depth that is refused, 25, leaves the module as it was before.
+ * Registers: a module starts with every register, buffer and level at 0 and
  * no interrupt. */
+int ref_power_up_depth(struct ref_spi *m, unsigned depth)
+{
+    if (depth != 4 && depth != 8 && depth != 16)
+        return REF_BAD_DEPTH;
+    memset(m, 0, sizeof *m);
+    m->depth = (int)depth;
+    return 0;
+}
+
+/* Where nothing is said of a depth it is document 01's. */
 void ref_power_up(struct ref_spi *m)
 {
-    memset(m, 0, sizeof *m);
+    (void)ref_power_up_depth(m, REF_DEPTH);
 }
 
 /* One edge at a time, Interrupt flag: this call is the one way to take the
@@ -138,7 +151,8 @@ int ref_ss(const struct ref_spi *m)
 /* ---- One edge at a time, Interrupt flag: one function per event ------ */
 
 /* With SPIBEN the field SISEL picks the one event that raises the flag;
- * without it only a finish does. */
+ * without it only a finish does. Request Twelve: 2, 3, 4 and 7 go by the depth;
+ * what document 01 names are the numbers of the depth 8. */
 
 static void event_read(struct ref_spi *m)
 {
@@ -154,11 +168,12 @@ static void event_append(struct ref_spi *m)
     /* 1: any word received and kept */
     if (m->sisel == 1)
         m->flag = 1;
-    /* 2: six to eight words are now unread */
-    if (m->sisel == 2 && m->rx.n >= 6)
+    /* 2: three quarters of the receive side or more are now unread, which is
+     * from 3 of 4, 6 of 8 or 12 of 16 words on */
+    if (m->sisel == 2 && 4 * m->rx.n >= 3 * m->depth)
         m->flag = 1;
     /* 3: the receive side is now full */
-    if (m->sisel == 3 && m->rx.n == 8)
+    if (m->sisel == 3 && m->rx.n == m->depth)
         m->flag = 1;
 }
 
@@ -166,8 +181,8 @@ static void event_left_transmit_buffer(struct ref_spi *m)
 {
     if (!m->spiben)
         return;
-    /* 4: the full queue has lost one, seven still wait */
-    if (m->sisel == 4 && m->tx.n == 7)
+    /* 4: the full queue has lost one, all others still wait */
+    if (m->sisel == 4 && m->tx.n == m->depth - 1)
         m->flag = 1;
     /* 6: the queue has lost its last word */
     if (m->sisel == 6 && m->tx.n == 0)
@@ -187,7 +202,7 @@ static void event_finish(struct ref_spi *m)
 static void event_write(struct ref_spi *m)
 {
     /* 7: the queue has been filled by this write */
-    if (m->spiben && m->sisel == 7 && m->tx.n == 8)
+    if (m->spiben && m->sisel == 7 && m->tx.n == m->depth)
         m->flag = 1;
 }
 
@@ -264,9 +279,9 @@ static unsigned stat_value(const struct ref_spi *m)
         v |= 1u << 6;
     v |= (unsigned)m->sisel << 2;
     /* Registers: SPITBF and SPIRBF say that no more fits */
-    if (m->tx.n == depth(m))
+    if (m->tx.n == holds(m))
         v |= 1u << 1;
-    if (m->rx.n == depth(m))
+    if (m->rx.n == holds(m))
         v |= 1u << 0;
     /* Registers: the next three are alive only with both SPIBEN and SPIEN */
     if (m->spiben && m->spien) {
@@ -278,9 +293,9 @@ static unsigned stat_value(const struct ref_spi *m)
         if (!m->loaded && !m->begun)
             v |= 1u << 7;
         /* SPIBEC: a host counts what it has queued, a client what it has
-         * not read; three bits cannot show 8, so 7 stands for it */
+         * not read; three bits cannot show 8 or more, so 7 stands for that */
         count = m->msten ? m->tx.n : m->rx.n;
-        if (count == 8)
+        if (count > 7)
             count = 7;
         v |= (unsigned)count << 8;
     }
@@ -400,7 +415,7 @@ static int write_stat(struct ref_spi *m, unsigned value)
 /* A full queue gives refusal 5. */
 static int write_buf(struct ref_spi *m, unsigned value)
 {
-    if (m->tx.n == depth(m))
+    if (m->tx.n == holds(m))
         return 5;
     list_append(&m->tx, kept_bits(m, value));
     load_if_free(m);
@@ -450,7 +465,7 @@ int ref_write(struct ref_spi *m, unsigned reg, unsigned value)
  * for it. */
 static int finds_no_place(const struct ref_spi *m)
 {
-    return m->mark || m->rx.n == depth(m);
+    return m->mark || m->rx.n == holds(m);
 }
 
 /* Finish: what happens at a word's last edge; the order counts. */
@@ -728,8 +743,10 @@ int ref_linked(struct ref_spi *host, struct ref_spi *client, unsigned limit,
     unsigned count = 0;
 
     /* What each refusal number says: limit, enabled, roles, settings; by
-     * request Three a framed module has no role here */
-    if (limit > 288)
+     * request Three a framed module has no role here. Request Twelve: the
+     * limit is what a host of the depth 16 can owe, whatever depths these two
+     * have, and they need not have the same */
+    if (limit > REF_LIMIT)
         return 11;
     if (!host->spien)
         return 2;

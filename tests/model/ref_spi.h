@@ -1,7 +1,7 @@
 /* A second model of the SPI module, written from document 01 of the purchase,
- * with requests One, Three, Four and Eleven of document 02, and from nothing
- * else. It keeps plain lists and takes one small step for each rule, so that it
- * can be read beside the paper. */
+ * with requests One, Three, Four, Eleven and Twelve of document 02, and from
+ * nothing else. It keeps plain lists and takes one small step for each rule, so
+ * that it can be read beside the paper. */
 #ifndef REF_SPI_H
 #define REF_SPI_H
 
@@ -10,14 +10,24 @@
 #define REF_NO_EDGE (-1)
 #define REF_UNDRIVEN 2
 
+#define REF_DEPTH 8      /* the depth where power-up is given none */
+#define REF_MOST 16      /* the deepest buffer */
+#define REF_LIMIT 544    /* the most edges that a linked run may be asked for */
+#define REF_BAD_DEPTH 25 /* the refusal: power-up with another depth */
+
 /* A queue of words, the oldest in word[0]. Slots from n on hold 0, so two
- * equal queues are equal byte for byte. */
+ * equal queues are equal byte for byte. It has slots for the deepest buffer;
+ * how many of them count is the module's matter. */
 struct ref_list {
     int n;
-    unsigned word[8];
+    unsigned word[REF_MOST];
 };
 
 struct ref_spi {
+    /* words that each buffer holds in enhanced operation: 4, 8 or 16. Power-up
+     * sets it, and no other call does */
+    int depth;
+
     /* STAT: the stored bits; the rest are worked out when it is read */
     int spien, spisidl, sisel, spirov;
     /* CON1 */
@@ -52,9 +62,11 @@ struct ref_spi {
 };
 
 /* The calls. Each answers 0 or the papers' refusal number, 1 to 16 but never 4
- * or 12; a tick of an unframed module may also answer REF_NO_EDGE, and so may a
- * step of one that has its own clock. */
-void ref_power_up(struct ref_spi *m);
+ * or 12, or 25 at power-up alone; a tick of an unframed module may also answer
+ * REF_NO_EDGE, and so may a step of one that has its own clock. A refused call
+ * changes nothing. */
+void ref_power_up(struct ref_spi *m); /* of the depth 8 */
+int ref_power_up_depth(struct ref_spi *m, unsigned depth); /* 4, 8, 16, or 25 */
 int ref_read(struct ref_spi *m, unsigned reg, unsigned *value);
 int ref_write(struct ref_spi *m, unsigned reg, unsigned value);
 int ref_tick(struct ref_spi *m, int sdi, int ss);

@@ -76,14 +76,40 @@ static void loop(thurafeqa *m)
     is(thurafeqa_pins(m, 1, 0, 0), THURAFEQA_WRONG_CLOCK << 16);
 }
 
+/* A host with buffers of four words takes one and four more. Its SISEL is 7:
+ * the write that fills raises the flag. */
+static void deep(thurafeqa *m, thurafeqa *other)
+{
+    uint32_t words = 0;
+
+    thurafeqa_power_up(m);
+    is(thurafeqa_power_up_with(m, 4), 0);
+    is(thurafeqa_power_up_with(m, 12), THURAFEQA_NO_SUCH_DEPTH << 16);
+    is(thurafeqa_power_up_with(m, 0x10008), 25u << 16);
+    is(thurafeqa_write(m, THURAFEQA_CON1, THURAFEQA_CON1_MSTEN), 0);
+    is(thurafeqa_write(m, THURAFEQA_CON2, THURAFEQA_CON2_SPIBEN), 0);
+    is(thurafeqa_write(m, THURAFEQA_STAT, 0x801C), 0);
+    while (words < 9 && thurafeqa_write(m, THURAFEQA_BUF, words) == 0)
+        words++;
+    is(words, 5);
+    is(thurafeqa_power_up_with(m, 5), 25u << 16);
+    is(thurafeqa_read(m, THURAFEQA_STAT), 0x843E);
+    is(thurafeqa_levels(m) & THURAFEQA_LEVELS_INTERRUPT, THURAFEQA_LEVELS_INTERRUPT);
+    is(thurafeqa_power_up_with(m, 8), 0);
+    thurafeqa_power_up(other);
+    is((uint32_t)memcmp(m, other, sizeof *m), 0);
+    is(thurafeqa_power_up_with(m, 16), 0);
+    is((uint32_t)memcmp(m, other, sizeof *m) != 0, 1);
+}
+
 static void linked(thurafeqa *host, thurafeqa *client)
 {
     enable(host, THURAFEQA_CON1_MSTEN);
     enable(client, 0);
     is(thurafeqa_write(host, THURAFEQA_BUF, 0xA5), 0);
     is(thurafeqa_write(client, THURAFEQA_BUF, 0x3C), 0);
-    is(thurafeqa_linked(host, client, 289), THURAFEQA_TOO_MANY_EDGES << 16);
-    is(thurafeqa_linked(host, client, 288), 16);
+    is(thurafeqa_linked(host, client, 545), THURAFEQA_TOO_MANY_EDGES << 16);
+    is(thurafeqa_linked(host, client, 544), 16);
     is(thurafeqa_read(host, THURAFEQA_BUF), 0x3C);
     is(thurafeqa_read(client, THURAFEQA_BUF), 0xA5);
     is(thurafeqa_pins(client, 1, 1, 0), 0);
@@ -141,14 +167,29 @@ static void board(void)
     is(thurafeqa_board_write(&b, 3, THURAFEQA_BUF, 0xA5), 0);
     is(thurafeqa_board_write(&b, 1, THURAFEQA_BUF, 0x3C), 0);
     is(thurafeqa_board_owes(&b), 2);
-    is(thurafeqa_board_run(&b, 3, 3, 288), THURAFEQA_NO_MODULE << 16);
-    is(thurafeqa_board_run(&b, 3, 1, 288), 16);
+    is(thurafeqa_board_run(&b, 3, 3, 544), THURAFEQA_NO_MODULE << 16);
+    is(thurafeqa_board_run(&b, 3, 1, 544), 16);
     is(thurafeqa_board_owes(&b), 0);
     is(thurafeqa_board_read(&b, 3, THURAFEQA_BUF), 0x3C);
     is(thurafeqa_board_read(&b, 1, THURAFEQA_BUF), 0xA5);
     is(thurafeqa_board_clock(&b, 1, 100, &report), THURAFEQA_CLOCK_EXTERNAL);
     is(report.below == 100, 1);
     is(thurafeqa_board_pins(&b, 4, 0, 0, 0), THURAFEQA_NO_MODULE << 16);
+    is(thurafeqa_board_write(&b, 3, THURAFEQA_BUF, 0xA5), 0);
+    is(thurafeqa_board_power_up_with(&b, 4, 5), THURAFEQA_NO_MODULE << 16);
+    is(thurafeqa_board_power_up_with(&b, 3, 5), THURAFEQA_NO_SUCH_DEPTH << 16);
+    is(thurafeqa_board_owes(&b), 1);
+    is(thurafeqa_board_power_up_with(&b, 3, 16), 0);
+    is(thurafeqa_board_owes(&b), 0);
+    is(thurafeqa_board_call(spi, 4, 7, 0, 9, 4, 0, 0, &report), (uint64_t)7 << 32);
+    is(thurafeqa_board_call(spi, 4, 7, 0, 10, 4, 0, 0, &report), (uint64_t)7 << 32);
+    is(thurafeqa_board_call(spi, 4, 7, 0, 9, 17, 0, 0, &report), (uint64_t)7 << 32 | 25u << 16);
+    is(thurafeqa_board_write(&b, 0, THURAFEQA_CON1, THURAFEQA_CON1_MSTEN), 0);
+    is(thurafeqa_board_write(&b, 0, THURAFEQA_CON2, THURAFEQA_CON2_SPIBEN), 0);
+    is(thurafeqa_board_write(&b, 0, THURAFEQA_STAT, THURAFEQA_STAT_SPIEN), 0);
+    while (b.owed < 9 && thurafeqa_board_write(&b, 0, THURAFEQA_BUF, 1) == 0)
+        ;
+    is(thurafeqa_board_owes(&b), 5);
 }
 
 int session(void)
@@ -158,6 +199,7 @@ int session(void)
     is(thurafeqa_version(), THURAFEQA_VERSION);
     is(thurafeqa_format(), THURAFEQA_FORMAT);
     loop(&one);
+    deep(&one, &two);
     linked(&one, &two);
     clocked(&one);
     traced(&one, &two);

@@ -8,10 +8,10 @@
 #include <stdio.h>
 #include <string.h>
 
-const char *const kind_name[KINDS] = {"power-up", "read",   "write",
-                                      "tick",     "pins",   "clock step",
-                                      "clear",    "linked", "clock",
-                                      "levels",   "play",   "save"};
+const char *const kind_name[KINDS] = {
+    "power-up",   "power-up with", "read",   "write", "tick",   "pins",
+    "clock step", "clear",         "linked", "clock", "levels", "play",
+    "save"};
 const char *const view_name[VIEWS] = {"STAT", "CON1", "CON2", "BUF", "levels"};
 
 const thurafeqa_clock_report no_report = {-1, -2, -3};
@@ -24,7 +24,8 @@ int concerned(const struct call *c)
 int is_given(uint32_t number)
 {
     return number >= 1 && number < REFUSALS && number != 4 && number != 12 &&
-           number != THURAFEQA_UNREADABLE_LINE;
+           number != THURAFEQA_UNREADABLE_LINE && number != 23 &&
+           number != THURAFEQA_WRONG_LENGTH;
 }
 
 void bring_file(struct call *c)
@@ -81,6 +82,7 @@ uint32_t board_kind(enum kind kind)
 {
     switch (kind) {
     case POWER_UP: return THURAFEQA_BOARD_POWER_UP;
+    case POWER_UP_WITH: return THURAFEQA_BOARD_POWER_UP_WITH;
     case READ: return THURAFEQA_BOARD_READ;
     case WRITE: return THURAFEQA_BOARD_WRITE;
     case TICK: return THURAFEQA_BOARD_TICK;
@@ -94,9 +96,9 @@ uint32_t board_kind(enum kind kind)
 
 void put_on_board(struct call *c, int first, size_t count)
 {
-    static const uint32_t look[] = {9, 10, 255, 256, 0x10000, 0x80000000u,
-                                    0xFFFFFFFFu};
-    static const int arguments[] = {0, 1, 2, 2, 3, 3, 0, 1, 1, 0};
+    static const uint32_t look[] = {10,      11,      255,         256,
+                                    0x10000, 0x10009, 0x80000000u, 0xFFFFFFFFu};
+    static const int arguments[] = {0, 1, 1, 2, 2, 3, 3, 0, 1, 1, 0};
 
     c->board = 1;
     c->first = first;
@@ -106,7 +108,7 @@ void put_on_board(struct call *c, int first, size_t count)
     c->of_kind = board_kind(c->kind);
     c->direct = one_in(2);
     if (c->kind == LOOK && c->direct && one_in(2))
-        c->of_kind = look[below(7)];
+        c->of_kind = look[below(8)];
     if (c->direct && arguments[c->kind] < 1)
         c->x = any_number();
     if (c->direct && arguments[c->kind] < 2)
@@ -158,6 +160,7 @@ static uint32_t ask_header(thurafeqa_board *b, const struct call *c,
 {
     switch (c->kind) {
     case POWER_UP: return thurafeqa_board_power_up(b, c->n);
+    case POWER_UP_WITH: return thurafeqa_board_power_up_with(b, c->n, c->x);
     case READ: return thurafeqa_board_read(b, c->n, c->x);
     case WRITE: return thurafeqa_board_write(b, c->n, c->x, c->y);
     case TICK: return thurafeqa_board_tick(b, c->n, c->x, c->y);
@@ -231,6 +234,7 @@ void print_call(const struct call *c)
         printf("module %d: ", c->module);
     printf("%s", kind_name[c->kind]);
     switch (c->kind) {
+    case POWER_UP_WITH:
     case READ:
     case CLOCK: printf(" %" PRIu32, c->x); break;
     case TICK: printf(" %" PRIu32 " %" PRIu32, c->x, c->y); break;
@@ -259,6 +263,7 @@ void ask_library(thurafeqa *m, thurafeqa *other, const struct call *c,
     o->report = no_report;
     switch (c->kind) {
     case POWER_UP: thurafeqa_power_up(m); break;
+    case POWER_UP_WITH: o->answer = thurafeqa_power_up_with(m, c->x); break;
     case READ: o->answer = thurafeqa_read(m, c->x); break;
     case WRITE: o->answer = thurafeqa_write(m, c->x, c->y); break;
     case TICK: o->answer = thurafeqa_tick(m, c->x, c->y); break;
@@ -361,9 +366,27 @@ uint32_t some_register(void)
 uint32_t some_limit(void)
 {
     static const uint32_t limit[] = {0,  1,  2,   15,  16,  17,
-                                     31, 32, 287, 288, 289, 0x10010};
+                                     31, 32, 288, 543, 544, 545, 0x10010};
 
     if (one_in(100))
         return any_number();
-    return one_in(2) ? limit[below(12)] : below(301);
+    return one_in(2) ? limit[below(13)] : below(561);
+}
+
+const uint32_t depths[DEPTHS] = {4, 8, 16};
+
+int is_depth(uint32_t depth)
+{
+    return depth == 4 || depth == 8 || depth == 16;
+}
+
+uint32_t some_depth(void)
+{
+    static const uint32_t other[] = {0,  1,  2,       3,       5,
+                                     7,  9,  12,      15,      17,
+                                     32, 64, 0x10004, 0x10010, 0x80000008u};
+
+    if (!one_in(6))
+        return depths[below(DEPTHS)];
+    return one_in(4) ? any_number() : other[below(15)];
 }

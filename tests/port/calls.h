@@ -9,6 +9,7 @@
 
 enum kind {
     POWER_UP,
+    POWER_UP_WITH, /* a depth */
     READ,
     WRITE,
     TICK,
@@ -48,8 +49,8 @@ struct call {
 /* Can a call of this kind be made on a board? All but plays and saves. */
 int on_boards(enum kind kind);
 
-/* What the library's own function takes for a kind; any number above that of
- * the levels is as good. */
+/* What the library's own function takes for a kind. Any number above those of
+ * all kinds is as good as that of the levels. */
 uint32_t board_kind(enum kind kind);
 
 /* Puts a call on a board of a list of `count` modules from `first` on: its
@@ -80,8 +81,9 @@ void fill_lent(uint8_t *lent, size_t room, uint32_t number);
 int concerned(const struct call *c);
 
 /* Refusal numbers are below this. Does any call give that one? Not 4 and 12,
- * which are gone, and not 9, which is of scripts. */
-#define REFUSALS 23
+ * which are gone, not 9, which is of scripts, and not 23 and 24, which are of
+ * the audio card and of the TI module. */
+#define REFUSALS 26
 int is_given(uint32_t number);
 
 /* Of a play also the file, or its beginning, in hexadecimal; of a save the
@@ -142,5 +144,12 @@ uint32_t some_level(int high);
 /* Register numbers, most of them real; edge limits, most of them allowed. */
 uint32_t some_register(void);
 uint32_t some_limit(void);
+
+/* Depths: those that there are, by their numbers 0 to 2; is it one; and any,
+ * most of which there are. */
+#define DEPTHS 3
+extern const uint32_t depths[DEPTHS];
+int is_depth(uint32_t depth);
+uint32_t some_depth(void);
 
 #endif

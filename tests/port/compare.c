@@ -14,6 +14,8 @@
  * Another third of the sequences has a board of its own, whose modules are
  * called through it alone: its total is handed from call to call, and must be
  * what a walk of the model's modules counts after each of them.
+ * Modules have buffers of 4, 8 or 16 words. After every call the memory of one
+ * of depth 8 is memory of the format 3, in which there was no other depth.
  *
  * usage: compare CALLS SEED
  *
@@ -141,6 +143,7 @@ static void ask_model(struct ref_spi *m, struct ref_spi *other,
     o->report = no_report;
     switch (c->kind) {
     case POWER_UP: ref_power_up(m); break;
+    case POWER_UP_WITH: r = ref_power_up_depth(m, c->x); break;
     case READ: r = ref_read(m, c->x, &value); break;
     case WRITE: r = ref_write(m, c->x, c->y & 0xFFFFu); break;
     case TICK:
@@ -176,6 +179,7 @@ static void ask_model_board(struct ref_spi *list, uint32_t owed,
     o->report = no_report;
     switch (c->kind) {
     case POWER_UP: r = board_power_up(&b, c->n); break;
+    case POWER_UP_WITH: r = board_power_up_depth(&b, c->n, c->x); break;
     case READ: r = board_read(&b, c->n, c->x, &value); break;
     case WRITE: r = board_write(&b, c->n, c->x, c->y & 0xFFFFu); break;
     case TICK:
@@ -249,6 +253,49 @@ static void play_script(const struct call *c, struct ref_spi *m)
         if (script_read(w.line, w.length, &line))
             (void)script_make(m, &line, &value);
     }
+}
+
+/* Is memory that of a module of this depth? The number at place 6 tells: 4 and
+ * 16 are those depths, and 8 is 0. Of depth 8, places 32 to 39 and 52 to 59, the
+ * later words of both buffers, are 0 from power-up on. So memory that was saved
+ * in the format 3, which had 0 in all of these, is that of the same module at
+ * depth 8. */
+static int has_depth(const thurafeqa *m, int depth)
+{
+    int i;
+
+    if (m->memory[6] != (depth == 8 ? 0 : depth))
+        return 0;
+    for (i = 0; i < 8 && depth == 8; i++) {
+        if (m->memory[32 + i] != 0 || m->memory[52 + i] != 0)
+            return 0;
+    }
+    return 1;
+}
+
+/* The first module of the last call whose memory is not that of its depth; -1
+ * if there is none. */
+static int wrong_memory;
+
+/* Looks at the modules of a call that was made, on both sides: do they show the
+ * same, and is the memory that of their depths? */
+static int look_at_both(struct sides *s, const struct call *c,
+                        struct outcome *l, struct outcome *m)
+{
+    const int at[2] = {c->module, c->other};
+    int i, same = 1;
+
+    wrong_memory = -1;
+    for (i = 0; i < concerned(c); i++) {
+        see_library(&s->library[at[i]], l->seen[i]);
+        see_model(&s->model[at[i]], m->seen[i]);
+        if (memcmp(l->seen[i], m->seen[i], sizeof l->seen[i]) != 0)
+            same = 0;
+        if (wrong_memory < 0 &&
+            !has_depth(&s->library[at[i]], s->model[at[i]].depth))
+            wrong_memory = at[i];
+    }
+    return same && wrong_memory < 0;
 }
 
 /* What was lent last, to the library and to the model; and the module in which
@@ -330,9 +377,8 @@ static uint32_t total_before, walked_total;
 static int board_both(struct sides *s, const struct call *c, struct outcome *l,
                       struct outcome *m)
 {
-    const int at[2] = {c->module, c->other};
     static struct sides before;
-    int i, same;
+    int same;
 
     before = *s;
     total_before = (c->carried ? s->model_owed : c->owed) & 0xFFFFu;
@@ -348,13 +394,7 @@ static int board_both(struct sides *s, const struct call *c, struct outcome *l,
         walked_total = walk_owed(&s->model[c->first], c->count);
         same = same && l->owed == walked_total;
     }
-    for (i = 0; i < concerned(c); i++) {
-        see_library(&s->library[at[i]], l->seen[i]);
-        see_model(&s->model[at[i]], m->seen[i]);
-        if (memcmp(l->seen[i], m->seen[i], sizeof l->seen[i]) != 0)
-            same = 0;
-    }
-    return same;
+    return look_at_both(s, c, l, m) && same;
 }
 
 /* Makes a call on both sides: do they agree in the answer, and in what is seen
@@ -362,10 +402,10 @@ static int board_both(struct sides *s, const struct call *c, struct outcome *l,
 static int ask_both(struct sides *s, const struct call *c, struct outcome *l,
                     struct outcome *m)
 {
-    const int at[2] = {c->module, c->other};
     struct call d = *c;
-    int i, same;
+    int same;
 
+    wrong_memory = -1;
     if (c->kind == SAVE)
         return save_both(c, l, m);
     if (c->board)
@@ -375,13 +415,7 @@ static int ask_both(struct sides *s, const struct call *c, struct outcome *l,
     ask_library(&s->library[c->module], &s->library[c->other], &d, l);
     ask_model(&s->model[c->module], &s->model[c->other], &d, m);
     same = same_answer(c, l, m);
-    for (i = 0; i < concerned(c); i++) {
-        see_library(&s->library[at[i]], l->seen[i]);
-        see_model(&s->model[at[i]], m->seen[i]);
-        if (memcmp(l->seen[i], m->seen[i], sizeof l->seen[i]) != 0)
-            same = 0;
-    }
-    return same;
+    return look_at_both(s, c, l, m) && same;
 }
 
 /* Plays a list of calls: how many it takes to the first difference, that call
@@ -476,6 +510,9 @@ static void print_differences(const struct call *c, const struct outcome *l,
 
     if (c->board && changed_module >= 0)
         printf("    module %d changed, and should not have\n", changed_module);
+    if (wrong_memory >= 0)
+        printf("    the memory of module %d is not that of its depth\n",
+               wrong_memory);
     if (c->board)
         printf("    owed: %" PRIX32 " before; library %" PRIX32
                " (asked: %08" PRIX32 "), model %" PRIX32 " (asked: %08" PRIX32
@@ -545,7 +582,8 @@ static struct {
     unsigned long framed_on[ROLES], framed_cke;
     /* both prescalers 1:1: enabled, by role; refused for CKE without SSEN */
     unsigned long undivided[ROLES], undivided_cke;
-    unsigned long raised[9]; /* the flag, by SISEL; the last one: standard */
+    /* the flag, by depth and SISEL; the last one: standard */
+    unsigned long raised[DEPTHS][9];
     unsigned long overflow, filler, aborted_word, aborted_filler;
     /* Request Four's mark, set by a word that is lost: by role, in framed
      * modules, in linked runs at the host and at the client. Under it words
@@ -622,7 +660,34 @@ static struct {
     uint32_t highest;
     unsigned long total_right, total_wrong, total_high, at_none, at_most;
     unsigned long total_refused;
+    /* power-ups with a depth, on a module alone and on a board: by depth, of
+     * modules of another depth, of these with words owed; 25, of modules with
+     * words owed. Then by depth, in standard and in enhanced operation: the
+     * transmit buffer and the receive buffer filled, a write refused for it, a
+     * word lost. In enhanced operation more than seven words shown as 7, of
+     * depth 8 and of 16, by a host and by a client. Linked runs done, by both
+     * depths; with the limit 544, of so many edges, with 545, which is
+     * refused. Modules whose depth a play has made 8; modules looked at with
+     * another number for 8 in memory */
+    unsigned long deep[2][DEPTHS], deep_other[2], deep_owing[2];
+    unsigned long no_depth[2], no_depth_owing[2];
+    unsigned long full_tx[2][DEPTHS], full_rx[2][DEPTHS];
+    unsigned long no_room[2][DEPTHS], lost[2][DEPTHS];
+    unsigned long above_7[2][2], linked_depths[DEPTHS][DEPTHS];
+    unsigned long limit_most, run_most, limit_past, deep_played, other_eight;
 } reached;
+
+/* Which of the depths a module has. */
+static int depth_of(const struct ref_spi *m)
+{
+    return m->depth == 4 ? 0 : m->depth == 8 ? 1 : 2;
+}
+
+/* The words that each of its buffers holds. */
+static int holds(const struct ref_spi *m)
+{
+    return m->spiben ? m->depth : 1;
+}
 
 static enum role role_of(const struct ref_spi *m)
 {
@@ -778,7 +843,7 @@ static void count_read(const struct ref_spi *before)
         reached.read_lost++;
     if (before->spiben && before->spirov)
         reached.read_rov++;
-    if (before->spiben && before->rx.n == 8)
+    if (before->spiben && before->rx.n == before->depth)
         reached.read_full++;
 }
 
@@ -791,13 +856,59 @@ static void count_lost(const struct ref_spi *before)
         reached.lost_standard++;
 }
 
+/* Its buffers, by its depth. A word that is lost while SPIROV is up is not
+ * counted here. */
+static void count_buffers(const struct ref_spi *before,
+                          const struct ref_spi *after)
+{
+    int d = depth_of(after), enhanced = after->spiben;
+
+    if (!after->spien || !before->spien)
+        return;
+    reached.full_tx[enhanced][d] +=
+        before->tx.n < holds(before) && after->tx.n == holds(after);
+    reached.full_rx[enhanced][d] +=
+        before->rx.n < holds(before) && after->rx.n == holds(after);
+    reached.lost[enhanced][d] += !before->spirov && after->spirov;
+    if (enhanced && (after->msten ? after->tx.n : after->rx.n) > 7)
+        reached.above_7[d == 2][!after->msten]++;
+}
+
+/* A power-up with a depth that came to a module. */
+static void count_power_up(const struct call *c, const struct ref_spi *before,
+                           uint32_t number)
+{
+    if (number != 0) {
+        reached.no_depth[c->board]++;
+        reached.no_depth_owing[c->board] += board_owes(before) > 0;
+        return;
+    }
+    reached.deep[c->board][c->x == 4 ? 0 : c->x == 8 ? 1 : 2]++;
+    reached.deep_other[c->board] += before->depth != (int)c->x;
+    reached.deep_owing[c->board] += board_owes(before) > 0;
+}
+
+/* A linked run, by both depths and by its limit. */
+static void count_linked(const struct call *c, const struct ref_spi *host,
+                         const struct ref_spi *client, uint32_t number,
+                         unsigned edges)
+{
+    reached.limit_past += number == THURAFEQA_TOO_MANY_EDGES && c->x == 545;
+    if (number != 0)
+        return;
+    reached.linked_depths[depth_of(host)][depth_of(client)]++;
+    reached.limit_most += c->x == 544;
+    reached.run_most += edges == 544;
+}
+
 /* A module that a call has left with `after`. */
 static void count_module(const struct ref_spi *before,
                          const struct ref_spi *after)
 {
     count_mark(before, after);
+    count_buffers(before, after);
     if (!before->flag && after->flag)
-        reached.raised[after->spiben ? after->sisel : 8]++;
+        reached.raised[depth_of(after)][after->spiben ? after->sisel : 8]++;
     if (!before->spirov && after->spirov)
         reached.overflow++;
     if (!is_filler(before) && is_filler(after))
@@ -891,6 +1002,7 @@ static void count_trace(const struct call *c, const struct ref_spi *before,
     reached.all_calls += t.section[0].calls == TRACE_CALLS;
     reached.repeats += (unsigned long)repeats;
     reached.idle_plays += (unsigned long)idle;
+    reached.deep_played += before->depth != after->depth;
     reached.left_enabled += (unsigned long)after->spien;
     reached.left_unread += after->rx.n > 0;
     reached.left_marked += (unsigned long)after->mark;
@@ -970,6 +1082,7 @@ static uint32_t refusal_behind(const struct call *c, const struct ref_spi *pool)
     const struct ref_spi *o = &pool[other ? c->first + (int)c->n_other : 0];
 
     switch (c->kind) {
+    case POWER_UP_WITH: return is_depth(c->x) ? 0 : THURAFEQA_NO_SUCH_DEPTH;
     case READ:
     case WRITE: return c->x > THURAFEQA_BUF ? THURAFEQA_NO_SUCH_REGISTER : 0;
     case CLOCK: return c->x == 0 ? THURAFEQA_NO_RATE : 0;
@@ -984,7 +1097,7 @@ static uint32_t refusal_behind(const struct call *c, const struct ref_spi *pool)
                    ? 0
                    : THURAFEQA_WRONG_CLOCK;
     case LINKED:
-        if (c->x > 288)
+        if (c->x > 544)
             return THURAFEQA_TOO_MANY_EDGES;
         if ((there && !m->spien) || (other && !o->spien))
             return THURAFEQA_DISABLED;
@@ -1077,7 +1190,7 @@ static void count_board(const struct call *c, uint32_t number)
 {
     reached.direct[c->direct]++;
     reached.far_kind += c->kind == LOOK && c->direct &&
-                        c->of_kind > THURAFEQA_BOARD_LEVELS;
+                        c->of_kind > THURAFEQA_BOARD_POWER_UP_WITH;
     reached.board[c->kind][c->count][c->n]++;
     if (c->kind == LINKED && number == 0)
         reached.board_linked[c->n][c->n_other]++;
@@ -1116,12 +1229,18 @@ static void count(const struct call *c, const struct outcome *o,
         count_enabling(&before[0], number);
     if (c->kind == LINKED && number == THURAFEQA_WRONG_CLOCK)
         count_unlinked(m, &pool[c->other]);
+    if (c->kind == LINKED)
+        count_linked(c, m, &pool[c->other], number, edges);
+    if (c->kind == POWER_UP_WITH)
+        count_power_up(c, &before[0], number);
+    reached.no_room[m->spiben][depth_of(m)] += number == THURAFEQA_TRANSMIT_FULL;
     if (number != 0) {
         reached.refused[number]++;
         return;
     }
     switch (c->kind) {
     case POWER_UP:
+    case POWER_UP_WITH:
         if (before[0].mark)
             reached.unmarked_power_up++;
         break;
@@ -1369,12 +1488,12 @@ static void print_boards(void)
 {
     static const uint32_t behind[] = {
         THURAFEQA_NO_SUCH_REGISTER, THURAFEQA_DISABLED, THURAFEQA_WRONG_CLOCK,
-        THURAFEQA_NO_RATE, THURAFEQA_TOO_MANY_EDGES};
+        THURAFEQA_NO_RATE, THURAFEQA_TOO_MANY_EDGES, THURAFEQA_NO_SUCH_DEPTH};
     int k, n, o;
 
     printf("\non boards, by their modules and the one named:");
     for (k = 0; k <= LOOK; k++) {
-        printf("\n  %-8s", kind_name[k]);
+        printf("\n  %-13s", kind_name[k]);
         for (n = k == LINKED ? 2 : 1; n <= 4; n++) {
             printf("%s", n > 1 ? "," : "");
             for (o = 0; o < n; o++)
@@ -1391,13 +1510,13 @@ static void print_boards(void)
     printf("\ncalls on boards:");
     print_count("through the header", reached.direct[0]);
     print_count("direct", reached.direct[1]);
-    print_count("levels by a kind above 7", reached.far_kind);
+    print_count("levels by a kind above 9", reached.far_kind);
     for (o = 0; o < 2; o++) {
         printf("\nrefused with %d:", (int)THURAFEQA_BAD_LIST + o);
         for (k = 0; k <= LOOK; k++)
             print_count(kind_name[k], reached.board_refused[o][k]);
         printf("\n  before");
-        for (k = 0; k < 5; k++)
+        for (k = 0; k < 6; k++)
             print_numbered("", (int)behind[k], reached.behind[o][behind[k]]);
         if (o == 0)
             print_numbered("", (int)THURAFEQA_NO_MODULE, reached.bad_list_too);
@@ -1416,8 +1535,8 @@ static void print_boards(void)
 
 static void print_totals(void)
 {
-    static const enum kind falls[] = {POWER_UP, WRITE, TICK,
-                                      PINS,     STEP,  LINKED};
+    static const enum kind falls[] = {POWER_UP, POWER_UP_WITH, WRITE, TICK,
+                                      PINS,     STEP,          LINKED};
     int k;
 
     printf("\nwords owed, handed from call to call:");
@@ -1427,7 +1546,7 @@ static void print_totals(void)
     printf("\n ");
     print_count("rose", reached.rose);
     printf(" fell by");
-    for (k = 0; k < 6; k++)
+    for (k = 0; k < 7; k++)
         print_count(kind_name[falls[k]], reached.fell[falls[k]]);
     print_count("by several", reached.fell_more);
     print_count("by disabling", reached.fell_disabled);
@@ -1461,6 +1580,57 @@ static void print_steps(void)
     print_count("no edge", reached.step_no_edge);
 }
 
+/* One line for each depth. */
+static void print_depth(int d)
+{
+    int o, i;
+
+    printf("\ndepth %d: flag raised:", (int)depths[d]);
+    print_count("standard", reached.raised[d][8]);
+    for (i = 0; i < 8; i++)
+        print_numbered("SISEL ", i, reached.raised[d][i]);
+    for (o = 0; o < 2; o++) {
+        printf("\n  %s:", o ? "enhanced" : "standard");
+        print_count("waiting words full", reached.full_tx[o][d]);
+        print_count("unread words full", reached.full_rx[o][d]);
+        print_count("a write refused", reached.no_room[o][d]);
+        print_count("a word lost", reached.lost[o][d]);
+    }
+    printf("\n  linked with a client of depth");
+    for (i = 0; i < DEPTHS; i++)
+        print_numbered("", (int)depths[i], reached.linked_depths[d][i]);
+}
+
+static void print_depths(void)
+{
+    int i, o;
+
+    for (o = 0; o < 2; o++) {
+        printf("\npower-up with a depth, on a %s:", o ? "board" : "module");
+        for (i = 0; i < DEPTHS; i++)
+            print_numbered("", (int)depths[i], reached.deep[o][i]);
+        print_count("of another depth", reached.deep_other[o]);
+        print_count("with words owed", reached.deep_owing[o]);
+        print_numbered("", (int)THURAFEQA_NO_SUCH_DEPTH, reached.no_depth[o]);
+        print_count("with words owed", reached.no_depth_owing[o]);
+    }
+    for (i = 0; i < DEPTHS; i++)
+        print_depth(i);
+    printf("\nmore than 7 words shown as 7:");
+    for (i = 0; i < 2; i++) {
+        print_numbered("host of depth ", (int)depths[1 + i],
+                       reached.above_7[i][0]);
+        print_count("client", reached.above_7[i][1]);
+    }
+    printf("\nlinked runs:");
+    print_count("with the limit 544", reached.limit_most);
+    print_count("of 544 edges", reached.run_most);
+    print_count("refused with 545", reached.limit_past);
+    printf("\nmodules:");
+    print_count("that a play made ones of depth 8", reached.deep_played);
+    print_count("seen with other numbers for 8", reached.other_eight);
+}
+
 static void print_reached(void)
 {
     int i;
@@ -1476,10 +1646,7 @@ static void print_reached(void)
     printf("\nnever given: 4: %lu 12: %lu", reached.refused[4],
            reached.refused[12]);
     print_enabling();
-    printf("\nflag raised:");
-    print_count("standard", reached.raised[8]);
-    for (i = 0; i < 8; i++)
-        print_numbered("SISEL ", i, reached.raised[i]);
+    print_depths();
     printf("\nseen:");
     print_count("overflow", reached.overflow);
     print_count("filler", reached.filler);
@@ -1594,6 +1761,33 @@ static int choose_call(struct call *c)
     return 1;
 }
 
+/* A module of depth 8 with any number at place 6 but 4 and 16, and with words
+ * where that depth has none, shows the same. */
+static void hold_eight(int i)
+{
+    uint32_t l[VIEWS], m[VIEWS];
+    thurafeqa copy = now.library[i];
+    int k;
+
+    if (now.model[i].depth != 8)
+        return;
+    do
+        copy.memory[6] = (uint16_t)(one_in(2) ? any_number() : below(20));
+    while (copy.memory[6] == 4 || copy.memory[6] == 16);
+    for (k = 0; k < 8; k++)
+        copy.memory[32 + k] = copy.memory[52 + k] = (uint16_t)any_number();
+    see_library(&copy, l);
+    see_model(&now.model[i], m);
+    reached.other_eight++;
+    if (memcmp(l, m, sizeof l) == 0)
+        return;
+    printf("call %lu of seed %lu: module %d of depth 8 is another with %d at "
+           "place 6\n",
+           made, seed, i, copy.memory[6]);
+    print_views("module", i, l, m);
+    exit(1);
+}
+
 /* Makes a call on both sides and holds them to each other. Once the sequence is
  * as long as it may be, or all calls are made, nothing more happens. */
 static void make(enum kind kind, int module, int other, uint32_t x, uint32_t y,
@@ -1636,9 +1830,21 @@ static void make(enum kind kind, int module, int other, uint32_t x, uint32_t y,
         exit(1);
     }
     count(&c, &m, before, now.model);
+    if (one_in(32))
+        hold_eight(module);
 }
 
 static void power_up(int i) { make(POWER_UP, i, i, 0, 0, 0); }
+
+/* With any depth, and now and then without. */
+static void power_up_with(int i)
+{
+    if (one_in(8))
+        power_up(i);
+    else
+        make(POWER_UP_WITH, i, i, some_depth(), 0, 0);
+}
+
 static void play_trace(int i) { make(PLAY, i, i, any_number(), 0, 0); }
 static void clear(int i) { make(CLEAR, i, i, 0, 0, 0); }
 static void look(int i) { make(LOOK, i, i, 0, 0, 0); }
@@ -1765,11 +1971,12 @@ static void set_up_alone(int i)
             return;
     }
     set_up(i, some_con1((enum role)below(ROLES), some_modes()),
-           some_con2(below(5) < 2));
+           some_con2(one_in(2)));
 }
 
-/* Two that can be linked, but for a mode now and then. */
-static void set_up_two(int host, int client)
+/* Two that can be linked, but for a mode now and then; CON2 has these bits and
+ * any others. */
+static void set_up_two(int host, int client, uint32_t con2)
 {
     uint32_t modes = some_modes();
     uint32_t other = modes;
@@ -1778,15 +1985,15 @@ static void set_up_two(int host, int client)
 
     if (one_in(12))
         other ^= some_modes();
-    set_up(host, some_con1(OWN_CLOCK, modes), some_con2(one_in(20)));
-    set_up(client, some_con1(role, other), some_con2(one_in(20)));
+    set_up(host, some_con1(OWN_CLOCK, modes), con2 | some_con2(one_in(20)));
+    set_up(client, some_con1(role, other), con2 | some_con2(one_in(20)));
 }
 
 static void set_up_partners(int i)
 {
     int host = i ^ (int)below(2);
 
-    set_up_two(host, host ^ 1);
+    set_up_two(host, host ^ 1, 0);
 }
 
 /* ---- random acts on an enabled module -------------------------------- */
@@ -1801,11 +2008,11 @@ static uint32_t some_word(void)
 static void write_words(int i)
 {
     const struct ref_spi *m = &now.model[i];
-    int n = one_in(3) ? 10 : 1 + (int)below(3);
+    int n = one_in(3) ? m->depth + 2 : 1 + (int)below(3);
 
     while (n-- > 0) {
         write_register(i, THURAFEQA_BUF, some_word());
-        if (m->tx.n == (m->spiben ? 8 : 1) && !one_in(4))
+        if (m->tx.n == holds(m) && !one_in(4))
             return;
     }
 }
@@ -1813,7 +2020,7 @@ static void write_words(int i)
 static void read_words(int i)
 {
     const struct ref_spi *m = &now.model[i];
-    int n = one_in(3) ? 9 : 1 + (int)below(3);
+    int n = one_in(3) ? m->depth + 1 : 1 + (int)below(3);
 
     while (n-- > 0) {
         read_register(i, THURAFEQA_BUF);
@@ -1865,7 +2072,7 @@ static void give_edges(int i)
     switch (below(8)) {
     case 0: case 1: n = 1 + (int)below(3); break;
     case 2: n = (int)below((uint32_t)word); break;
-    case 3: n = word * (1 + (int)below(9)); break;
+    case 3: n = word * (1 + (int)below(one_in(4) ? 17 : 6)); break;
     default: n = edges_left(m); break;
     }
     while (n-- > 0) {
@@ -1884,7 +2091,7 @@ static void act_marked(int i)
         give_edges(i);
         read_register(i, THURAFEQA_BUF);
     } else if (one_in(6)) {
-        power_up(i);
+        power_up_with(i);
     } else {
         write_register(i, THURAFEQA_STAT,
                        any_number() & 0xFFFFu & ~THURAFEQA_STAT_SPIEN);
@@ -1974,6 +2181,8 @@ static void do_else(int i)
     case 12:
         if (one_in(20))
             power_up(i);
+        else if (one_in(10))
+            power_up_with(i);
         break;
     case 13:
         if (one_in(2))
@@ -2048,6 +2257,8 @@ static void try_boards(void)
         case 3:
             if (one_in(6))
                 power_up(i);
+            else if (one_in(4))
+                power_up_with(i);
             else
                 clear(i);
             break;
@@ -2058,10 +2269,53 @@ static void try_boards(void)
     do
         client = (int)below(MODULES);
     while (client == host || abs(client - host) > 3);
-    set_up_two(host, client);
+    set_up_two(host, client, 0);
     write_words(host);
     write_words(client);
     make(LINKED, host, client, some_limit(), 0, 0);
+}
+
+/* A module is written to until it is full. */
+static void fill(int i)
+{
+    const struct ref_spi *m = &now.model[i];
+    int n = m->depth + 1;
+
+    while (n-- > 0 && m->tx.n < holds(m))
+        write_register(i, THURAFEQA_BUF, some_word());
+}
+
+/* Gives SISEL one of the events that go by the depth of what is sent or
+ * received: 2, 3 or 4. */
+static void choose_event(int i)
+{
+    write_register(i, THURAFEQA_STAT,
+                   THURAFEQA_STAT_SPIEN | (2 + below(3))
+                                              << THURAFEQA_STAT_SISEL_SHIFT);
+}
+
+/* Two enhanced ones of any depths, and a linked run of all that the host has to
+ * send; now and then another, without a read between them. */
+static void link_full(int host, int client)
+{
+    int runs = one_in(2) ? 1 : 2;
+
+    power_up_with(host);
+    power_up_with(client);
+    set_up_two(host, client, THURAFEQA_CON2_SPIBEN);
+    if (one_in(2))
+        choose_event(host);
+    if (one_in(2))
+        choose_event(client);
+    while (runs-- > 0) {
+        fill(host);
+        if (one_in(2))
+            fill(client);
+        clear(host);
+        clear(client);
+        make(LINKED, host, client, one_in(6) ? some_limit() : 544, 0, 0);
+    }
+    read_words(client);
 }
 
 /* Some traces, one after the other. The last that is not refused leaves the
@@ -2090,15 +2344,19 @@ static void run_sequence(void)
     noise = ((uint64_t)any_number() << 32 | any_number()) | 1;
     power_up_all(&now, noise);
     for (i = 0; i < MODULES; i++)
-        power_up(i);
+        power_up_with(i);
     while (length < end && made < wanted) {
         int module = (int)below(MODULES);
         int acts = 4 + (int)below(12);
         size_t mood = below(MOODS);
 
         play_traces(module);
+        if (one_in(3))
+            power_up_with(module);
         if (boarding && one_in(2))
             try_boards();
+        if (linked && one_in(6))
+            link_full(module, module ^ 1);
         if (linked && one_in(2))
             set_up_partners(module);
         else if (!one_in(4))
@@ -2155,6 +2413,31 @@ static void play_costly(void)
     }
 }
 
+/* Power-up with 8 leaves the memory that power-up without a depth leaves, all
+ * zeros, and power-up with 4 and 16 differs from it in place 6 alone. */
+static void compare_power_ups(void)
+{
+    thurafeqa m, other;
+    int i;
+
+    for (i = 0; i < DEPTHS; i++) {
+        memset(&m, 0x5A, sizeof m);
+        memset(&other, 0xA5, sizeof other);
+        thurafeqa_power_up(&m);
+        if (thurafeqa_power_up_with(&other, depths[i]) != 0 ||
+            !has_depth(&other, (int)depths[i])) {
+            printf("power-up with %d words\n", (int)depths[i]);
+            exit(1);
+        }
+        other.memory[6] = 0;
+        if (!has_depth(&m, 8) || memcmp(&m, &other, sizeof m) != 0) {
+            printf("power-up with %d words leaves other memory than power-up\n",
+                   (int)depths[i]);
+            exit(1);
+        }
+    }
+}
+
 int main(int argc, char **argv)
 {
     if (argc != 3) {
@@ -2165,6 +2448,7 @@ int main(int argc, char **argv)
     seed = strtoul(argv[2], 0, 10);
     printf("seed %lu\n", seed);
     start_numbers(seed);
+    compare_power_ups();
     while (made < wanted)
         run_sequence();
     play_costly();

@@ -345,11 +345,12 @@ static void hold_save(uint32_t answer)
 
 /* ---- what the memory holds at first ---------------------------------- */
 
-/* An enabled module as calls make it, with some words under way; now and then
- * an enhanced one that has received eight, or nearly. */
+/* An enabled module of any depth as calls make it, with some words under way;
+ * now and then an enhanced one that has received a buffer full, or nearly. */
 static void make_real(thurafeqa *m, uint32_t con1)
 {
     uint32_t con2 = any_number();
+    uint32_t depth = depths[below(DEPTHS)];
     int full = one_in(8);
     uint32_t n;
 
@@ -362,13 +363,13 @@ static void make_real(thurafeqa *m, uint32_t con1)
         con1 &= ~THURAFEQA_CON1_MODE16;
         con2 |= THURAFEQA_CON2_SPIBEN;
     }
-    thurafeqa_power_up(m);
+    thurafeqa_power_up_with(m, depth);
     thurafeqa_write(m, THURAFEQA_CON1, con1);
     thurafeqa_write(m, THURAFEQA_CON2, con2);
     thurafeqa_write(m, THURAFEQA_STAT, any_number() | THURAFEQA_STAT_SPIEN);
-    for (n = below(10); n > 0; n--)
+    for (n = below(depth + 2); n > 0; n--)
         thurafeqa_write(m, THURAFEQA_BUF, any_number());
-    for (n = full ? 100 + below(60) : below(80); n > 0; n--) {
+    for (n = full ? 16 * depth - 28 + below(60) : below(80); n > 0; n--) {
         uint32_t ss = con2 & THURAFEQA_CON2_FRMEN ? below(2) : 0;
 
         thurafeqa_tick(m, below(2), ss);
@@ -382,7 +383,7 @@ static void make_disabled(thurafeqa *m, uint32_t con1)
 {
     if (one_in(2))
         con1 |= THURAFEQA_CON1_SPRE | THURAFEQA_CON1_PPRE;
-    thurafeqa_power_up(m);
+    thurafeqa_power_up_with(m, depths[below(DEPTHS)]);
     thurafeqa_write(m, THURAFEQA_CON1, con1);
     thurafeqa_write(m, THURAFEQA_CON2, any_number());
 }
@@ -518,7 +519,7 @@ static uint32_t register_refusal(const struct call *c, const uint32_t *seen)
 static uint32_t linked_refusal(const struct call *c, const uint32_t *host,
                                const uint32_t *client)
 {
-    if (c->x > 288)
+    if (c->x > 544)
         return THURAFEQA_TOO_MANY_EDGES;
     if (!enabled(host) || !enabled(client))
         return THURAFEQA_DISABLED;
@@ -537,6 +538,8 @@ static uint32_t table_refusal(const struct call *c,
     if (c->board && board_refusal(c) != 0)
         return board_refusal(c);
     switch (c->kind) {
+    case POWER_UP_WITH:
+        return is_depth(c->x) ? 0 : THURAFEQA_NO_SUCH_DEPTH;
     case READ:
     case WRITE: return register_refusal(c, seen[0]);
     case STEP: return enabled(seen[0]) ? 0 : THURAFEQA_DISABLED;
@@ -663,6 +666,12 @@ static void hold_answer(const struct call *c, const struct outcome *o,
 
 static unsigned long marks_set, marks_cleared;
 
+/* Does the call power its module up? */
+static int powers_up(const struct call *c)
+{
+    return c->kind == POWER_UP || (c->kind == POWER_UP_WITH && is_depth(c->x));
+}
+
 /* A module that this call has disabled, or powered up: on a copy that is then
  * enabled, if its settings can be, nothing is unread and no mark stands. */
 static void hold_unmarked(const thurafeqa *m)
@@ -683,7 +692,7 @@ static void hold_mark(const struct call *c, const uint32_t *before,
 {
     if (c->kind == PLAY)
         return; /* many calls in one */
-    if (!enabled(after) && (enabled(before) || c->kind == POWER_UP)) {
+    if (!enabled(after) && (enabled(before) || powers_up(c))) {
         hold_unmarked(m);
         marks_cleared += (unsigned long)marked(before);
     }
@@ -814,12 +823,16 @@ static void choose_edge(void)
 
 static void choose(void)
 {
-    now.kind = one_in(50) ? POWER_UP : (enum kind)(READ + below(PLAY - READ));
+    now.kind = one_in(50)   ? POWER_UP
+               : one_in(50) ? POWER_UP_WITH
+                            : (enum kind)(READ + below(PLAY - READ));
     now.module = 0;
     now.other = 1;
     now.x = some_argument();
     now.y = some_argument();
     now.z = some_argument();
+    if (now.kind == POWER_UP_WITH)
+        now.x = some_depth();
     if (now.kind == READ || now.kind == WRITE)
         now.x = some_register();
     if (now.kind == WRITE && one_in(2))
@@ -972,7 +985,7 @@ static void hold_move(const struct outcome *o, const uint32_t *shown, long move)
         hold(move == 1, "an accepted word did not move the total by one");
     else if (now.kind == TICK || now.kind == PINS || now.kind == STEP)
         hold(move == 0 || move == -1, "an edge moved the total by more");
-    else if (now.kind == LINKED || now.kind == POWER_UP)
+    else if (now.kind == LINKED || powers_up(&now))
         hold(move <= 0, "the total rose without an accepted word");
     else if (now.x == THURAFEQA_STAT && enabled(shown))
         hold(move <= 0, "a STAT write made the total rise");

@@ -18,10 +18,10 @@ use Rattle.laws.specs.Choice.{if_then_else_}
 use Rattle.laws.proofs.Choices.{so, not-so, not-so-eq}
 use Rattle.spi_types.specs.declared.Call.{Call}
 use Rattle.spi_rules.specs.RefusalTable.{row, firstNumber}
-use Rattle.spi_rules.specs.Calls.{poweredUp, clockStepOf, performOf}
+use Rattle.spi_rules.specs.Calls.{powerUpOf, poweredUp, clockStepOf, performOf}
 use Rattle.spi_clock_rules.specs.Clock.{reportOf, saidClock}
 use Rattle.spi_board_rules.specs.declared.BoardCall.{BoardCall}
-use Rattle.spi_board_rules.specs.declared.BoardCall.the-variants.{PowerUp, Make, Report, Look, StepAndLook}
+use Rattle.spi_board_rules.specs.declared.BoardCall.the-variants.{PowerUp, PowerUpAt, Make, Report, Look, StepAndLook}
 use Rattle.spi_board_rules.specs.Board.{answerAlone, afterAlone, seenOf}
 use Rattle.spi_board_rules.specs.BoardDemands.{boardRows}
 use Rattle.spi_memory.specs.Memory.{moduleIn}
@@ -34,12 +34,12 @@ module _ {r : ℕ} {floats floatsAt : List Float} {before after : List ℕ} wher
   asked-as k x y z e h = subst (λ (j : ℕ). MakeTells (askedOf j x y z) r floats floatsAt before after) (sym e) h
 
   pub asked-look : (x y z : ℕ) {kind : ℕ} → (kind ≡ 0 → ⊥) → (kind ≡ 1 → ⊥) → (kind ≡ 2 → ⊥) → (kind ≡ 3 → ⊥) → (kind ≡ 4 → ⊥) →
-      (kind ≡ 5 → ⊥) → (kind ≡ 6 → ⊥) → (kind ≡ 8 → ⊥) → MakeTells Look r floats floatsAt before after → MakeTells (askedOf kind x y z) r floats floatsAt before after
+      (kind ≡ 5 → ⊥) → (kind ≡ 6 → ⊥) → (kind ≡ 8 → ⊥) → (kind ≡ 9 → ⊥) → MakeTells Look r floats floatsAt before after → MakeTells (askedOf kind x y z) r floats floatsAt before after
   unfolding askedOf
-  asked-look x y z {kind} n0 n1 n2 n3 n4 n5 n6 n8 h =
+  asked-look x y z {kind} n0 n1 n2 n3 n4 n5 n6 n8 n9 h =
       let is : Look ≡ askedOf kind x y z =
       not-so-eq kind 0 _ _ n0 (not-so-eq kind 1 _ _ n1 (not-so-eq kind 2 _ _ n2 (not-so-eq kind 3 _ _ n3 (not-so-eq kind 4 _ _ n4
-      (not-so-eq kind 5 _ _ n5 (not-so-eq kind 6 _ _ n6 (not-so-eq kind 8 _ _ n8 refl)))))))
+      (not-so-eq kind 5 _ _ n5 (not-so-eq kind 6 _ _ n6 (not-so-eq kind 8 _ _ n8 (not-so-eq kind 9 _ _ n9 refl))))))))
       in
       subst (λ (c : BoardCall). MakeTells c r floats floatsAt before after) is h
 
@@ -51,6 +51,11 @@ made h = record { number = h .number; holds = h .holds; report = refl; untouched
 pub powered : {floats : List Float} {before after : List ℕ} → moduleIn after ≡ poweredUp → MakeTells PowerUp 0 floats floats before after
 unfolding boardNumber answerAlone afterAlone floatsAfter
 powered h = record { number = refl; holds = h; report = refl; untouched = λ t. absurd (true≢false (sym t)) }
+
+pub powered-with : {words r : ℕ} {floats : List Float} {before after : List ℕ} → Tells (powerUpOf (moduleIn before) words) r before after →
+    MakeTells (PowerUpAt words) r floats floats before after
+unfolding boardNumber answerAlone afterAlone floatsAfter
+powered-with h = record { number = h .number; holds = h .holds; report = refl; untouched = h .untouched }
 
 pub reported : {f r : ℕ} {floats floatsAt : List Float} {before : List ℕ} →
     ClockTells (saidClock (reportOf (moduleIn before) f)) r floats floatsAt → MakeTells (Report f) r floats floatsAt before before

@@ -12,7 +12,7 @@ use Rattle.spi_types.specs.declared.Call.the-variants.{Read, Write, Tick, Pin, 
 use Rattle.spi_rules.specs.RefusalTable.{firstNumber}
 use Rattle.spi_clock_rules.specs.Clock.{saidClock}
 use Rattle.spi_board_rules.specs.declared.BoardCall.{BoardCall}
-use Rattle.spi_board_rules.specs.declared.BoardCall.the-variants.{PowerUp, Make, Report, Look, StepAndLook}
+use Rattle.spi_board_rules.specs.declared.BoardCall.the-variants.{PowerUp, PowerUpAt, Make, Report, Look, StepAndLook}
 use Rattle.spi_board_rules.specs.declared.BoardAnswer.{BoardAnswer}
 use Rattle.spi_board_rules.specs.declared.BoardAnswer.the-variants.{Refused, Powered, Made, Told, Shown, Stepped}
 use Rattle.spi_board_rules.specs.declared.PairAnswer.{PairAnswer}
@@ -51,6 +51,7 @@ askedOf kind x y z =
     else if eqb kind 5 then Make Clear
     else if eqb kind 6 then Report x
     else if eqb kind 8 then StepAndLook (levelIn x) (levelIn y) (levelIn z)
+    else if eqb kind 9 then PowerUpAt x
     else Look
 
 -- An answer as one number: the upper 16 bits are the refusal number, 0 if it was not refused, the lower 16 bits what the same call

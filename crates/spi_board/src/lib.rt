@@ -83,6 +83,9 @@ pub fn make(w: &mut [u16; 96], kind: u32, x: u32, y: u32, z: u32, report: &mut [
         spi_memory::power_up(w);
         return 0;
     }
+    if kind == 9 {
+        return spi_numbers::power_up_with(w, x);
+    }
     spi_numbers::levels(w)
 }
 

@@ -23,7 +23,7 @@ use Rattle.spi_rules.specs.Calls.{poweredUp, performOf}
 use Rattle.spi_link_rules.specs.declared.Linked.{Linked}
 use Rattle.spi_link_rules.specs.Link.{linkedOf}
 use Rattle.spi_board_rules.specs.declared.BoardCall.{BoardCall}
-use Rattle.spi_board_rules.specs.declared.BoardCall.the-variants.{PowerUp, Make, Report, Look, StepAndLook}
+use Rattle.spi_board_rules.specs.declared.BoardCall.the-variants.{PowerUp, PowerUpAt, Make, Report, Look, StepAndLook}
 use Rattle.spi_board_rules.specs.declared.BoardFault.the-variants.{BadList, NoModule}
 use Rattle.spi_board_rules.specs.Board.{Boarded, Paired, boardNumberOf, badList, noModule, noPair, moduleAt, seenOf, answerAlone, afterAlone, refuseCall, refusePair, boardOf, ranOf, pairOf}
 use Rattle.spi_board_rules.specs.BoardDemands.{faultIn, pairFaultIn, boardRows, pairRows, at, Alone, Joined}
@@ -63,6 +63,7 @@ module _ {A : Type 0} (number : A → ℕ) (list : A → List Module) (ms : List
 no-fault : (m : Module) (c : BoardCall) → faultIn (answerAlone m c) ≡ 0
 unfolding answerAlone
 no-fault m PowerUp = refl
+no-fault m (PowerUpAt words) = refl
 no-fault m (Make c) = refl
 no-fault m (Report f) = refl
 no-fault m Look = refl
@@ -157,6 +158,7 @@ alone ms n e =
     λ c. (call-is ms n c e .0, ap (λ (l : List Module). at l n) (call-is ms n c e .1) ∙ replaced ms n _ here) in
     record {
       powered = does PowerUp;
+      poweredAt = λ words. does (PowerUpAt words);
       made = λ c. does (Make c);
       reported = λ f. does (Report f);
       shown = does Look;

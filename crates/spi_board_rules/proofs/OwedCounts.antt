@@ -24,9 +24,10 @@ use Rattle.spi_rules.specs.Buffers.{emptyTransmit}
 use Rattle.spi_rules.specs.Words.{unfinished, leftBuffer, waitingIn}
 use Rattle.spi_rules.specs.Invariant.{ModuleHolds}
 use Rattle.spi_rules.specs.Lives.{Beginning, life}
+use Rattle.spi_rules.proofs.Sizes.{depth-most}
 use Rattle.spi_rules.proofs.BuffersOrder.{waiting-length}
 use Rattle.spi_order.proofs.Order.{life-holds}
-use Rattle.spi_link_rules.proofs.LinkIdle.{one-unfinished, depth-within}
+use Rattle.spi_link_rules.proofs.LinkIdle.{one-unfinished}
 use Rattle.spi_board_rules.specs.BoardDemands.{at}
 use Rattle.spi_board_rules.specs.Owed.{inShift, countOf, atMost65535, totalMoved}
 use Rattle.spi_board_rules.specs.OwedDemands.{fullCount}
@@ -66,7 +67,7 @@ counts-none b cs off =
     )
 
 -- No module that calls reach counts more than a full buffer and one word more.
-few : (m : Module) → ModuleHolds m → countOf m ≤ 9
+few : (m : Module) → ModuleHolds m → countOf m ≤ 17
 few m h =
     omega (
       arith,
@@ -74,7 +75,7 @@ few m h =
       one-unfinished (m .settings) (m .engine .shift),
       waiting-length (depthOf (m .settings)) (m .engine .transmit),
       h .transmit .fits,
-      depth-within (m .settings),
+      depth-most (m .settings),
     )
 
 -- Modules that calls reach.
@@ -82,7 +83,7 @@ abbrev pub AllHold : List Module → Type 0
 AllHold [] = Unit {0}
 AllHold (m ∷ ms) = ModuleHolds m × AllHold ms
 
-all-few : (ms : List Module) → AllHold ms → fullCount ms ≤ 9 * length ms
+all-few : (ms : List Module) → AllHold ms → fullCount ms ≤ 17 * length ms
 all-few [] h = omega arith
 all-few (m ∷ ms) h = omega (arith, few m (h .0), all-few ms (h .1))
 

@@ -7,21 +7,23 @@ use mathlib.Core.List.{List, [], _∷_}
 use mathlib.Core.Path.{_≡_, refl, sym, ap, subst, _∙_}
 use native.Mathlib.Omega.{arith}
 use borrow.Author.Tests.{ltb-false, leb-false}
-use lib.Dec.{ltb}
+use lib.Dec.{eqb, ltb}
 use lib.ListN.{length, set, replicate, length-set}
 use Rattle.laws.specs.Choice.{if_then_else_}
-use Rattle.laws.proofs.Keeps.{if-true, if-false, by-test, clash, or-left, or-right}
+use Rattle.laws.proofs.Keeps.{if-keeps, if-true, if-false, by-test, clash, or-left, or-right}
 use Rattle.spi_types.specs.declared.Module.{Module}
+use Rattle.spi_types.specs.declared.Outcome.{Outcome}
 use Rattle.spi_rules.specs.RefusalTable.{row, firstNumber}
 use Rattle.spi_rules.specs.Invariant.{ModuleHolds}
 use Rattle.spi_types.specs.declared.Call.the-variants.{ClockStep}
-use Rattle.spi_rules.specs.Calls.{poweredUp, performOf}
+use Rattle.spi_rules.specs.Calls.{poweredAt, poweredUp, refuse, powerUpOf, performOf}
+use Rattle.spi_types.specs.declared.Depth.the-variants.{Four, Eight, Sixteen}
 use Rattle.spi_rules.specs.Lives.{powerUp}
 use Rattle.spi_invariant.proofs.Holds.{call-keeps, reached-holds}
 use Rattle.spi_link_rules.specs.Link.{linkedOf}
 use Rattle.spi_link_rules.proofs.LinkRuns.{link-holds}
 use Rattle.spi_board_rules.specs.declared.BoardCall.{BoardCall}
-use Rattle.spi_board_rules.specs.declared.BoardCall.the-variants.{PowerUp, Make, Report, Look, StepAndLook}
+use Rattle.spi_board_rules.specs.declared.BoardCall.the-variants.{PowerUp, PowerUpAt, Make, Report, Look, StepAndLook}
 use Rattle.spi_board_rules.specs.declared.BoardFault.the-variants.{BadList}
 use Rattle.spi_board_rules.specs.declared.OwedAnswer.the-variants.{Refused, Owes}
 use Rattle.spi_board_rules.specs.Board.{boardNumberOf, badList, noModule, noPair, moduleAt, afterAlone, ranOf, boardOf, pairOf, Paired, Step, one, two, boardStepped, boardAfter}
@@ -47,8 +49,12 @@ tells-law false n e = refl
 
 -- What a call makes of a module that calls reach.
 alone-holds : (m : Module) (c : BoardCall) → ModuleHolds m → ModuleHolds (afterAlone m c)
-unfolding afterAlone performOf
-alone-holds m PowerUp h = reached-holds []
+unfolding afterAlone performOf powerUpOf refuse
+alone-holds m PowerUp h = reached-holds Eight []
+alone-holds m (PowerUpAt words) h =
+    let P : Outcome → Type 0 = λ (o : Outcome). ModuleHolds (o .after) in
+    if-keeps P (eqb words 4) _ _ (λ e. reached-holds Four [])
+    (λ e. if-keeps P (eqb words 8) _ _ (λ e. reached-holds Eight []) (λ e. if-keeps P (eqb words 16) _ _ (λ e. reached-holds Sixteen []) (λ e. h)))
 alone-holds m (Make c) h = call-keeps m c h
 alone-holds m (Report f) h = h
 alone-holds m Look h = h
@@ -164,15 +170,15 @@ steps-modules (s ∷ ss) b = steps-modules ss (owedStep b s) ∙ ap (λ (l : Lis
 -- At power-up nothing is owed.
 fresh-hold : (size : ℕ) → AllHold (replicate size poweredUp)
 fresh-hold zero = tt
-fresh-hold (suc size) = (reached-holds [], fresh-hold size)
+fresh-hold (suc size) = (reached-holds Eight [], fresh-hold size)
 
 power-up-off : poweredUp .settings .spien ≡ false
-unfolding poweredUp
+unfolding poweredAt
 power-up-off = refl
 
 fresh-count : (size : ℕ) → fullCount (replicate size poweredUp) ≡ 0
 fresh-count zero = refl
-fresh-count (suc size) = omega (arith, counts-none powerUp [] power-up-off, fresh-count size)
+fresh-count (suc size) = omega (arith, counts-none (powerUp Eight) [] power-up-off, fresh-count size)
 
 pub totals-hold : Totals
 unfolding owesOf badList owedCall owedRun

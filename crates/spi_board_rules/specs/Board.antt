@@ -8,12 +8,12 @@ use lib.ListN.{length, getD, set}
 use Rattle.laws.specs.Choice.{if_then_else_}
 use Rattle.spi_types.specs.declared.Module.{Module}
 use Rattle.spi_types.specs.declared.Outcome.{Outcome}
-use Rattle.spi_rules.specs.Calls.{poweredUp, clockStepOf, performOf, interruptOf, sckOf, sdoOf, ssOf}
+use Rattle.spi_rules.specs.Calls.{poweredUp, powerUpOf, clockStepOf, performOf, interruptOf, sckOf, sdoOf, ssOf}
 use Rattle.spi_link_rules.specs.declared.Linked.{Linked}
 use Rattle.spi_link_rules.specs.Link.{linkedOf}
 use Rattle.spi_clock_rules.specs.Clock.{reportOf}
 use Rattle.spi_board_rules.specs.declared.BoardCall.{BoardCall}
-use Rattle.spi_board_rules.specs.declared.BoardCall.the-variants.{PowerUp, Make, Report, Look, StepAndLook}
+use Rattle.spi_board_rules.specs.declared.BoardCall.the-variants.{PowerUp, PowerUpAt, Make, Report, Look, StepAndLook}
 use Rattle.spi_board_rules.specs.declared.Seen.{Seen}
 use Rattle.spi_board_rules.specs.declared.BoardFault.{BoardFault}
 use Rattle.spi_board_rules.specs.declared.BoardFault.the-variants.{BadList, NoModule}
@@ -65,6 +65,7 @@ steppedAs o = Stepped (o .answer) (seenOf (o .after))
 -- What a module alone answers to a call, and the module after it. A report and a look change nothing.
 unfoldable pub answerAlone : Module → BoardCall → BoardAnswer
 answerAlone m PowerUp = Powered
+answerAlone m (PowerUpAt words) = Made (powerUpOf m words .answer)
 answerAlone m (Make c) = Made (performOf m c .answer)
 answerAlone m (Report f) = Told (reportOf m f)
 answerAlone m Look = Shown (seenOf m)
@@ -72,6 +73,7 @@ answerAlone m (StepAndLook sck sdi ss) = steppedAs (clockStepOf m sck sdi ss)
 
 unfoldable pub afterAlone : Module → BoardCall → Module
 afterAlone m PowerUp = poweredUp
+afterAlone m (PowerUpAt words) = powerUpOf m words .after
 afterAlone m (Make c) = performOf m c .after
 afterAlone m (Report f) = m
 afterAlone m Look = m

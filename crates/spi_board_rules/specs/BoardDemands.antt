@@ -10,13 +10,15 @@ use Rattle.spi_types.specs.declared.Module.{Module}
 use Rattle.spi_types.specs.declared.Call.{Call}
 use Rattle.spi_types.specs.declared.Call.the-variants.{ClockStep}
 use Rattle.spi_rules.specs.RefusalTable.{Row, row, firstNumber}
-use Rattle.spi_rules.specs.Calls.{poweredUp, performOf, interruptOf, sckOf, sdoOf, ssOf}
+use Rattle.spi_rules.specs.Calls.{poweredUp, powerUpOf, performOf, interruptOf, sckOf, sdoOf, ssOf}
+use Rattle.spi_types.specs.declared.Depth.{Depth}
+use Rattle.spi_types.specs.declared.Depth.the-variants.{Four, Eight, Sixteen}
 use Rattle.spi_rules.specs.Lives.{powerUp, life}
 use Rattle.spi_link_rules.specs.Link.{linkedOf}
 use Rattle.spi_link_rules.specs.LinkDemands.{runHostCalls, runClientCalls, refusalOf}
 use Rattle.spi_clock_rules.specs.Clock.{reportOf}
 use Rattle.spi_board_rules.specs.declared.BoardCall.{BoardCall}
-use Rattle.spi_board_rules.specs.declared.BoardCall.the-variants.{PowerUp, Make, Report, Look, StepAndLook}
+use Rattle.spi_board_rules.specs.declared.BoardCall.the-variants.{PowerUp, PowerUpAt, Make, Report, Look, StepAndLook}
 use Rattle.spi_board_rules.specs.declared.Seen.{Seen}
 use Rattle.spi_board_rules.specs.declared.BoardAnswer.{BoardAnswer}
 use Rattle.spi_board_rules.specs.declared.BoardAnswer.the-variants.{Refused, Powered, Made, Told, Shown, Stepped}
@@ -71,6 +73,9 @@ seenIn m = record { interrupt = interruptOf m; sck = sckOf m; sdo = sdoOf m; ss 
 -- What a call of one module, which the board hands on, answers and does: that of the module alone.
 pub record Alone (ms : List Module) (n : ℕ) : Type 0 where
   pub powered : (boardOf ms n PowerUp .answer ≡ Powered) × (at (boardOf ms n PowerUp .after) n ≡ poweredUp)
+  pub poweredAt : (words : ℕ) →
+      (boardOf ms n (PowerUpAt words) .answer ≡ Made (powerUpOf (at ms n) words .answer))
+      × (at (boardOf ms n (PowerUpAt words) .after) n ≡ powerUpOf (at ms n) words .after)
   pub made : (c : Call) →
       (boardOf ms n (Make c) .answer ≡ Made (performOf (at ms n) c .answer))
       × (at (boardOf ms n (Make c) .after) n ≡ performOf (at ms n) c .after)
@@ -90,27 +95,43 @@ pub record Joined (ms : List Module) (a b limit : ℕ) : Type 0 where
   pub client : at (pairOf ms a b limit .after) b ≡ linkedOf (at ms a) (at ms b) limit .client
   pub others : Others (λ k. eqb a k || eqb b k) ms (pairOf ms a b limit .after)
 
--- The calls that a module has made since its last power-up, if it has made `own` so far and the board stands at `ms`: a call that
--- names it adds itself, a linked run that joins it adds the run's list, and a refused one adds nothing.
-abbrev pub ownAfterCall : List Call → BoardCall → List Call
-ownAfterCall own PowerUp = []
-ownAfterCall own (Make c) = own ++ (c ∷ [])
+-- The depth that a module was given at its last power-up, and the calls that it has made since, if that was `own` so far and the board
+-- stands at `ms`: a call that names it adds itself, a linked run that joins it adds the run's list, and a refused one adds nothing, nor
+-- does power-up with a depth that there is not.
+pub record Own : Type 0 where
+  pub depth : Depth
+  pub calls : List Call
+
+abbrev pub fresh : Depth → Own
+fresh depth = record { depth = depth; calls = [] }
+
+abbrev pub more : Own → List Call → Own
+more own cs = record { depth = own .depth; calls = own .calls ++ cs }
+
+abbrev pub ownAfterCall : Own → BoardCall → Own
+ownAfterCall own PowerUp = fresh Eight
+ownAfterCall own (PowerUpAt words) =
+    if eqb words 4 then fresh Four
+    else if eqb words 8 then fresh Eight
+    else if eqb words 16 then fresh Sixteen
+    else own
+ownAfterCall own (Make c) = more own (c ∷ [])
 ownAfterCall own (Report f) = own
 ownAfterCall own Look = own
-ownAfterCall own (StepAndLook sck sdi ss) = own ++ (ClockStep sck sdi ss ∷ [])
+ownAfterCall own (StepAndLook sck sdi ss) = more own (ClockStep sck sdi ss ∷ [])
 
-abbrev pub ownAfterRun : ℕ → List Module → List Call → ℕ → ℕ → ℕ → List Call
+abbrev pub ownAfterRun : ℕ → List Module → Own → ℕ → ℕ → ℕ → Own
 ownAfterRun k ms own a b limit =
-    if eqb a k then own ++ runHostCalls (at ms a) (at ms b) limit
-    else if eqb b k then own ++ runClientCalls (at ms a) (at ms b) limit
+    if eqb a k then more own (runHostCalls (at ms a) (at ms b) limit)
+    else if eqb b k then more own (runClientCalls (at ms a) (at ms b) limit)
     else own
 
-abbrev pub ownAfter : ℕ → List Module → List Call → Step → List Call
+abbrev pub ownAfter : ℕ → List Module → Own → Step → Own
 ownAfter k ms own (one n c) = if eqb (firstNumber (boardRows (length ms) n)) 0 && eqb n k then ownAfterCall own c else own
 ownAfter k ms own (two a b limit) =
     if eqb (firstNumber (pairRows (length ms) a b)) 0 && eqb (refusalOf (at ms a) (at ms b) limit) 0 then ownAfterRun k ms own a b limit else own
 
-abbrev pub ownCalls : ℕ → List Module → List Call → List Step → List Call
+abbrev pub ownCalls : ℕ → List Module → Own → List Step → Own
 ownCalls k ms own [] = own
 ownCalls k ms own (s ∷ ss) = ownCalls k (boardStepped ms s) (ownAfter k ms own s) ss
 
@@ -129,7 +150,7 @@ pub record Boards : Type 0 where
       pairOf ms a b limit .after ≡ ms
   pub joined : (ms : List Module) (a b limit : ℕ) → firstNumber (pairRows (length ms) a b) ≡ 0 → Joined ms a b limit
   pub each : (size : ℕ) (steps : List Step) (k : ℕ) → k < size →
-      at (boardAfter (replicate size poweredUp) steps) k
-      ≡ life powerUp (ownCalls k (replicate size poweredUp) [] steps) .now
+      let own : Own = ownCalls k (replicate size poweredUp) (fresh Eight) steps in
+      at (boardAfter (replicate size poweredUp) steps) k ≡ life (powerUp (own .depth)) (own .calls) .now
   pub oneCall : (ms : List Module) (n : ℕ) (c : BoardCall) (x y : Boarded) → x ≡ boardOf ms n c → y ≡ boardOf ms n c → x ≡ y
   pub onePair : (ms : List Module) (a b limit : ℕ) (x y : Paired) → x ≡ pairOf ms a b limit → y ≡ pairOf ms a b limit → x ≡ y

@@ -13,7 +13,7 @@ use Rattle.spi_rules.specs.Calls.{poweredUp}
 use Rattle.spi_link_rules.specs.Link.{linkSaidOf}
 use Rattle.spi_clock_rules.specs.Clock.{saidClock}
 use Rattle.spi_board_rules.specs.declared.BoardCall.{BoardCall}
-use Rattle.spi_board_rules.specs.declared.BoardCall.the-variants.{PowerUp, Make, Report, Look, StepAndLook}
+use Rattle.spi_board_rules.specs.declared.BoardCall.the-variants.{PowerUp, PowerUpAt, Make, Report, Look, StepAndLook}
 use Rattle.spi_board_rules.specs.declared.BoardAnswer.{BoardAnswer}
 use Rattle.spi_board_rules.specs.declared.BoardAnswer.the-variants.{Refused, Powered, Made, Told, Shown, Stepped}
 use Rattle.spi_board_rules.specs.declared.PairAnswer.{PairAnswer}
@@ -100,6 +100,10 @@ boardExamples =
     ∷ gives (fresh 5) 0 PowerUp 21
     ∷ gives (fresh 1) 0 PowerUp 0
     ∷ gives (fresh 4) 3 PowerUp 0
+    ∷ gives (fresh 5) 0 (PowerUpAt 12) 21
+    ∷ gives (fresh 4) 4 (PowerUpAt 12) 22
+    ∷ gives (fresh 4) 3 (PowerUpAt 12) 25
+    ∷ gives (fresh 4) 3 (PowerUpAt 16) 0
     ∷ pairGives (fresh 5) 0 1 16 21
     -- no such module, before 1 and 8; and after 21
     ∷ gives (fresh 4) 4 (Make (Read 9)) 22
@@ -115,12 +119,12 @@ boardExamples =
     ∷ gives (after 4 ready) 1 (StepAndLook true true true) 0
     ∷ gives (after 4 ready) 3 (StepAndLook true true true) 0
     -- no such module, and the same one twice, before 11; and after 21
-    ∷ pairGives (fresh 4) 4 0 289 22
-    ∷ pairGives (fresh 4) 0 4 289 22
-    ∷ pairGives (fresh 4) 2 2 289 22
-    ∷ pairGives (fresh 4) 2 3 289 11
-    ∷ pairGives (fresh 4) 2 3 288 2
-    ∷ pairGives [] 2 2 289 21
+    ∷ pairGives (fresh 4) 4 0 545 22
+    ∷ pairGives (fresh 4) 0 4 545 22
+    ∷ pairGives (fresh 4) 2 2 545 22
+    ∷ pairGives (fresh 4) 2 3 545 11
+    ∷ pairGives (fresh 4) 2 3 544 2
+    ∷ pairGives [] 2 2 545 21
     -- a call changes the module that it names
     ∷ shows (after 4 ready) (0x0000 ∷ 0x0000 ∷ 0x8000 ∷ 0x0020 ∷ 0x0000 ∷ 0x0000 ∷ 0x8000 ∷ 0x0000 ∷ [])
     ∷ shows (boardAfter (after 4 ready) (one 1 PowerUp ∷ [])) (0x0000 ∷ 0x0000 ∷ 0x0000 ∷ 0x0000 ∷ 0x0000 ∷ 0x0000 ∷ 0x8000 ∷ 0x0000 ∷ [])

@@ -6,7 +6,7 @@ use lib.Dec.{eqb}
 use lib.ListN.{replicate}
 use Rattle.spi_types.specs.declared.Call.the-variants.{Tick, Pin}
 use Rattle.spi_board_rules.specs.declared.BoardCall.{BoardCall}
-use Rattle.spi_board_rules.specs.declared.BoardCall.the-variants.{PowerUp, Make, StepAndLook}
+use Rattle.spi_board_rules.specs.declared.BoardCall.the-variants.{PowerUp, PowerUpAt, Make, StepAndLook}
 use Rattle.spi_board_rules.specs.declared.OwedAnswer.{OwedAnswer}
 use Rattle.spi_board_rules.specs.declared.OwedAnswer.the-variants.{Refused, Owes}
 use Rattle.spi_board_rules.specs.Board.{boardNumberOf, Step, one, two, boardAfter}
@@ -91,6 +91,10 @@ owedExamples =
     ∷ owes 4 (client ++ (host ++ calls 1 (write 0 0x0000 ∷ []))) 1
     ∷ owes 4 (client ++ (host ++ calls 1 (PowerUp ∷ []))) 1
     ∷ owes 4 (client ++ (host ++ calls 7 (PowerUp ∷ []))) 4
+    -- also with a depth, but not with one that there is not; at depth 4 five are accepted, and a sixth is refused
+    ∷ owes 4 (client ++ (host ++ calls 1 (PowerUpAt 4 ∷ []))) 1
+    ∷ owes 4 (client ++ (host ++ calls 1 (PowerUpAt 12 ∷ []))) 4
+    ∷ owes 4 (client ++ calls 1 (PowerUpAt 4 ∷ write 1 0x0020 ∷ write 2 0x0001 ∷ write 0 0x8000 ∷ replicate 6 (write 3 0x0001))) 6
     -- a linked run finishes words at both ends
     ∷ owes 4 (ready ++ (two 1 3 15 ∷ [])) 2
     ∷ owes 4 (ready ++ (two 1 3 16 ∷ [])) 0
@@ -101,7 +105,7 @@ owedExamples =
     -- calls and linked runs that the board refuses, and runs that the two modules refuse, leave it
     ∷ leaves7 5 (one 0 PowerUp ∷ two 0 1 16 ∷ [])
     ∷ leaves7 4 (one 4 PowerUp ∷ two 4 0 16 ∷ two 0 4 16 ∷ two 2 2 16 ∷ [])
-    ∷ leaves7 4 (two 0 1 16 ∷ two 0 1 289 ∷ [])
+    ∷ leaves7 4 (two 0 1 16 ∷ two 0 1 545 ∷ [])
     -- a total that is not the list's own stops at either end
     ∷ owesFrom 65535 [] host 65535
     ∷ owesFrom 65532 [] host 65535

@@ -6,10 +6,11 @@ use spi_types::Answer;
 use spi_types::Call;
 use spi_types::Output;
 
-// A call of one module of the board: power-up, a call, a clock report for an instruction rate, a look at its pins, or a clock step with
-// the levels SCK, SDI and SS and a look at its pins after it.
+// A call of one module of the board: power-up, power-up with a depth, a call, a clock report for an instruction rate, a look at its pins,
+// or a clock step with the levels SCK, SDI and SS and a look at its pins after it.
 pub enum BoardCall {
     PowerUp,
+    PowerUpAt(u32),
     Make(Call),
     Report(u32),
     Look,

@@ -28,7 +28,7 @@ pub fn empty_transmit() -> Transmit
     ensures { λ r. ⌜ r ≡ emptyTransmit ⌝ }
 {
     Transmit {
-        words: [0; 8],
+        words: [0; 16],
         write: CpuWrite(0),
         read: SpiRead(0),
         count: 0,
@@ -40,7 +40,7 @@ pub fn empty_receive() -> Receive
     ensures { λ r. ⌜ r ≡ emptyReceive ⌝ }
 {
     Receive {
-        words: [0; 8],
+        words: [0; 16],
         write: SpiWrite(0),
         read: CpuRead(0),
         count: 0,

@@ -12,13 +12,15 @@ use borrow.Author.Tests.{ne-eqb, leb-true, le-leb, leb-false, lt-leb}
 use lib.Dec.{eqb, leb}
 use lib.ListN.{getD}
 use Rattle.laws.proofs.Keeps.{if-keeps, if-true, if-false, by-test}
+use Rattle.spi_types.specs.declared.Depth.{Depth}
+use Rattle.spi_types.specs.declared.Depth.the-variants.{Four, Eight, Sixteen}
 use Rattle.spi_types.specs.declared.Settings.{Settings}
 use Rattle.spi_types.specs.declared.Event.{Event}
 use Rattle.spi_types.specs.declared.Event.the-variants.{Taken, Appended, Left, Finished, Written}
 use Rattle.spi_rules.specs.Flags.{Seen, conditions, raised}
 use Rattle.spi_rules.specs.InBits.{room}
-use Rattle.spi_rules.specs.Settings.{depthOf, enhancedDepth}
-use Rattle.spi_rules.specs.Interrupts.{enhancedRaises, standardRaises, raises}
+use Rattle.spi_rules.specs.Settings.{wordsOf, depthOf}
+use Rattle.spi_rules.specs.Interrupts.{threeQuarters, enhancedRaises, standardRaises, raises}
 
 -- SISEL is 0 to 7, or none of them.
 sisel-cases : (P : ℕ → Type 0) → P 0 → P 1 → P 2 → P 3 → P 4 → P 5 → P 6 → P 7 →
@@ -75,13 +77,18 @@ event read added left finished accepted unread waiting none =
       none = none;
     }
 
--- Three quarters of 8.
-three-quarters : (u : ℕ) → leb 24 (4 * u) ≡ leb 6 u
-three-quarters u = go (leb 6 u) refl
+-- Three quarters of a depth that can be chosen.
+quarters : (m q u : ℕ) → m ≡ 4 * q → leb m (4 * u) ≡ leb q u
+quarters m q u e = go (leb q u) refl
   where
-    go : (t : Bool) → leb 6 u ≡ t → leb 24 (4 * u) ≡ t
-    go true e = let h : 6 ≤ u = leb-true 6 u e in le-leb 24 (4 * u) (omega arith)
-    go false e = let h : u < 6 = leb-false 6 u e in lt-leb 24 (4 * u) (omega arith)
+    go : (t : Bool) → leb q u ≡ t → leb m (4 * u) ≡ t
+    go true f = let h : q ≤ u = leb-true q u f in le-leb m (4 * u) (omega arith)
+    go false f = let h : u < q = leb-false q u f in lt-leb m (4 * u) (omega arith)
+
+three-quarters : (depth : Depth) (u : ℕ) → leb (3 * wordsOf depth) (4 * u) ≡ leb (threeQuarters (wordsOf depth)) u
+three-quarters Four u = quarters 12 3 u refl
+three-quarters Eight u = quarters 24 6 u refl
+three-quarters Sixteen u = quarters 48 12 u refl
 
 -- No alternative.
 no-condition : (d u w : ℕ) (none : Bool) (k : ℕ) → getD (conditions d (event false false false false false u w none)) k false ≡ false
@@ -99,12 +106,15 @@ raised-none s v er ea el ef ec =
     ∙ if-keeps (λ (b : Bool). b ≡ false) (s .con2 .spiben) _ _ (λ e. no-condition (room s) (v .unread) (v .waiting) (v .none) (s .sisel)) (λ e. refl)
 
 module _ (s : Settings) where
-  -- In enhanced operation the depth is 8.
-  depth-is : s .con2 .spiben ≡ true → depthOf s ≡ 8
-  depth-is e = if-true (s .con2 .spiben) enhancedDepth 1 e
+  -- In enhanced operation the depth is the chosen one.
+  abbrev words : ℕ
+  words = wordsOf (s .depth)
+
+  depth-is : s .con2 .spiben ≡ true → depthOf s ≡ words
+  depth-is e = if-true (s .con2 .spiben) words 1 e
 
   -- What an event raises in enhanced operation, and in standard operation.
-  in-enhanced : s .con2 .spiben ≡ true → (x : Event) → raises s x ≡ enhancedRaises 8 (s .sisel) x
+  in-enhanced : s .con2 .spiben ≡ true → (x : Event) → raises s x ≡ enhancedRaises words (s .sisel) x
   unfolding raises
   in-enhanced e x =
       if-true (s .con2 .spiben) _ _ e ∙ ap (λ (d : ℕ). enhancedRaises d (s .sisel) x) (depth-is e)
@@ -120,24 +130,24 @@ alike a l {x} {y} {z} {x'} {y'} {z'} ex ey ez =
     ap₂ (λ (p q : Bool). ((a && p) || (l && q)) || z) ex ey ∙ ap (λ (p : Bool). ((a && x') || (l && y')) || p) ez
 
 -- Where SISEL names none of the conditions, no event raises the flag.
-module _ (k : ℕ) (u : ℕ) where
-  taken-beyond : enhancedRaises 8 (suc (suc (suc (suc (suc (suc (suc (suc k)))))))) (Taken u) ≡ false
+module _ (d k u : ℕ) where
+  taken-beyond : enhancedRaises d (suc (suc (suc (suc (suc (suc (suc (suc k)))))))) (Taken u) ≡ false
   taken-beyond = rw (beyond k 0 (omega arith)) refl
 
-  appended-beyond : enhancedRaises 8 (suc (suc (suc (suc (suc (suc (suc (suc k)))))))) (Appended u) ≡ false
+  appended-beyond : enhancedRaises d (suc (suc (suc (suc (suc (suc (suc (suc k)))))))) (Appended u) ≡ false
   appended-beyond = rw (beyond k 1 (omega arith), beyond k 2 (omega arith), beyond k 3 (omega arith)) refl
 
-  left-beyond : enhancedRaises 8 (suc (suc (suc (suc (suc (suc (suc (suc k)))))))) (Left u) ≡ false
+  left-beyond : enhancedRaises d (suc (suc (suc (suc (suc (suc (suc (suc k)))))))) (Left u) ≡ false
   left-beyond = rw (beyond k 4 (omega arith), beyond k 6 (omega arith)) refl
 
-  finished-beyond : enhancedRaises 8 (suc (suc (suc (suc (suc (suc (suc (suc k)))))))) (Finished u) ≡ false
+  finished-beyond : enhancedRaises d (suc (suc (suc (suc (suc (suc (suc (suc k)))))))) (Finished u) ≡ false
   finished-beyond = rw (beyond k 5 (omega arith)) refl
 
-  written-beyond : enhancedRaises 8 (suc (suc (suc (suc (suc (suc (suc (suc k)))))))) (Written u) ≡ false
+  written-beyond : enhancedRaises d (suc (suc (suc (suc (suc (suc (suc (suc k)))))))) (Written u) ≡ false
   written-beyond = rw (beyond k 7 (omega arith)) refl
 
--- In enhanced operation the conditions are those at depth 8.
-enhanced-raised : (s : Settings) (v : Seen) → s .con2 .spiben ≡ true → getD (conditions 8 v) (s .sisel) false ≡ raised s v
+-- In enhanced operation the conditions are those at the chosen depth.
+enhanced-raised : (s : Settings) (v : Seen) → s .con2 .spiben ≡ true → getD (conditions (words s) v) (s .sisel) false ≡ raised s v
 enhanced-raised s v e =
     ap (λ (d : ℕ). getD (conditions d v) (s .sisel) false) (sym (depth-is s e)) ∙ sym (if-true (s .con2 .spiben) _ _ e)
 
@@ -147,8 +157,8 @@ taken-raises s u w none =
     by-test (s .con2 .spiben)
     (λ e.
     in-enhanced s e (Taken u)
-    ∙ sisel-cases (λ k. enhancedRaises 8 k (Taken u) ≡ getD (conditions 8 (event true false false false false u w none)) k false)
-    refl refl refl refl refl refl refl refl (λ k. taken-beyond k u) (s .sisel)
+    ∙ sisel-cases (λ k. enhancedRaises (words s) k (Taken u) ≡ getD (conditions (words s) (event true false false false false u w none)) k false)
+    refl refl refl refl refl refl refl refl (λ k. taken-beyond (words s) k u) (s .sisel)
     ∙ enhanced-raised s (event true false false false false u w none) e)
     (λ e. in-standard s e (Taken u) ∙ sym (if-false (s .con2 .spiben) _ _ e))
 
@@ -158,22 +168,23 @@ pub finish-raises : (s : Settings) (a l : Bool) (u w c : ℕ) (none : Bool) → 
 finish-raises s a l u w c none last = by-test (s .con2 .spiben) in-enhanced' in-standard'
   where
     enhanced : (k : ℕ) →
-        (((a && enhancedRaises 8 k (Appended u)) || (l && enhancedRaises 8 k (Left w))) || enhancedRaises 8 k (Finished c))
-        ≡ getD (conditions 8 (event false a l true false u w none)) k false
+        (((a && enhancedRaises (words s) k (Appended u)) || (l && enhancedRaises (words s) k (Left w))) || enhancedRaises (words s) k (Finished c))
+        ≡ getD (conditions (words s) (event false a l true false u w none)) k false
     enhanced =
         sisel-cases
         (λ k.
-        (((a && enhancedRaises 8 k (Appended u)) || (l && enhancedRaises 8 k (Left w))) || enhancedRaises 8 k (Finished c))
-        ≡ getD (conditions 8 (event false a l true false u w none)) k false)
+        (((a && enhancedRaises (words s) k (Appended u)) || (l && enhancedRaises (words s) k (Left w))) || enhancedRaises (words s) k (Finished c))
+        ≡ getD (conditions (words s) (event false a l true false u w none)) k false)
         (only-third a l false)
         (only-first a l true ∙ and-true a)
-        (only-first a l (leb 6 u || false) ∙ ap (λ (b : Bool). a && b) (or-false (leb 6 u) ∙ sym (three-quarters u)))
-        (only-first a l (eqb u 8))
-        (only-second a l (eqb (w + 1) 8 || false) ∙ ap (λ (b : Bool). l && b) (or-false (eqb (w + 1) 8)))
+        (only-first a l (leb (threeQuarters (words s)) u || false)
+        ∙ ap (λ (b : Bool). a && b) (or-false (leb (threeQuarters (words s)) u) ∙ sym (three-quarters (s .depth) u)))
+        (only-first a l (eqb u (words s)))
+        (only-second a l (eqb (w + 1) (words s) || false) ∙ ap (λ (b : Bool). l && b) (or-false (eqb (w + 1) (words s))))
         (only-third a l (eqb c 0) ∙ sym last)
         (only-second a l (eqb w 0))
         (only-third a l false)
-        (λ k. alike a l (appended-beyond k u) (left-beyond k w) (finished-beyond k c) ∙ only-third a l false)
+        (λ k. alike a l (appended-beyond (words s) k u) (left-beyond (words s) k w) (finished-beyond (words s) k c) ∙ only-third a l false)
 
     in-enhanced' : s .con2 .spiben ≡ true →
         (((a && raises s (Appended u)) || (l && raises s (Left w))) || raises s (Finished c)) ≡ raised s (event false a l true false u w none)
@@ -195,22 +206,22 @@ pub write-raises : (s : Settings) (l : Bool) (u w : ℕ) (none : Bool) →
 write-raises s l u w none = by-test (s .con2 .spiben) in-enhanced' in-standard'
   where
     enhanced : (k : ℕ) →
-        ((l && enhancedRaises 8 k (Left w)) || enhancedRaises 8 k (Written w))
-        ≡ getD (conditions 8 (event false false l false true u w none)) k false
+        ((l && enhancedRaises (words s) k (Left w)) || enhancedRaises (words s) k (Written w))
+        ≡ getD (conditions (words s) (event false false l false true u w none)) k false
     enhanced =
         sisel-cases
         (λ k.
-        ((l && enhancedRaises 8 k (Left w)) || enhancedRaises 8 k (Written w))
-        ≡ getD (conditions 8 (event false false l false true u w none)) k false)
+        ((l && enhancedRaises (words s) k (Left w)) || enhancedRaises (words s) k (Written w))
+        ≡ getD (conditions (words s) (event false false l false true u w none)) k false)
         (only-third false l false)
         (only-third false l false)
         (only-third false l false)
         (only-third false l false)
-        (only-second false l (eqb (w + 1) 8 || false) ∙ ap (λ (b : Bool). l && b) (or-false (eqb (w + 1) 8)))
+        (only-second false l (eqb (w + 1) (words s) || false) ∙ ap (λ (b : Bool). l && b) (or-false (eqb (w + 1) (words s))))
         (only-third false l false)
         (only-second false l (eqb w 0))
-        (only-third false l (eqb w 8))
-        (λ k. alike false l {x = false} {x' = false} refl (left-beyond k w) (written-beyond k w) ∙ only-third false l false)
+        (only-third false l (eqb w (words s)))
+        (λ k. alike false l {x = false} {x' = false} refl (left-beyond (words s) k w) (written-beyond (words s) k w) ∙ only-third false l false)
 
     in-enhanced' : s .con2 .spiben ≡ true →
         ((l && raises s (Left w)) || raises s (Written w)) ≡ raised s (event false false l false true u w none)

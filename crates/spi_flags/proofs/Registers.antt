@@ -8,7 +8,7 @@ use mathlib.Core.Path.{_≡_, refl, sym, ap, ap₂, _∙_}
 use native.Mathlib.Nat.{mod-eq-of-lt}
 use native.Mathlib.Omega.{arith}
 use mir.Val.{boolByte}
-use borrow.Author.Tests.{ltb-true, ltb-false, le-leb, lt-leb, eqb-true, eqb-false, ne-eqb}
+use borrow.Author.Tests.{ltb-true, ltb-false, le-ltb, le-leb, lt-leb, eqb-true, eqb-false, ne-eqb}
 use lib.Dec.{eqb, ltb, leb}
 use lib.ListN.{length}
 use Rattle.laws.specs.Choice.{if_then_else_}
@@ -100,23 +100,23 @@ full-is d c h = go (eqb c d) refl
     go true e = let same : c ≡ d = eqb-true c d e in le-leb d c (omega arith)
     go false e = let other : c ≡ d → ⊥ = eqb-false c d e in lt-leb d c (omega arith)
 
--- At most 7 of up to 8 words are shown.
-at-most-7-is : (c : ℕ) → c ≤ 8 → atMost7 c ≡ (if eqb c 8 then 7 else c)
+-- At most 7 words are shown.
+at-most-7-is : (c : ℕ) → atMost7 c ≡ (if ltb 7 c then 7 else c)
 unfolding atMost7
-at-most-7-is c h =
+at-most-7-is c =
     by-test (ltb c 7)
     (λ e.
     let small : c < 7 = ltb-true c 7 e in
-    if-true (ltb c 7) c 7 e ∙ sym (if-false (eqb c 8) 7 c (ne-eqb c 8 (omega arith))))
+    if-true (ltb c 7) c 7 e ∙ sym (if-false (ltb 7 c) 7 c (le-ltb 7 c (omega arith))))
     (λ e.
     let large : 7 ≤ c = ltb-false c 7 e in
     if-false (ltb c 7) c 7 e
-    ∙ by-test (eqb c 8)
-    (λ f. sym (if-true (eqb c 8) 7 c f))
+    ∙ by-test (ltb 7 c)
+    (λ f. sym (if-true (ltb 7 c) 7 c f))
     (λ f.
-    let other : c ≡ 8 → ⊥ = eqb-false c 8 f in
+    let most : c ≤ 7 = ltb-false 7 c f in
     let seven : 7 ≡ c = omega arith in
-    seven ∙ sym (if-false (eqb c 8) 7 c f)))
+    seven ∙ sym (if-false (ltb 7 c) 7 c f)))
 
 -- No word is loaded or begun exactly if none has left the transmit buffer unfinished and the wire is quiet.
 free-is : (s : Settings) (sh : Shift) → isFree sh ≡ (eqb (length (unfinished s sh)) 0 && not (isUnder (wayOf sh)))
@@ -175,16 +175,10 @@ module _ (x : Watched) (h : ModuleHolds (x .now))
       ap₂ (λ (a b : ℕ). if s .con1 .msten then a else b) (sym waits) (sym unreads)
       ∙ sym (if-ap length (s .con1 .msten) (waitingIn m) (unreadIn m))
 
-  counts-most : counts m ≤ 8
-  counts-most =
-      if-keeps (λ (l : List ℕ). length l ≤ 8) (s .con1 .msten) (waitingIn m) (unreadIn m)
-      (λ e. omega (arith, waits, h .transmit .fits, depth-most s))
-      (λ e. omega (arith, unreads, h .receive .fits, depth-most s))
-
-  spibec-is : spibec m ≡ (if showsEnhanced s then (if eqb (counts m) 8 then 7 else counts m) else 0)
+  spibec-is : spibec m ≡ (if showsEnhanced s then (if ltb 7 (counts m) then 7 else counts m) else 0)
   unfolding spibec
   spibec-is =
-      ap (λ (k : ℕ). if showsEnhanced s then k else 0) (ap atMost7 counts-is ∙ at-most-7-is (counts m) counts-most)
+      ap (λ (k : ℕ). if showsEnhanced s then k else 0) (ap atMost7 counts-is ∙ at-most-7-is (counts m))
 
   spibec-small : spibec m < 8
   unfolding spibec atMost7

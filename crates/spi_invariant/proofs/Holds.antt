@@ -13,6 +13,7 @@ use borrow.Author.Tests.{not-false}
 use lib.Dec.{eqb, ltb}
 use Rattle.laws.specs.Choice.{if_then_else_}
 use Rattle.laws.proofs.Keeps.{if-keeps, clash, and-left, and-right, and-rest}
+use Rattle.spi_types.specs.declared.Depth.{Depth}
 use Rattle.spi_types.specs.declared.Settings.{Settings}
 use Rattle.spi_types.specs.declared.Engine.{Engine}
 use Rattle.spi_types.specs.declared.Module.{Module}
@@ -24,7 +25,7 @@ use Rattle.spi_types.specs.declared.Call.the-variants.{Read, Write, Tick, Pin, 
 use Rattle.spi_rules.specs.Settings.{clockStops, ownClock}
 use Rattle.spi_rules.specs.Registers.{spitbf, con1From, con2From, lowBits}
 use Rattle.spi_rules.specs.Buffers.{empty}
-use Rattle.spi_rules.specs.Calls.{afterCalls, answering, poweredUp, readBuf, readOf, withCon1, withCon2, writeBuf, writeOf, clockStepOf, tickOf, pinsOf, clearOf, performOf}
+use Rattle.spi_rules.specs.Calls.{afterCalls, answering, poweredAt, readBuf, readOf, withCon1, withCon2, writeBuf, writeOf, clockStepOf, tickOf, pinsOf, clearOf, performOf}
 use Rattle.spi_rules.specs.Invariant.{Emptied, ModuleHolds}
 use Rattle.spi_rules.proofs.Sizes.{low-bits-fit}
 use Rattle.spi_rules.proofs.ClockSteps.{tick-cases, pins-cases, step-follows}
@@ -36,10 +37,10 @@ use Rattle.spi_invariant.proofs.Buf.{word-taken-holds, word-written-hol
 use Rattle.spi_invariant.proofs.Settings.{stat-keeps, configured-keeps}
 
 -- Power-up has the invariant.
-pub powered-up-holds : ModuleHolds poweredUp
-unfolding poweredUp con1From con2From
-powered-up-holds =
-    reached-off poweredUp refl
+pub powered-up-holds : (depth : Depth) → ModuleHolds (poweredAt depth)
+unfolding poweredAt con1From con2From
+powered-up-holds depth =
+    reached-off (poweredAt depth) refl
     (record { sisel = omega arith; spre = omega arith; ppre = omega arith; allowed = λ on. clash false on refl })
     (record { transmit = refl; receive = refl; shift = refl })
 
@@ -146,5 +147,5 @@ calls-keep [] m h = h
 calls-keep (c ∷ cs) m h = calls-keep cs (performOf m c .after) (call-keeps m c h)
 
 -- What calls reach from power-up has the invariant.
-pub reached-holds : (cs : List Call) → ModuleHolds (afterCalls poweredUp cs)
-reached-holds cs = calls-keep cs poweredUp powered-up-holds
+pub reached-holds : (depth : Depth) (cs : List Call) → ModuleHolds (afterCalls (poweredAt depth) cs)
+reached-holds depth cs = calls-keep cs (poweredAt depth) (powered-up-holds depth)

@@ -74,7 +74,7 @@ outgoing s n = loadedWord (n .shift) ++ waiting (depthOf s) (n .transmit)
 -- Settings with other STAT bits.
 abbrev pub restat : Settings → Bool → Bool → ℕ → Settings
 restat s spien spisidl sisel =
-    record { spien = spien; spisidl = spisidl; sisel = sisel; con1 = s .con1; con2 = s .con2 }
+    record { depth = s .depth; spien = spien; spisidl = spisidl; sisel = sisel; con1 = s .con1; con2 = s .con2 }
 
 -- An engine with other parts than the transmit buffer and the levels SCK and SS.
 abbrev pub elsewhere : Engine → Receive → Shift → Bool → Bool → Bool → Bool → Engine

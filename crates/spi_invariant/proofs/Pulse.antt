@@ -12,6 +12,7 @@ use lib.Dec.{eqb, ltb}
 use Rattle.laws.specs.Choice.{if_then_else_}
 use Rattle.laws.proofs.Keeps.{if-keeps, if-true, if-false, clash, by-test, and-left, and-right, and-both, and-rest-first, or-right, or-rest, or-rest-first, like, unlike}
 use Rattle.word_order.specs.Bits.{bitOf}
+use Rattle.spi_types.specs.declared.Depth.{Depth}
 use Rattle.spi_types.specs.declared.Settings.{Settings}
 use Rattle.spi_types.specs.declared.Engine.{Engine}
 use Rattle.spi_types.specs.declared.Transmit.{Transmit}
@@ -36,7 +37,7 @@ use Rattle.spi_rules.specs.Bits.{receivedAfter, progressed}
 use Rattle.spi_rules.specs.Finish.{overflowed, wordAppended, isLost, delivered, sentDropped, freed, finished}
 use Rattle.spi_rules.specs.Select.{selectRemembered, aborted, deselected, selectSeen}
 use Rattle.spi_rules.specs.Edge.{wordEdges, shifted, advanced, advancedIfBegun, underWay, pulseDue, active, pulseAfter, pulsed, clocked, edged, levels, stepped}
-use Rattle.spi_rules.specs.Calls.{refuse, answering, poweredUp, wordTaken, readBuf, readOf, turnsOn, turnsOff, statWritten, writeStat, withCon1, withCon2, configured, wordWritten, writeBuf, writeOf, clockStepOf, tickOf, pinsOf, clearOf, performOf}
+use Rattle.spi_rules.specs.Calls.{refuse, answering, poweredAt, wordTaken, readBuf, readOf, turnsOn, turnsOff, statWritten, writeStat, withCon1, withCon2, configured, wordWritten, writeBuf, writeOf, clockStepOf, tickOf, pinsOf, clearOf, performOf}
 use Rattle.spi_rules.specs.Invariant.{ShiftHolds, ModuleHolds, PulseFits, PulseHolds, MarkFits, Reached}
 use Rattle.spi_rules.proofs.Sizes.{width-eight}
 use Rattle.spi_rules.proofs.ClockSteps.{step-cases, tick-cases, pins-cases}
@@ -477,10 +478,10 @@ module _ (m : Module) (k : ModuleHolds m) (h : PulseHolds m) (g : MarkFits (m .s
   call-fits Clear = clear-fits
 
 -- Power-up, and every call.
-pub powered-up-reached : Reached poweredUp
-unfolding poweredUp emptyReceive
-powered-up-reached =
-    record { holds = powered-up-holds; pulse = λ on. clash false on refl; mark = λ stands. clash false stands refl }
+pub powered-up-reached : (depth : Depth) → Reached (poweredAt depth)
+unfolding poweredAt emptyReceive
+powered-up-reached depth =
+    record { holds = powered-up-holds depth; pulse = λ on. clash false on refl; mark = λ stands. clash false stands refl }
 
 pub call-reaches : (m : Module) (c : Call) → Reached m → Reached (performOf m c .after)
 call-reaches m c h =

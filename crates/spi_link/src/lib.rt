@@ -11,7 +11,7 @@ ghost use Rattle.spi_memory.specs.Memory.{moduleIn};
 ghost use Rattle.spi_link.specs.Wire.{openLevel, Linkable, Wired, runIn, Links};
 
 // The most edges that a run may be asked for: two for each of 16 bits of nine words.
-const MOST_EDGES: u32 = 2 * 16 * (8 + 1);
+const MOST_EDGES: u32 = 2 * 16 * (16 + 1);
 
 // The level that the other end reads, of an SDO that is driven unless DISSDO is set.
 fn level(w: &[u16; 96]) -> bool

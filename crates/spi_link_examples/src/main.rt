@@ -1,5 +1,5 @@
-// Linked runs, run on the proved call: a pair in each clock mode and width moves a full buffer each way, the limits 288 and
-// 289, and framed ends. A line for a run is the mode (CKP, CKE, width), then the edges used or `E` and the refusal number; the lines
+// Linked runs, run on the proved call: a pair in each clock mode and width moves a full buffer each way, the limits 544 and
+// 545, and framed ends. A line for a run is the mode (CKP, CKE, width), then the edges used or `E` and the refusal number; the lines
 // under it are the words that the host and the client then read.
 use libc::STDOUT_FILENO;
 use spi_types::Answer;
@@ -97,16 +97,16 @@ fn pair(mode: &[u8], host: Module, client: Module, limit: u32) {
 }
 
 fn main() {
-    pair(b"CKP 0 CKE 0 w  8:", enabled(0x0020), enabled(0x0080), 288);
-    pair(b"CKP 0 CKE 1 w  8:", enabled(0x0120), enabled(0x0180), 288);
-    pair(b"CKP 1 CKE 0 w  8:", enabled(0x0060), enabled(0x00C0), 288);
-    pair(b"CKP 1 CKE 1 w  8:", enabled(0x0160), enabled(0x01C0), 288);
-    pair(b"CKP 0 CKE 0 w 16:", enabled(0x0420), enabled(0x0480), 288);
-    pair(b"CKP 0 CKE 1 w 16:", enabled(0x0520), enabled(0x0580), 288);
-    pair(b"CKP 1 CKE 0 w 16:", enabled(0x0460), enabled(0x04C0), 288);
-    pair(b"CKP 1 CKE 1 w 16:", enabled(0x0560), enabled(0x05C0), 288);
-    pair(b"CKP 0 CKE 0 w 16:", enabled(0x0420), enabled(0x0480), 289);
+    pair(b"CKP 0 CKE 0 w  8:", enabled(0x0020), enabled(0x0080), 544);
+    pair(b"CKP 0 CKE 1 w  8:", enabled(0x0120), enabled(0x0180), 544);
+    pair(b"CKP 1 CKE 0 w  8:", enabled(0x0060), enabled(0x00C0), 544);
+    pair(b"CKP 1 CKE 1 w  8:", enabled(0x0160), enabled(0x01C0), 544);
+    pair(b"CKP 0 CKE 0 w 16:", enabled(0x0420), enabled(0x0480), 544);
+    pair(b"CKP 0 CKE 1 w 16:", enabled(0x0520), enabled(0x0580), 544);
+    pair(b"CKP 1 CKE 0 w 16:", enabled(0x0460), enabled(0x04C0), 544);
+    pair(b"CKP 1 CKE 1 w 16:", enabled(0x0560), enabled(0x05C0), 544);
+    pair(b"CKP 0 CKE 0 w 16:", enabled(0x0420), enabled(0x0480), 545);
     pair(b"CKP 0 CKE 0 w 16:", enabled(0x0420), enabled(0x0480), 32);
-    pair(b"framed host:", framed(0x0420), enabled(0x0480), 288);
-    pair(b"framed client:", enabled(0x0420), framed(0x0480), 288);
+    pair(b"framed host:", framed(0x0420), enabled(0x0480), 544);
+    pair(b"framed client:", enabled(0x0420), framed(0x0480), 544);
 }

@@ -9,7 +9,7 @@ use lib.Dec.{lit≤}
 use Rattle.spi_types.specs.declared.Module.{Module}
 use Rattle.spi_types.specs.declared.Call.{Call}
 use Rattle.spi_types.specs.declared.Refusal.{Refusal}
-use Rattle.spi_types.specs.declared.Refusal.the-variants.{NoSuchRegister, Disabled, Enabled, TransmitFull, ReceiveEmpty, WrongClock, NoRate, UnreadableLine, DifferentModes, TooManyEdges, Undivided, LateSampling, UnselectedCke, Overflowed}
+use Rattle.spi_types.specs.declared.Refusal.the-variants.{NoSuchRegister, Disabled, Enabled, TransmitFull, ReceiveEmpty, WrongClock, NoRate, UnreadableLine, DifferentModes, TooManyEdges, Undivided, LateSampling, UnselectedCke, Overflowed, NoSuchDepth}
 use Rattle.spi_rules.specs.Refusals.{numberOf}
 use Rattle.spi_rules.specs.Calls.{afterCalls}
 use Rattle.spi_rules.specs.Watch.{Watched, watchedCall, watchedCalls}
@@ -44,6 +44,7 @@ numbered Undivided = lit≤ tt
 numbered LateSampling = lit≤ tt
 numbered UnselectedCke = lit≤ tt
 numbered Overflowed = lit≤ tt
+numbered NoSuchDepth = lit≤ tt
 
 -- An answer with the number 0 tells the edges used, and one with another number is a refusal.
 is-used : (a : LinkAnswer) → linkSaidOf a .number ≡ 0 → a ≡ linked.Used (linkSaidOf a .edges)
@@ -98,7 +99,7 @@ linked-runs =
           let all = link-uses-owed host client limit _ (life-holds b cs .holds .holds) used (subst (λ (k : ℕ). k ≤ limit) held most) in
           (all .0 ∙ sym held, all .1);
       mostOwed = λ b cs on.
-          subst (λ (k : ℕ). k ≤ 288) (sym (owed-is-held (life b cs) (life-holds b cs .tied on)))
+          subst (λ (k : ℕ). k ≤ 544) (sym (owed-is-held (life b cs) (life-holds b cs .tied on)))
           (owed-most (life b cs .now) (life-holds b cs .holds .holds));
       staysSelected = λ host client limit e. link-selected host client limit _ (made host client limit e);
     }

@@ -1,5 +1,5 @@
 -- How far a linked run brings its host, from the edges that the host owes (proofs/OwedCalls.antt).
---     owed-most        no module that calls reach owes more than 288 edges
+--     owed-most        no module that calls reach owes more than 544 edges
 --     link-pays        the edges used are what the host's debt fell by
 --     link-uses-owed   with a limit of at least what the host owes, exactly that is used and the host is idle
 --     link-uses-limit  with a limit of at most that, exactly the limit is used
@@ -14,6 +14,7 @@ use borrow.Author.Tests.{ltb-true, ltb-false, not-false}
 use lib.Dec.{ltb}
 use lib.ListN.{length}
 use Rattle.laws.proofs.Keeps.{if-keeps, by-test, and-false, and-left, and-both, clash, or-left, or-right}
+use Rattle.spi_types.specs.declared.Depth.the-variants.{Sixteen}
 use Rattle.spi_types.specs.declared.Settings.{Settings}
 use Rattle.spi_types.specs.declared.Module.{Module}
 use Rattle.spi_types.specs.declared.Outcome.{Outcome}
@@ -22,14 +23,14 @@ use Rattle.spi_types.specs.declared.Shift.the-variants.{Free, Loaded, Begun}
 use Rattle.spi_types.specs.declared.Answer.the-variants.{NoEdge}
 use Rattle.spi_types.specs.declared.Call.{Call}
 use Rattle.spi_types.specs.declared.Call.the-variants.{Tick}
-use Rattle.spi_rules.specs.Settings.{widthOf, depthOf, enhancedDepth, framed, clockStops, ssenClient, ownClock, unframedHost}
+use Rattle.spi_rules.specs.Settings.{widthOf, wordsOf, depthOf, framed, clockStops, ssenClient, ownClock, unframedHost}
 use Rattle.spi_rules.specs.Refusals.{isDone, isEdge}
 use Rattle.spi_rules.specs.Registers.{isFree}
 use Rattle.spi_rules.specs.Calls.{afterCalls, refuse, answering, tickOf, sdoOf, performOf}
 use Rattle.spi_rules.specs.Invariant.{ModuleHolds}
 use Rattle.spi_rules.specs.Words.{unfinished, leftBuffer, waitingIn}
 use Rattle.spi_rules.specs.Demands.{edgesMade, IsIdle}
-use Rattle.spi_rules.proofs.Sizes.{width-most}
+use Rattle.spi_rules.proofs.Sizes.{width-most, depth-most}
 use Rattle.spi_rules.proofs.BuffersOrder.{waiting-length}
 use Rattle.spi_rules.proofs.ClockSteps.{stands, tick-cases, tick-stands, tick-own}
 use Rattle.spi_rules.proofs.RefusalsUnchanged.{no-edge-unchanged}
@@ -50,16 +51,11 @@ one-unfinished s (Loaded word) = omega arith
 one-unfinished s (Begun p) =
     if-keeps (λ (l : List ℕ). length l ≤ 1) (p .filler || ssenClient s) [] (p .word ∷ []) (λ e. omega arith) (λ e. omega arith)
 
--- A buffer holds no more than in enhanced operation.
-pub depth-within : (s : Settings) → depthOf s ≤ enhancedDepth
-depth-within s =
-    if-keeps (λ (d : ℕ). d ≤ enhancedDepth) (s .con2 .spiben) enhancedDepth 1 (λ e. omega arith) (λ e. omega arith)
-
 -- No module that calls reach owes more edges than a full buffer and one more word of 16 bits take.
 pub owed-most : (m : Module) → ModuleHolds m → owedIn m ≤ mostEdges
 owed-most m h =
-    let words : length (leftBuffer m) + length (waitingIn m) ≤ enhancedDepth + 1 =
-    omega (arith, one-unfinished (m .settings) (m .engine .shift), waiting-length (depthOf (m .settings)) (m .engine .transmit), h .transmit .fits, depth-within (m .settings)) in
+    let words : length (leftBuffer m) + length (waitingIn m) ≤ wordsOf Sixteen + 1 =
+    omega (arith, one-unfinished (m .settings) (m .engine .shift), waiting-length (depthOf (m .settings)) (m .engine .transmit), h .transmit .fits, depth-most (m .settings)) in
     let edges : 2 * widthOf (m .settings) ≤ 2 * 16 = omega (arith, width-most (m .settings)) in
     le-trans (sub-le _ (givenIn (m .engine .shift))) (mul-le-mul edges words)
 

@@ -21,7 +21,7 @@ use Rattle.spi_types.specs.declared.Call.{Call}
 use Rattle.spi_types.specs.declared.Call.the-variants.{Read, Write, Tick, Pin}
 use Rattle.spi_rules.specs.Bits.{shiftedIn, receivedAfter, shownBit, sdoAfter, progressed}
 use Rattle.spi_rules.specs.Buffers.{waiting, unread, emptyTransmit, emptyReceive, firstWaiting, firstUnread, written, departed, appended, taken, overrun}
-use Rattle.spi_rules.specs.Calls.{afterCalls, refuse, answering, poweredUp, wordTaken, readBuf, readOf, turnsOn, turnsOff, statWritten, writeStat, withCon1, withCon2, configured, wordWritten, writeBuf, writeOf, clockStepOf, edgeTold, tickOf, pinsOf, clearOf, performOf, interruptOf, sckOf, undriven, sdoOf, ssOf}
+use Rattle.spi_rules.specs.Calls.{afterCalls, refuse, answering, poweredAt, wordTaken, readBuf, readOf, turnsOn, turnsOff, statWritten, writeStat, withCon1, withCon2, configured, wordWritten, writeBuf, writeOf, clockStepOf, edgeTold, tickOf, pinsOf, clearOf, performOf, interruptOf, sckOf, undriven, sdoOf, ssOf}
 use Rattle.spi_rules.specs.Edge.{begun, shifted, advanced, advancedIfBegun, awaitsPulse, underWay, pulseDue, pulseAfter, pulsed, clocked, edged, stepped}
 use Rattle.spi_rules.specs.Finish.{overflowed, wordAppended, isLost, delivered, sentDropped, freed, finished}
 use Rattle.spi_rules.specs.Interrupts.{raises, noted}
@@ -31,6 +31,7 @@ use Rattle.spi_rules.specs.Registers.{weighed, con1From, con1Value, con2From, c
 use Rattle.spi_rules.specs.Select.{selectRemembered, aborted, selectSeen}
 use Rattle.spi_rules.specs.Words.{unreadIn, owedWords}
 use Rattle.spi_rules.specs.Demands.{edgesMade}
+use Rattle.spi_types.specs.declared.Depth.the-variants.{Eight}
 use Rattle.spi_rules.specs.Lives.{powerUp, begins, life}
 use Rattle.spi_rules.proofs.Claims.{numbers, sameNumbers, judge-exact}
 use Rattle.spi_link_rules.specs.declared.Linked.{Linked}
@@ -67,20 +68,20 @@ runs limit used host client =
     judged host client used (linkedOf host client limit) (runHostCalls host client limit) (runClientCalls host client limit)
 
 abbrev pub Runs : List Call → List Call → ℕ → ℕ → Type 0
-Runs hosts clients limit used = runs limit used (life powerUp hosts .now) (life powerUp clients .now) ≡ true
+Runs hosts clients limit used = runs limit used (life (powerUp Eight) hosts .now) (life (powerUp Eight) clients .now) ≡ true
 
 -- The page gives it, with the edges that it tells.
 pub page-judges : LinkedRuns → (hosts clients : List Call) (limit : ℕ) →
-    refusalOf (life powerUp hosts .now) (life powerUp clients .now) limit ≡ 0 →
-    Runs hosts clients limit (edgesUsed (life powerUp hosts .now) (life powerUp clients .now) limit)
+    refusalOf (life (powerUp Eight) hosts .now) (life (powerUp Eight) clients .now) limit ≡ 0 →
+    Runs hosts clients limit (edgesUsed (life (powerUp Eight) hosts .now) (life (powerUp Eight) clients .now) limit)
 unfolding runs judged
 page-judges p hosts clients limit made =
-    let host : Module = life powerUp hosts .now in
-    let client : Module = life powerUp clients .now in
+    let host : Module = life (powerUp Eight) hosts .now in
+    let client : Module = life (powerUp Eight) clients .now in
     let same : (m n : Module) → m ≡ n → sameNumbers (shows m) (shows n) ≡ true =
     λ m n e. judge-exact (numbers (shows m) (shows n)) .1 (ap shows e) in
-    and-both _ _ (same _ _ (p .hostLives powerUp powerUp hosts clients limit made ∙ sym (life-goes-on (begins powerUp) hosts _)))
-    (and-both _ _ (same _ _ (p .clientLives powerUp powerUp hosts clients limit made ∙ sym (life-goes-on (begins powerUp) clients _)))
+    and-both _ _ (same _ _ (p .hostLives (powerUp Eight) (powerUp Eight) hosts clients limit made ∙ sym (life-goes-on (begins (powerUp Eight)) hosts _)))
+    (and-both _ _ (same _ _ (p .clientLives (powerUp Eight) (powerUp Eight) hosts clients limit made ∙ sym (life-goes-on (begins (powerUp Eight)) clients _)))
     (and-both _ _ (eq-eqb (edgesUsed host client limit) (edgesMade host (runHostCalls host client limit)) (p .countsEdges host client limit made)) (eq-eqb (edgesUsed host client limit) (edgesUsed host client limit) refl)))
 
 -- A host and a client; DISSDO at the host, whose bits the client reads as 0; DISSDO at the client; 16 bits with CKE and select high
@@ -91,5 +92,5 @@ runs-hold :
     × Runs (ready 32 165 []) (ready 2048 60 []) 16 16
     × Runs (ready 1376 42405 []) (ready 1472 33023 []) 288 32
     × Runs (ready 32 165 (Tick true false ∷ Tick true false ∷ [])) (ready 0 60 (Pin true true false ∷ [])) 5 5
-unfolding shiftedIn receivedAfter shownBit sdoAfter progressed emptyTransmit emptyReceive firstWaiting firstUnread written departed appended taken overrun refuse answering poweredUp wordTaken readBuf readOf turnsOn turnsOff statWritten writeStat withCon1 withCon2 configured wordWritten writeBuf writeOf clockStepOf edgeTold tickOf pinsOf clearOf performOf interruptOf sckOf undriven sdoOf ssOf if_then_else_ begun shifted advanced advancedIfBegun awaitsPulse underWay pulseDue pulseAfter pulsed clocked edged stepped overflowed wordAppended isLost delivered sentDropped freed finished raises noted wordLeaves moved canLoad loaded nextTop sdoAt rested numberOf bitOf weighed con1From con1Value con2From con2Value spitbf spirbf srxmpt srmpt atMost7 spibec statValue statSettings spirovAfter statEngine enabledEngine disabledEngine next selectRemembered aborted selectSeen levelRead madeEdge hostTicked clientSees runStops oneMore clientTurn handedOver hostTurn runOf refuseLink toldOf linkedOf linkSaidOf hostCalls clientCalls runHostCalls runClientCalls shows judged runs waiting unread contents opened
+unfolding shiftedIn receivedAfter shownBit sdoAfter progressed emptyTransmit emptyReceive firstWaiting firstUnread written departed appended taken overrun refuse answering poweredAt wordTaken readBuf readOf turnsOn turnsOff statWritten writeStat withCon1 withCon2 configured wordWritten writeBuf writeOf clockStepOf edgeTold tickOf pinsOf clearOf performOf interruptOf sckOf undriven sdoOf ssOf if_then_else_ begun shifted advanced advancedIfBegun awaitsPulse underWay pulseDue pulseAfter pulsed clocked edged stepped overflowed wordAppended isLost delivered sentDropped freed finished raises noted wordLeaves moved canLoad loaded nextTop sdoAt rested numberOf bitOf weighed con1From con1Value con2From con2Value spitbf spirbf srxmpt srmpt atMost7 spibec statValue statSettings spirovAfter statEngine enabledEngine disabledEngine next selectRemembered aborted selectSeen levelRead madeEdge hostTicked clientSees runStops oneMore clientTurn handedOver hostTurn runOf refuseLink toldOf linkedOf linkSaidOf hostCalls clientCalls runHostCalls runClientCalls shows judged runs waiting unread contents opened
 runs-hold = (refl, refl, refl, refl, refl)

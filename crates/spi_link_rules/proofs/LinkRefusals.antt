@@ -33,8 +33,8 @@ unfolding linkedOf refuseLink toldOf tells linkSaidOf numberOf
 link-refused-exactly host client limit =
     let h = host .settings in
     let c = client .settings in
-    if-ap tells (ltb 288 limit) _ _
-    ∙ ap (λ (k : ℕ). if ltb 288 limit then 11 else k)
+    if-ap tells (ltb 544 limit) _ _
+    ∙ ap (λ (k : ℕ). if ltb 544 limit then 11 else k)
     (if-ap tells (eitherDisabled h c) _ _
     ∙ ap (λ (k : ℕ). if eitherDisabled h c then 2 else k)
     (if-ap tells (wrongRoles h c) _ _

@@ -3,6 +3,7 @@ use Prim.Native.Nat.{ℕ, zero, suc, _+_, _*_}
 use mathlib.Core.Bool.{Bool, true, false, not, _||_, Bool·beq}
 use lib.Dec.{eqb, ltb}
 use Rattle.laws.specs.Choice.{if_then_else_}
+use Rattle.spi_types.specs.declared.Depth.the-variants.{Sixteen}
 use Rattle.spi_types.specs.declared.Settings.{Settings}
 use Rattle.spi_types.specs.declared.Module.{Module}
 use Rattle.spi_types.specs.declared.Outcome.{Outcome}
@@ -12,7 +13,7 @@ use Rattle.spi_types.specs.declared.Answer.{Answer}
 use Rattle.spi_types.specs.declared.Answer.the-variants.{Refused, Done, Value, NoEdge, Edge}
 use Rattle.spi_types.specs.declared.Output.{Output}
 use Rattle.spi_types.specs.declared.Output.the-variants.{Low, High, Undriven}
-use Rattle.spi_rules.specs.Settings.{widthOf, enhancedDepth, framed, ownClock}
+use Rattle.spi_rules.specs.Settings.{widthOf, wordsOf, framed, ownClock}
 use Rattle.spi_rules.specs.Refusals.{numberOf}
 use Rattle.spi_rules.specs.Calls.{tickOf, pinsOf, sckOf, sdoOf}
 use Rattle.spi_link_rules.specs.declared.Run.{Run}
@@ -21,10 +22,10 @@ use Rattle.spi_link_rules.specs.declared.LinkSaid.{LinkSaid}
 use Rattle.spi_link_rules.specs.declared.Linked.{Linked}
 use Rattle.spi_link_rules.specs.declared.LinkAnswer.the-variants as linked
 
--- The most edges that one host can still owe, and that a run may be asked for: two for each of 16 bits, for every word of
--- a full buffer and the one in the shift register.
+-- The most edges that one host can still owe, and that a run may be asked for whatever the depths: two for each of 16 bits, for
+-- every word of a full buffer of 16 and the one in the shift register (document 02, Twelve).
 abbrev pub mostEdges : ℕ
-mostEdges = 2 * 16 * (enhancedDepth + 1)
+mostEdges = 2 * 16 * (wordsOf Sixteen + 1)
 
 -- The level that the other end of a wire reads: undriven reads 0.
 unfoldable pub levelRead : Output → Bool

@@ -25,8 +25,8 @@ use Rattle.spi_link_rules.specs.LinkExamples.{exampleL, linkExamples}
 -- The refusal table's rows for a linked run, in the order of the tests: 11, then 2 for the host and the client, 7, 10.
 abbrev pub linkRows : Module → Module → ℕ → List Row
 linkRows host client limit =
-    -- asked for more than 288 edges
-    row 11 (ltb 288 limit)
+    -- asked for more than 544 edges
+    row 11 (ltb 544 limit)
     -- either module disabled
     ∷ row 2 (not (host .settings .spien) || not (client .settings .spien))
     -- wrong roles: the host has no clock of its own, or the client is a host; or either is framed
@@ -89,7 +89,7 @@ edgesUsed host client limit = linkSaidOf (linkedOf host client limit .answer) .e
 -- its list of calls does: each tick of the host carries the client's SDO, each pin call of the client the host's levels
 -- with SS low. So the ends of a run are among the modules that lists of calls reach, and all that is said of one module
 -- (its invariant, word order, flags) is said of them. The edges used are those that the host made: never more than the
--- limit, and all that it owed if the limit allows it, after which it is idle. No module owes more than 288, so that limit
+-- limit, and all that it owed if the limit allows it, after which it is idle. No module owes more than 544, so that limit
 -- always ends idle. The client stays selected. An equation with a function leaves no two outcomes.
 pub record LinkedRuns : Type 0 where
   pub refusedExactly : (host client : Module) (limit : ℕ) →
@@ -113,6 +113,6 @@ pub record LinkedRuns : Type 0 where
   pub usesOwed : (b : Beginning) (cs : List Call) (client : Module) (limit : ℕ) →
       refusalOf (life b cs .now) client limit ≡ 0 → owed (life b cs) ≤ limit →
       (edgesUsed (life b cs .now) client limit ≡ owed (life b cs)) × IsIdle (linkedOf (life b cs .now) client limit .host)
-  pub mostOwed : (b : Beginning) (cs : List Call) → life b cs .now .settings .spien ≡ true → owed (life b cs) ≤ 288
+  pub mostOwed : (b : Beginning) (cs : List Call) → life b cs .now .settings .spien ≡ true → owed (life b cs) ≤ 544
   pub staysSelected : (host client : Module) (limit : ℕ) → refusalOf host client limit ≡ 0 →
       linkedOf host client limit .client .engine .pins .ss ≡ false

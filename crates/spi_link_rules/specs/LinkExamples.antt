@@ -5,10 +5,12 @@ use mathlib.Core.Bool.{Bool, true, false, _&&_}
 use mathlib.Core.List.{List, [], _∷_, _++_}
 use lib.Dec.{eqb}
 use lib.ListN.{replicate}
+use Rattle.spi_types.specs.declared.Depth.{Depth}
+use Rattle.spi_types.specs.declared.Depth.the-variants.{Four, Eight, Sixteen}
 use Rattle.spi_types.specs.declared.Module.{Module}
 use Rattle.spi_types.specs.declared.Call.the-variants.{Read, Write, Tick}
 use Rattle.spi_types.specs.declared.Output.the-variants.{Low}
-use Rattle.spi_rules.specs.Calls.{poweredUp}
+use Rattle.spi_rules.specs.Calls.{poweredAt, poweredUp}
 use Rattle.spi_rules.specs.Examples.{Step, says, shows, ok, value, noEdge, edge, refused, allHold, afterSteps, set-up}
 use Rattle.spi_link_rules.specs.declared.LinkSaid.{LinkSaid}
 use Rattle.spi_link_rules.specs.declared.Linked.{Linked}
@@ -27,9 +29,12 @@ linkHolds l said host client =
     && (allHold (l .host) host && allHold (l .client) client)
 
 -- A module configured, enabled and given some equal words to send.
+abbrev pub readyAt : Depth → ℕ → ℕ → ℕ → ℕ → Module
+readyAt depth con1 con2 words word =
+    afterSteps (poweredAt depth) (set-up con1 con2 ++ replicate words (says (Write 3 word) ok))
+
 abbrev pub ready : ℕ → ℕ → ℕ → ℕ → Module
-ready con1 con2 words word =
-    afterSteps poweredUp (set-up con1 con2 ++ replicate words (says (Write 3 word) ok))
+ready = readyAt Eight
 
 -- l. A host with A5 and a client with 3C, linked, 16 edges: the host reads 3C, the client A5.
 abbrev pub hostL : Module
@@ -51,13 +56,13 @@ unreadHost = says (Read 3) (refused 6) ∷ says (Tick true false) edge ∷ []
 abbrev pub unreadClient : List Step
 unreadClient = says (Read 3) (refused 6) ∷ []
 
--- The limit 288 is allowed and uses no more than the host owes; 289 gives 11.
+-- The limit 544 is allowed and uses no more than the host owes; 545 gives 11 (document 02, Twelve).
 abbrev pub linkLimits : Bool
 linkLimits =
-    linkHolds (linkedOf hostL clientL 288) (used 16)
+    linkHolds (linkedOf hostL clientL 544) (used 16)
     (says (Read 3) (value 0x003C) ∷ says (Tick true false) noEdge ∷ [])
     (says (Read 3) (value 0x00A5) ∷ [])
-    && linkHolds (linkedOf hostL clientL 289) (linkRefused 11) unreadHost unreadClient
+    && linkHolds (linkedOf hostL clientL 545) (linkRefused 11) unreadHost unreadClient
 
 -- Eight words of 16 bits owe 256 edges, and the client holds and reads them all.
 abbrev pub linkEight : Bool
@@ -73,6 +78,14 @@ linkNine =
     linkHolds (linkedOf (ready 0x0420 0x0001 9 0xA5C3) (ready 0x0400 0x0001 0 0) 288) (used 288)
     (says (Tick true false) noEdge ∷ says (Read 0) (value 0x80C1) ∷ says (Read 3) (refused 16) ∷ [])
     (says (Read 0) (value 0x87C1) ∷ says (Read 3) (refused 16) ∷ [])
+
+-- Document 02, Twelve: a host of depth 16 with 17 words of 16 bits owes 544 edges. A client of depth 4 holds the first four and is marked; the
+-- host holds 16 of the zeros.
+abbrev pub linkDepths : Bool
+linkDepths =
+    linkHolds (linkedOf (readyAt Sixteen 0x0420 0x0001 17 0xA5C3) (readyAt Four 0x0400 0x0001 0 0) 544) (used 544)
+    (says (Tick true false) noEdge ∷ says (Read 0) (value 0x80C1) ∷ says (Read 3) (refused 16) ∷ [])
+    (says (Read 0) (value 0x84C1) ∷ says (Read 3) (refused 16) ∷ [])
 
 -- A host in standard operation with two words: a standard client loses the second and reads the first; an enhanced client of
 -- the same wire reads both.
@@ -138,4 +151,4 @@ linkFramed =
 abbrev pub linkExamples : Bool
 linkExamples =
     linkLimits
-    && (linkEight && (linkNine && (linkStandard && (linkShort && (linkWires && (linkRefusals && linkFramed))))))
+    && (linkEight && (linkNine && (linkDepths && (linkStandard && (linkShort && (linkWires && (linkRefusals && linkFramed)))))))

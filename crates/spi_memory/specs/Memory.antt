@@ -9,6 +9,8 @@ use lib.ListN.{getD, set}
 use Rattle.laws.specs.Choice.{if_then_else_}
 use Rattle.word_order.specs.Bits.{bitOf}
 use Rattle.spi_types.specs.declared.Con1.{Con1}
+use Rattle.spi_types.specs.declared.Depth.{Depth}
+use Rattle.spi_types.specs.declared.Depth.the-variants.{Four, Eight, Sixteen}
 use Rattle.spi_types.specs.declared.Settings.{Settings}
 use Rattle.spi_types.specs.declared.Transmit.{Transmit}
 use Rattle.spi_types.specs.declared.Receive.{Receive}
@@ -46,10 +48,16 @@ con1At place =
       ppre = byteIn (place 4);
     }
 
--- The registers as last written: STAT at place 0, CON1 at place 2, CON2 at place 5.
+-- The depth (document 02, Twelve): 4 and 16 are those, and any other number is 8. So zeros are a module at power-up, and memory from before
+-- there were depths holds the same module as then.
+unfoldable pub depthIn : ℕ → Depth
+depthIn x = if eqb x 4 then Four else if eqb x 16 then Sixteen else Eight
+
+-- The registers as last written: STAT at place 0, CON1 at place 2, CON2 at place 5; and the depth at place 6.
 abbrev pub settingsAt : (ℕ → ℕ) → Settings
 settingsAt place =
     record {
+      depth = depthIn (place 6);
       spien = bitOf (place 0) 15;
       spisidl = bitOf (place 0) 13;
       sisel = byteIn (place 1);

@@ -15,7 +15,7 @@ abbrev pub writes : List ℕ → List Write → List ℕ
 writes w [] = w
 writes w (x ∷ xs) = writes (set w (x .place) (x .number)) xs
 
--- Eight words, from a place on.
+-- The words of a buffer, from a place on.
 abbrev pub wordsWritten : ℕ → List ℕ → List Write
 wordsWritten first words =
     at first (getD words 0 0)
@@ -26,4 +26,12 @@ wordsWritten first words =
     ∷ at (first + 5) (getD words 5 0)
     ∷ at (first + 6) (getD words 6 0)
     ∷ at (first + 7) (getD words 7 0)
+    ∷ at (first + 8) (getD words 8 0)
+    ∷ at (first + 9) (getD words 9 0)
+    ∷ at (first + 10) (getD words 10 0)
+    ∷ at (first + 11) (getD words 11 0)
+    ∷ at (first + 12) (getD words 12 0)
+    ∷ at (first + 13) (getD words 13 0)
+    ∷ at (first + 14) (getD words 14 0)
+    ∷ at (first + 15) (getD words 15 0)
     ∷ []

@@ -4,6 +4,7 @@ use spi_types::Con1;
 use spi_types::Con2;
 use spi_types::CpuRead;
 use spi_types::CpuWrite;
+use spi_types::Depth;
 use spi_types::Engine;
 use spi_types::Module;
 use spi_types::Pins;
@@ -23,8 +24,8 @@ ghost use Rattle.spi_rules.specs.Changes.{withTransmit, withReceive, withShift,
 ghost use Rattle.spi_rules.specs.Registers.{con1From, con2From, isFree, statSettings};
 ghost use Rattle.spi_rules.specs.Buffers.{firstWaiting, firstUnread};
 ghost use Rattle.spi_rules.specs.Loading.{isBegun};
-ghost use Rattle.spi_rules.specs.Calls.{poweredUp, withCon1, withCon2};
-ghost use Rattle.spi_memory.specs.Memory.{bitIn, byteIn, placeIn, from, wordsAt, progressAt, settingsIn, engineIn, moduleIn, goneOn, withMark, pushed, popped, arrived, fetched, Steps, Sets};
+ghost use Rattle.spi_rules.specs.Calls.{poweredAt, poweredUp, withCon1, withCon2};
+ghost use Rattle.spi_memory.specs.Memory.{bitIn, byteIn, depthIn, placeIn, from, wordsAt, progressAt, settingsIn, engineIn, moduleIn, goneOn, withMark, pushed, popped, arrived, fetched, Steps, Sets};
 ghost use Rattle.spi_memory.specs.Writes.{writes, wordsWritten};
 
 // CON1.
@@ -44,13 +45,28 @@ pub fn con2_in(w: &[u16; 96]) -> Con2
     spi_registers::con2_from(w[5])
 }
 
-// What register writes set.
+// The depth.
+pub fn depth_in(w: &[u16; 96]) -> Depth
+    ensures { λ r. ⌜ r ≡ settingsIn (now (w .entry)) .depth ⌝ }
+{
+    if w[6] == 4 {
+        return Depth::Four;
+    }
+    if w[6] == 16 {
+        return Depth::Sixteen;
+    }
+    Depth::Eight
+}
+
+// What power-up and register writes set.
 pub fn settings_in(w: &[u16; 96]) -> Settings
     ensures { λ r. ⌜ r ≡ settingsIn (now (w .entry)) ⌝ }
 {
     let con1 = con1_in(w);
     let con2 = con2_in(w);
+    let depth = depth_in(w);
     Settings {
+        depth: depth,
         spien: w[0] / 32768 % 2 == 1,
         spisidl: w[0] / 8192 % 2 == 1,
         sisel: (w[1] % 256) as u8,
@@ -60,8 +76,8 @@ pub fn settings_in(w: &[u16; 96]) -> Settings
 }
 
 // The words of the buffer that stands from `first` on.
-fn words_in(w: &[u16; 96], first: usize) -> [u16; 8]
-    requires { ⌜ first + 8 ≤ 96 ⌝ }
+fn words_in(w: &[u16; 96], first: usize) -> [u16; 16]
+    requires { ⌜ first + 16 ≤ 96 ⌝ }
     ensures { λ r. ⌜ r ≡ wordsAt (from first (placeIn (now (w .entry)))) ⌝ }
 {
     [
@@ -73,6 +89,14 @@ fn words_in(w: &[u16; 96], first: usize) -> [u16; 8]
         w[first + 5],
         w[first + 6],
         w[first + 7],
+        w[first + 8],
+        w[first + 9],
+        w[first + 10],
+        w[first + 11],
+        w[first + 12],
+        w[first + 13],
+        w[first + 14],
+        w[first + 15],
     ]
 }
 
@@ -111,7 +135,7 @@ pub fn spi_read_in(w: &[u16; 96]) -> u8
 pub fn first_waiting_in(w: &[u16; 96]) -> u16
     ensures { λ r. ⌜ r ≡ firstWaiting (engineIn (now (w .entry)) .transmit) ⌝ }
 {
-    let at = (w[41] % 8) as usize;
+    let at = (w[41] % 16) as usize;
     w[24 + at]
 }
 
@@ -152,7 +176,7 @@ pub fn cpu_read_in(w: &[u16; 96]) -> u8
 pub fn first_unread_in(w: &[u16; 96]) -> u16
     ensures { λ r. ⌜ r ≡ firstUnread (engineIn (now (w .entry)) .receive) ⌝ }
 {
-    let at = (w[61] % 8) as usize;
+    let at = (w[61] % 16) as usize;
     w[44 + at]
 }
 
@@ -281,11 +305,30 @@ fn is_whole(w: &[u16; 96]) -> bool
     counted(*w)
 }
 
+// A depth as a number: 8 is 0.
+fn depth_number(depth: Depth) -> u16
+    ensures { λ r. ⌜ depthIn r ≡ depth ⌝ }
+{
+    match depth {
+        Depth::Four => 4,
+        Depth::Eight => 0,
+        Depth::Sixteen => 16,
+    }
+}
+
 // Every number is 0, whatever memory held before: a module that has just powered up.
 pub fn power_up(w: &mut [u16; 96])
     ensures { λ _. ⌜ moduleIn (now (w .exit)) ≡ poweredUp ⌝ }
 {
     *w = [0; 96];
+}
+
+// The same with a depth.
+pub fn power_up_at(w: &mut [u16; 96], depth: Depth)
+    ensures { λ _. ⌜ moduleIn (now (w .exit)) ≡ poweredAt depth ⌝ }
+{
+    *w = [0; 96];
+    w[6] = depth_number(depth);
 }
 
 // What a STAT write sets.
@@ -316,8 +359,8 @@ pub fn store_con2(w: &mut [u16; 96], v: u16)
 }
 
 // The words of the buffer that stands from `first` on.
-fn store_words(w: &mut [u16; 96], first: usize, words: [u16; 8])
-    requires { ⌜ first + 8 ≤ 96 ⌝ }
+fn store_words(w: &mut [u16; 96], first: usize, words: [u16; 16])
+    requires { ⌜ first + 16 ≤ 96 ⌝ }
     ensures { λ _. ⌜ now (w .exit) ≡ writes (now (w .entry)) (wordsWritten first words) ⌝ }
 {
     w[first] = words[0];
@@ -328,6 +371,14 @@ fn store_words(w: &mut [u16; 96], first: usize, words: [u16; 8])
     w[first + 5] = words[5];
     w[first + 6] = words[6];
     w[first + 7] = words[7];
+    w[first + 8] = words[8];
+    w[first + 9] = words[9];
+    w[first + 10] = words[10];
+    w[first + 11] = words[11];
+    w[first + 12] = words[12];
+    w[first + 13] = words[13];
+    w[first + 14] = words[14];
+    w[first + 15] = words[15];
 }
 
 // The transmit buffer.
@@ -347,7 +398,7 @@ pub fn store_written(w: &mut [u16; 96], word: u16, on: u8, count: u8)
     ensures { λ _. ⌜ Steps (λ _ n. withTransmit (pushed word on count (n .transmit)) n) (now (w .entry)) (now (w .exit)) ⌝ }
 {
     is_whole(w);
-    let at = (w[40] % 8) as usize;
+    let at = (w[40] % 16) as usize;
     w[24 + at] = word;
     w[40] = byte_number(on);
     w[42] = byte_number(count);
@@ -367,7 +418,7 @@ pub fn store_appended(w: &mut [u16; 96], word: u16, on: u8, count: u8)
     ensures { λ _. ⌜ Steps (λ _ n. withReceive (arrived word on count (n .receive)) n) (now (w .entry)) (now (w .exit)) ⌝ }
 {
     is_whole(w);
-    let at = (w[60] % 8) as usize;
+    let at = (w[60] % 16) as usize;
     w[44 + at] = word;
     w[60] = byte_number(on);
     w[62] = byte_number(count);
@@ -495,12 +546,14 @@ fn store_settings(w: &mut [u16; 96], s: Settings)
     is_whole(w);
     let con1 = s.con1;
     let con2 = s.con2;
+    let depth = s.depth;
     w[0] = spi_registers::weigh(s.spien, 32768) + spi_registers::weigh(s.spisidl, 8192);
     w[1] = byte_number(s.sisel);
     w[2] = spi_registers::con1_value(con1);
     w[3] = byte_number(con1.spre);
     w[4] = byte_number(con1.ppre);
     w[5] = spi_registers::con2_value(con2);
+    w[6] = depth_number(depth);
 }
 
 // A shift register in any state.

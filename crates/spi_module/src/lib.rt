@@ -2,6 +2,7 @@
 // tick that makes no edge, leave every number as it was.
 use spi_types::Answer;
 use spi_types::Call;
+use spi_types::Depth;
 use spi_types::Output;
 use spi_types::Progress;
 use spi_types::Refusal;
@@ -18,7 +19,7 @@ ghost use Rattle.spi_rules.specs.Registers.{con1From, con2From, statValue};
 ghost use Rattle.spi_rules.specs.Loading.{isBegun};
 ghost use Rattle.spi_rules.specs.Select.{deselected, selectRemembered, selectSeen};
 ghost use Rattle.spi_rules.specs.Edge.{fresh, advanced, advancedIfBegun, awaitsPulse, pulseDue, pulseAfter, levels, stepped};
-ghost use Rattle.spi_rules.specs.Calls.{readBuf, readOf, statWritten, writeStat, withCon1, withCon2, configured, writeBuf, writeOf, clockStepOf, edgeFor, tickOf, pinsOf, clearOf, performOf, sdoOf, ssOf};
+ghost use Rattle.spi_rules.specs.Calls.{powerUpOf, readBuf, readOf, statWritten, writeStat, withCon1, withCon2, configured, writeBuf, writeOf, clockStepOf, edgeFor, tickOf, pinsOf, clearOf, performOf, sdoOf, ssOf};
 ghost use Rattle.spi_memory.specs.Memory.{settingsIn, engineIn, moduleIn, Steps};
 ghost use Rattle.spi_module.specs.Answered.{Answers, edgeAdvanced, edgeCounted, turned, Midword, GoesOn, Shortens, Shortly};
 
@@ -655,6 +656,25 @@ pub fn clear(w: &mut [u16; 96]) -> Answer
 {
     spi_memory::store_interrupt(w, false);
     Answer::Done
+}
+
+// Power-up with a depth.
+pub fn power_up_with(w: &mut [u16; 96], words: u32) -> Answer
+    ensures { λ r. ⌜ Answers (powerUpOf (moduleIn (now (w .entry))) words) r (now (w .entry)) (now (w .exit)) ⌝ }
+{
+    if words == 4 {
+        spi_memory::power_up_at(w, Depth::Four);
+        return Answer::Done;
+    }
+    if words == 8 {
+        spi_memory::power_up_at(w, Depth::Eight);
+        return Answer::Done;
+    }
+    if words == 16 {
+        spi_memory::power_up_at(w, Depth::Sixteen);
+        return Answer::Done;
+    }
+    Answer::Refused(Refusal::NoSuchDepth)
 }
 
 // Any call by its name.

@@ -4,7 +4,7 @@ use spi_types::Answer;
 ghost use Prim.Native.Nat.{_≤_};
 ghost use mathlib.Core.Path.{_≡_};
 ghost use Rattle.laws.specs.Choice.{if_then_else_};
-ghost use Rattle.spi_rules.specs.Calls.{readOf, writeOf, tickOf, pinsOf, clockStepOf, clearOf, sdoOf, ssOf};
+ghost use Rattle.spi_rules.specs.Calls.{powerUpOf, readOf, writeOf, tickOf, pinsOf, clockStepOf, clearOf, sdoOf, ssOf};
 ghost use Rattle.spi_link_rules.specs.Link.{linkedOf};
 ghost use Rattle.spi_clock_rules.specs.Clock.{reportOf, saidClock};
 ghost use Rattle.spi_memory.specs.Memory.{moduleIn};
@@ -21,6 +21,14 @@ fn answer_number(a: Answer) -> u32
         Answer::NoEdge => 0,
         Answer::Edge => 1,
     }
+}
+
+// Power-up with a depth.
+pub fn power_up_with(w: &mut [u16; 96], words: u32) -> u32
+    ensures { λ r. ⌜ Tells (powerUpOf (moduleIn (now (w .entry))) words) r (now (w .entry)) (now (w .exit)) ⌝ }
+{
+    let answer = spi_module::power_up_with(w, words);
+    answer_number(answer)
 }
 
 // A read of a register.

@@ -5,8 +5,9 @@ use mathlib.Core.Path.{sym, _∙_}
 use Rattle.spi_rules.specs.Lives.{life}
 use Rattle.spi_rules.specs.Demands.{OneModule}
 use Rattle.spi_rules.specs.Examples.{paperExamples}
-use Rattle.spi_rules.proofs.ExamplesHold.{examples-hold, further-examples-hold, frame-examples-hold, mark-examples-hold, step-examples-hold, figures-hold, power-up-zero}
+use Rattle.spi_rules.proofs.ExamplesHold.{examples-hold, further-examples-hold, frame-examples-hold, mark-examples-hold, step-examples-hold, depth-examples-hold, figures-hold}
 use Rattle.spi_rules.proofs.ClockSteps.{clock-steps}
+use Rattle.spi_rules.proofs.PowersUp.{powers-up}
 use Rattle.spi_rules.proofs.RefusalsKinds.{call-fits}
 use Rattle.spi_rules.proofs.RefusalsExact.{never-given, refused-exactly}
 use Rattle.spi_rules.proofs.RefusalsUnchanged.{refused-unchanged}
@@ -31,9 +32,9 @@ one-module =
             inKind = λ m c. call-fits m c .kind;
             oneOutcome = λ m c x y e f. e ∙ sym f;
           };
-      paperExamples = (examples-hold, further-examples-hold, frame-examples-hold, mark-examples-hold, step-examples-hold);
+      paperExamples = (examples-hold, further-examples-hold, frame-examples-hold, mark-examples-hold, step-examples-hold, depth-examples-hold);
       figures = figures-hold;
-      allZero = power-up-zero;
+      powersUp = powers-up;
       reached = λ b cs. life-holds b cs .holds;
       readsShow = λ b cs. reads-show (life b cs) (life-holds b cs .holds .holds) (λ on. life-holds b cs .tied on .words);
       callChanges = λ b cs c. call-changes (life b cs) (life-holds b cs) c;

@@ -15,7 +15,8 @@ use Rattle.word_order.proofs.Resumed.{tied-resumed}
 use Rattle.spi_types.specs.declared.Call.{Call}
 use Rattle.spi_rules.specs.Invariant.{Reached}
 use Rattle.spi_rules.specs.Watch.{ours, Watched, watchedCall, terms, portIn}
-use Rattle.spi_rules.specs.Calls.{poweredUp}
+use Rattle.spi_rules.specs.Calls.{poweredAt}
+use Rattle.spi_types.specs.declared.Depth.{Depth}
 use Rattle.spi_rules.specs.Lives.{Beginning, life, begins, midLife, powerUp}
 use Rattle.spi_invariant.proofs.Pulse.{call-reaches, unframed-pulse, powered-up-reached}
 use Rattle.spi_order.proofs.Ports.{whole-terms}
@@ -39,13 +40,14 @@ pub record Lives (x : Watched) : Type 0 where
   pub holds : Reached (x .now)
   pub tied : x .now .settings .spien ≡ true → TiedAll ours ours-owes x
 
-power-up-off : poweredUp .settings .spien ≡ false
-unfolding poweredUp
-power-up-off = refl
+power-up-off : (depth : Depth) → poweredAt depth .settings .spien ≡ false
+unfolding poweredAt
+power-up-off depth = refl
 
 -- At each beginning.
 begins-lives : (b : Beginning) → Lives (begins b)
-begins-lives powerUp = record { holds = powered-up-reached; tied = λ on. clash (poweredUp .settings .spien) on power-up-off }
+begins-lives (powerUp depth) =
+    record { holds = powered-up-reached depth; tied = λ on. clash (poweredAt depth .settings .spien) on (power-up-off depth) }
 begins-lives (midLife m holds enabled) =
     record {
       holds = holds;

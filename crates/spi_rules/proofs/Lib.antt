@@ -10,6 +10,8 @@ pub mod ClockSteps
 pub mod RefusalsUnchanged
 pub mod RefusalsExact
 pub mod RefusalsKinds
+-- Power-up with a depth:
+pub mod PowersUp
 -- The module of a life is the one that its calls reach:
 pub mod LivesReach
 -- The page, run at concrete calls:

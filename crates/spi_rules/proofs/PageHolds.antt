@@ -18,7 +18,7 @@ use Rattle.spi_types.specs.declared.Call.{Call}
 use Rattle.spi_types.specs.declared.Call.the-variants.{Read, Write, Tick, Pin, ClockStep, Clear}
 use Rattle.spi_rules.specs.Bits.{shiftedIn, receivedAfter, shownBit, sdoAfter, progressed}
 use Rattle.spi_rules.specs.Buffers.{waiting, unread, emptyTransmit, emptyReceive, firstWaiting, firstUnread, written, departed, appended, taken, overrun}
-use Rattle.spi_rules.specs.Calls.{refuse, answering, poweredUp, wordTaken, readBuf, readOf, turnsOn, turnsOff, statWritten, writeStat, withCon1, withCon2, configured, wordWritten, writeBuf, writeOf, clockStepOf, edgeTold, tickOf, pinsOf, clearOf, performOf, interruptOf, sckOf, undriven, sdoOf, ssOf}
+use Rattle.spi_rules.specs.Calls.{refuse, answering, poweredAt, wordTaken, readBuf, readOf, turnsOn, turnsOff, statWritten, writeStat, withCon1, withCon2, configured, wordWritten, writeBuf, writeOf, clockStepOf, edgeTold, tickOf, pinsOf, clearOf, performOf, interruptOf, sckOf, undriven, sdoOf, ssOf}
 use Rattle.spi_rules.specs.Edge.{begun, shifted, advanced, advancedIfBegun, awaitsPulse, underWay, pulseDue, pulseAfter, pulsed, clocked, edged, stepped}
 use Rattle.spi_rules.specs.Finish.{overflowed, wordAppended, isLost, delivered, sentDropped, freed, finished}
 use Rattle.spi_rules.specs.Interrupts.{raises, noted}
@@ -26,6 +26,7 @@ use Rattle.spi_rules.specs.Loading.{wordLeaves, moved, canLoad, loaded, 
 use Rattle.spi_rules.specs.Refusals.{numberOf}
 use Rattle.spi_rules.specs.Registers.{weighed, con1From, con1Value, con2From, con2Value, spitbf, spirbf, srxmpt, srmpt, atMost7, spibec, statValue, statSettings, spirovAfter, statEngine, enabledEngine, disabledEngine}
 use Rattle.spi_rules.specs.Select.{selectRemembered, aborted, selectSeen}
+use Rattle.spi_types.specs.declared.Depth.the-variants.{Eight}
 use Rattle.spi_rules.specs.Lives.{powerUp, begins, life}
 use Rattle.spi_rules.specs.InBits.{stopsBetweenWords, givesPulses, takesPulses}
 use Rattle.spi_rules.proofs.PageRun.{unless, judged, told-of, entered-as, seen-as, made, run, lastEdges}
@@ -127,31 +128,6 @@ clientLate =
     one-by-one
     ((Write 1 64 ∷ Write 0 32768 ∷ Pin true false false ∷ Pin false false false ∷ []) ∷ pins 1 true true ∷ words (129 ∷ []) ∷ pins 1 false true ∷ [])
 
--- SISEL 6, a word passes through the buffer; 7, the eighth waits; 4, one leaves with seven left; 5, a finish with words left; 1, an
--- append; 2, the sixth; 3, the eighth, and the ninth word is lost; the mark stops reads; disabled and enabled, 5, nothing is left to
--- send; 0, a read empties it.
-abbrev full : List Call
-full =
-    one-by-one
-    ((Write 2 1 ∷ Write 1 32 ∷ Write 0 32792 ∷ Write 3 1 ∷ Clear ∷ Write 0 32796 ∷ [])
-    ∷ words (2 ∷ 3 ∷ 4 ∷ 5 ∷ 6 ∷ 7 ∷ 8 ∷ 9 ∷ 10 ∷ [])
-    ∷ (Write 0 32784 ∷ Clear ∷ [])
-    ∷ ticks 8 true true
-    ∷ (Clear ∷ Write 0 32788 ∷ [])
-    ∷ ticks 8 false true
-    ∷ (Write 0 32772 ∷ [])
-    ∷ ticks 8 true false
-    ∷ (Clear ∷ Write 0 32776 ∷ [])
-    ∷ ticks 24 true false
-    ∷ (Clear ∷ Write 0 32780 ∷ [])
-    ∷ ticks 16 true true
-    ∷ (Clear ∷ [])
-    ∷ ticks 8 true true
-    ∷ (Read 3 ∷ Write 0 32832 ∷ Read 3 ∷ Write 0 64 ∷ Write 0 32852 ∷ Write 3 7 ∷ [])
-    ∷ ticks 8 true true
-    ∷ (Clear ∷ Write 0 32832 ∷ Read 3 ∷ Read 3 ∷ [])
-    ∷ [])
-
 -- The four pairings of frames: a clock of its own or from the pin, pulses given or taken, without FRMDLY (bit 1 of CON2) and FRMPOL (bit
 -- 13) and with both; CKE and SSEN are set in the last, where they count as 0. crates/spi_one_module runs all pairings of the two bits.
 abbrev ownGives : ℕ → List Call
@@ -188,17 +164,17 @@ refused =
 
 -- The page holds at every call of these lists, each from power-up.
 abbrev pub Run : List Call → Type 0
-Run cs = run cs (begins powerUp) ≡ true
+Run cs = run cs (begins (powerUp Eight)) ≡ true
 
 unframed-runs :
-    Run host × Run wide × Run idle × Run pinned × Run selected × Run selectedWide × Run client × Run clientLate × Run full × Run refused
-unfolding shiftedIn receivedAfter shownBit sdoAfter progressed emptyTransmit emptyReceive firstWaiting firstUnread written departed appended taken overrun refuse answering poweredUp wordTaken readBuf readOf turnsOn turnsOff statWritten writeStat withCon1 withCon2 configured wordWritten writeBuf writeOf clockStepOf edgeTold tickOf pinsOf clearOf performOf interruptOf sckOf undriven sdoOf ssOf if_then_else_ begun shifted advanced advancedIfBegun awaitsPulse underWay pulseDue pulseAfter pulsed clocked edged stepped overflowed wordAppended isLost delivered sentDropped freed finished raises noted wordLeaves moved canLoad loaded nextTop sdoAt rested numberOf bitOf weighed con1From con1Value con2From con2Value spitbf spirbf srxmpt srmpt atMost7 spibec statValue statSettings spirovAfter statEngine enabledEngine disabledEngine next selectRemembered aborted selectSeen opened leftToSend loses firstOnWire counted closed given unless judged told-of entered-as seen-as made run waiting unread contents
-unframed-runs = (refl, refl, refl, refl, refl, refl, refl, refl, refl, refl)
+    Run host × Run wide × Run idle × Run pinned × Run selected × Run selectedWide × Run client × Run clientLate × Run refused
+unfolding shiftedIn receivedAfter shownBit sdoAfter progressed emptyTransmit emptyReceive firstWaiting firstUnread written departed appended taken overrun refuse answering poweredAt wordTaken readBuf readOf turnsOn turnsOff statWritten writeStat withCon1 withCon2 configured wordWritten writeBuf writeOf clockStepOf edgeTold tickOf pinsOf clearOf performOf interruptOf sckOf undriven sdoOf ssOf if_then_else_ begun shifted advanced advancedIfBegun awaitsPulse underWay pulseDue pulseAfter pulsed clocked edged stepped overflowed wordAppended isLost delivered sentDropped freed finished raises noted wordLeaves moved canLoad loaded nextTop sdoAt rested numberOf bitOf weighed con1From con1Value con2From con2Value spitbf spirbf srxmpt srmpt atMost7 spibec statValue statSettings spirovAfter statEngine enabledEngine disabledEngine next selectRemembered aborted selectSeen opened leftToSend loses firstOnWire counted closed given unless judged told-of entered-as seen-as made run waiting unread contents
+unframed-runs = (refl, refl, refl, refl, refl, refl, refl, refl, refl)
 
 framed-runs :
     Run (ownGives 0) × Run (ownGives 8194) × Run (pinGives 0) × Run (pinGives 8194) × Run (ownTakes 0 false) × Run (ownTakes 8194 true)
     × Run (pinTakes 0 false) × Run (pinTakes 8194 true) × Run heedless × Run twice
-unfolding shiftedIn receivedAfter shownBit sdoAfter progressed emptyTransmit emptyReceive firstWaiting firstUnread written departed appended taken overrun refuse answering poweredUp wordTaken readBuf readOf turnsOn turnsOff statWritten writeStat withCon1 withCon2 configured wordWritten writeBuf writeOf clockStepOf edgeTold tickOf pinsOf clearOf performOf interruptOf sckOf undriven sdoOf ssOf if_then_else_ begun shifted advanced advancedIfBegun awaitsPulse underWay pulseDue pulseAfter pulsed clocked edged stepped overflowed wordAppended isLost delivered sentDropped freed finished raises noted wordLeaves moved canLoad loaded nextTop sdoAt rested numberOf bitOf weighed con1From con1Value con2From con2Value spitbf spirbf srxmpt srmpt atMost7 spibec statValue statSettings spirovAfter statEngine enabledEngine disabledEngine next selectRemembered aborted selectSeen opened leftToSend loses firstOnWire counted closed given unless judged told-of entered-as seen-as made run waiting unread contents
+unfolding shiftedIn receivedAfter shownBit sdoAfter progressed emptyTransmit emptyReceive firstWaiting firstUnread written departed appended taken overrun refuse answering poweredAt wordTaken readBuf readOf turnsOn turnsOff statWritten writeStat withCon1 withCon2 configured wordWritten writeBuf writeOf clockStepOf edgeTold tickOf pinsOf clearOf performOf interruptOf sckOf undriven sdoOf ssOf if_then_else_ begun shifted advanced advancedIfBegun awaitsPulse underWay pulseDue pulseAfter pulsed clocked edged stepped overflowed wordAppended isLost delivered sentDropped freed finished raises noted wordLeaves moved canLoad loaded nextTop sdoAt rested numberOf bitOf weighed con1From con1Value con2From con2Value spitbf spirbf srxmpt srmpt atMost7 spibec statValue statSettings spirovAfter statEngine enabledEngine disabledEngine next selectRemembered aborted selectSeen opened leftToSend loses firstOnWire counted closed given unless judged told-of entered-as seen-as made run waiting unread contents
 framed-runs = (refl, refl, refl, refl, refl, refl, refl, refl, refl, refl)
 
 -- Document 02, Eleven: so many clock steps with SCK at one level throughout, which counts for no host with its own clock; and clocks of
@@ -253,7 +229,7 @@ stepTakes con1 con2 ss =
 step-runs :
     Run ownSteps × Run (pinSteps 4128 0) × Run (pinSteps 0 1) × Run (pinSteps 128 0) × Run (stepGives 8192) × Run (stepTakes 32 8192 true)
     × Run (stepTakes 0 0 false)
-unfolding shiftedIn receivedAfter shownBit sdoAfter progressed emptyTransmit emptyReceive firstWaiting firstUnread written departed appended taken overrun refuse answering poweredUp wordTaken readBuf readOf turnsOn turnsOff statWritten writeStat withCon1 withCon2 configured wordWritten writeBuf writeOf clockStepOf edgeTold tickOf pinsOf clearOf performOf interruptOf sckOf undriven sdoOf ssOf if_then_else_ begun shifted advanced advancedIfBegun awaitsPulse underWay pulseDue pulseAfter pulsed clocked edged stepped overflowed wordAppended isLost delivered sentDropped freed finished raises noted wordLeaves moved canLoad loaded nextTop sdoAt rested numberOf bitOf weighed con1From con1Value con2From con2Value spitbf spirbf srxmpt srmpt atMost7 spibec statValue statSettings spirovAfter statEngine enabledEngine disabledEngine next selectRemembered aborted selectSeen opened leftToSend loses firstOnWire counted closed given unless judged told-of entered-as seen-as made run waiting unread contents
+unfolding shiftedIn receivedAfter shownBit sdoAfter progressed emptyTransmit emptyReceive firstWaiting firstUnread written departed appended taken overrun refuse answering poweredAt wordTaken readBuf readOf turnsOn turnsOff statWritten writeStat withCon1 withCon2 configured wordWritten writeBuf writeOf clockStepOf edgeTold tickOf pinsOf clearOf performOf interruptOf sckOf undriven sdoOf ssOf if_then_else_ begun shifted advanced advancedIfBegun awaitsPulse underWay pulseDue pulseAfter pulsed clocked edged stepped overflowed wordAppended isLost delivered sentDropped freed finished raises noted wordLeaves moved canLoad loaded nextTop sdoAt rested numberOf bitOf weighed con1From con1Value con2From con2Value spitbf spirbf srxmpt srmpt atMost7 spibec statValue statSettings spirovAfter statEngine enabledEngine disabledEngine next selectRemembered aborted selectSeen opened leftToSend loses firstOnWire counted closed given unless judged told-of entered-as seen-as made run waiting unread contents
 step-runs = (refl, refl, refl, refl, refl, refl, refl)
 
 -- A marked buffer with room, which no calls reach, before the last edge of a word: the word is dropped.
@@ -261,15 +237,15 @@ abbrev marked : Module → Module
 marked m = record { settings = m .settings; engine = withReceive (overrun true (m .engine .receive)) (m .engine) }
 
 abbrev nearlyDone : Module
-nearlyDone = marked (life powerUp (one-by-one (enabled 32 1 ∷ words (165 ∷ []) ∷ ticks 7 true true ∷ (Tick true true ∷ []) ∷ [])) .now)
+nearlyDone = marked (life (powerUp Eight) (one-by-one (enabled 32 1 ∷ words (165 ∷ []) ∷ ticks 7 true true ∷ (Tick true true ∷ []) ∷ [])) .now)
 
 marked-run : allJudged (lastEdges nearlyDone (performOf nearlyDone (Tick true true) .after)) ≡ true
-unfolding shiftedIn receivedAfter shownBit sdoAfter progressed emptyTransmit emptyReceive firstWaiting firstUnread written departed appended taken overrun refuse answering poweredUp wordTaken readBuf readOf turnsOn turnsOff statWritten writeStat withCon1 withCon2 configured wordWritten writeBuf writeOf clockStepOf edgeTold tickOf pinsOf clearOf performOf interruptOf sckOf undriven sdoOf ssOf if_then_else_ begun shifted advanced advancedIfBegun awaitsPulse underWay pulseDue pulseAfter pulsed clocked edged stepped overflowed wordAppended isLost delivered sentDropped freed finished raises noted wordLeaves moved canLoad loaded nextTop sdoAt rested numberOf bitOf weighed con1From con1Value con2From con2Value spitbf spirbf srxmpt srmpt atMost7 spibec statValue statSettings spirovAfter statEngine enabledEngine disabledEngine next selectRemembered aborted selectSeen opened leftToSend loses firstOnWire counted closed given unless judged told-of entered-as seen-as made run waiting unread contents
+unfolding shiftedIn receivedAfter shownBit sdoAfter progressed emptyTransmit emptyReceive firstWaiting firstUnread written departed appended taken overrun refuse answering poweredAt wordTaken readBuf readOf turnsOn turnsOff statWritten writeStat withCon1 withCon2 configured wordWritten writeBuf writeOf clockStepOf edgeTold tickOf pinsOf clearOf performOf interruptOf sckOf undriven sdoOf ssOf if_then_else_ begun shifted advanced advancedIfBegun awaitsPulse underWay pulseDue pulseAfter pulsed clocked edged stepped overflowed wordAppended isLost delivered sentDropped freed finished raises noted wordLeaves moved canLoad loaded nextTop sdoAt rested numberOf bitOf weighed con1From con1Value con2From con2Value spitbf spirbf srxmpt srmpt atMost7 spibec statValue statSettings spirovAfter statEngine enabledEngine disabledEngine next selectRemembered aborted selectSeen opened leftToSend loses firstOnWire counted closed given unless judged told-of entered-as seen-as made run waiting unread contents
 marked-run = refl
 
 -- No hypothesis of the page is empty: each is met after these calls.
 abbrev settingsAfter : List Call → Settings
-settingsAfter cs = life powerUp cs .now .settings
+settingsAfter cs = life (powerUp Eight) cs .now .settings
 
 hypotheses-met :
     -- an enabled host without FRMEN and with its own clock
@@ -280,6 +256,6 @@ hypotheses-met :
     -- a client without SSEN and without FRMEN, with nothing on the wire and nothing to send
     × (settingsAfter (enabled 0 0) .spien ≡ true) × (settingsAfter (enabled 0 0) .con1 .msten ≡ false)
     × (settingsAfter (enabled 0 0) .con1 .ssen ≡ false) × (settingsAfter (enabled 0 0) .con2 .frmen ≡ false)
-    × (isQuiet (life powerUp (enabled 0 0) .ledger .wire) ≡ true) × (unsent (life powerUp (enabled 0 0) .ledger) ≡ 0)
-unfolding shiftedIn receivedAfter shownBit sdoAfter progressed emptyTransmit emptyReceive firstWaiting firstUnread written departed appended taken overrun refuse answering poweredUp wordTaken readBuf readOf turnsOn turnsOff statWritten writeStat withCon1 withCon2 configured wordWritten writeBuf writeOf clockStepOf edgeTold tickOf pinsOf clearOf performOf interruptOf sckOf undriven sdoOf ssOf if_then_else_ begun shifted advanced advancedIfBegun awaitsPulse underWay pulseDue pulseAfter pulsed clocked edged stepped overflowed wordAppended isLost delivered sentDropped freed finished raises noted wordLeaves moved canLoad loaded nextTop sdoAt rested numberOf bitOf weighed con1From con1Value con2From con2Value spitbf spirbf srxmpt srmpt atMost7 spibec statValue statSettings spirovAfter statEngine enabledEngine disabledEngine next selectRemembered aborted selectSeen opened leftToSend loses firstOnWire counted closed given unless judged told-of entered-as seen-as made run waiting unread contents
+    × (isQuiet (life (powerUp Eight) (enabled 0 0) .ledger .wire) ≡ true) × (unsent (life (powerUp Eight) (enabled 0 0) .ledger) ≡ 0)
+unfolding shiftedIn receivedAfter shownBit sdoAfter progressed emptyTransmit emptyReceive firstWaiting firstUnread written departed appended taken overrun refuse answering poweredAt wordTaken readBuf readOf turnsOn turnsOff statWritten writeStat withCon1 withCon2 configured wordWritten writeBuf writeOf clockStepOf edgeTold tickOf pinsOf clearOf performOf interruptOf sckOf undriven sdoOf ssOf if_then_else_ begun shifted advanced advancedIfBegun awaitsPulse underWay pulseDue pulseAfter pulsed clocked edged stepped overflowed wordAppended isLost delivered sentDropped freed finished raises noted wordLeaves moved canLoad loaded nextTop sdoAt rested numberOf bitOf weighed con1From con1Value con2From con2Value spitbf spirbf srxmpt srmpt atMost7 spibec statValue statSettings spirovAfter statEngine enabledEngine disabledEngine next selectRemembered aborted selectSeen opened leftToSend loses firstOnWire counted closed given unless judged told-of entered-as seen-as made run waiting unread contents
 hypotheses-met = (refl, refl, refl, refl, refl, refl, refl, refl, refl, refl, refl, refl)

@@ -17,7 +17,7 @@ use Rattle.word_order.specs.Bits.{bitOf}
 use Rattle.spi_types.specs.declared.Module.{Module}
 use Rattle.spi_types.specs.declared.Outcome.{Outcome}
 use Rattle.spi_types.specs.declared.Refusal.{Refusal}
-use Rattle.spi_types.specs.declared.Refusal.the-variants.{NoSuchRegister, Disabled, Enabled, TransmitFull, ReceiveEmpty, WrongClock, NoRate, UnreadableLine, DifferentModes, TooManyEdges, Undivided, LateSampling, UnselectedCke, Overflowed}
+use Rattle.spi_types.specs.declared.Refusal.the-variants.{NoSuchRegister, Disabled, Enabled, TransmitFull, ReceiveEmpty, WrongClock, NoRate, UnreadableLine, DifferentModes, TooManyEdges, Undivided, LateSampling, UnselectedCke, Overflowed, NoSuchDepth}
 use Rattle.spi_types.specs.declared.Call.{Call}
 use Rattle.spi_types.specs.declared.Call.the-variants.{Read, Write, Tick, Pin, ClockStep, Clear}
 use Rattle.spi_rules.specs.Settings.{depthOf, ownClock}
@@ -44,7 +44,14 @@ by-spien : (c : Call) →
     ((on : Bool) (m : Module) →
     let x : Module = record {
       settings =
-          record { spien = on; spisidl = m .settings .spisidl; sisel = m .settings .sisel; con1 = m .settings .con1; con2 = m .settings .con2 };
+          record {
+            depth = m .settings .depth;
+            spien = on;
+            spisidl = m .settings .spisidl;
+            sisel = m .settings .sisel;
+            con1 = m .settings .con1;
+            con2 = m .settings .con2;
+          };
       engine = m .engine;
     } in
     told (performOf x c) ≡ firstNumber (rows x c)) →
@@ -87,6 +94,7 @@ never-given Undivided = ((λ e. omega (arith, e)), (λ e. omega (arith, e)))
 never-given LateSampling = ((λ e. omega (arith, e)), (λ e. omega (arith, e)))
 never-given UnselectedCke = ((λ e. omega (arith, e)), (λ e. omega (arith, e)))
 never-given Overflowed = ((λ e. omega (arith, e)), (λ e. omega (arith, e)))
+never-given NoSuchDepth = ((λ e. omega (arith, e)), (λ e. omega (arith, e)))
 
 -- A register number is one of the four, or above 3.
 register-cases : (P : ℕ → Type 0) → P 0 → P 1 → P 2 → P 3 → ((k : ℕ) → ltb 3 k ≡ true → P k) → (register : ℕ) → P register

@@ -11,13 +11,15 @@ use mathlib.Core.Bool.{Bool, true, false}
 use mathlib.Core.Path.{_≡_, ap, _∙_}
 use native.Mathlib.Nat.{mod-lt, div-eq-of-lt, mod-eq-of-lt, one-le-pow, one-mul, lt-of-lt-of-le, lt-of-le-of-lt}
 use native.Mathlib.Omega.{arith}
-use lib.Dec.{eqb, lit<}
+use lib.Dec.{eqb, lit<, lit≤}
 use lib.Pow.{pow-mono}
 use Rattle.laws.proofs.Keeps.{if-keeps}
 use Rattle.word_order.specs.Bits.{bitOf}
+use Rattle.spi_types.specs.declared.Depth.{Depth}
+use Rattle.spi_types.specs.declared.Depth.the-variants.{Four, Eight, Sixteen}
 use Rattle.spi_types.specs.declared.Settings.{Settings}
 use Rattle.spi_rules.specs.Buffers.{capacity}
-use Rattle.spi_rules.specs.Settings.{widthOf, depthOf, enhancedDepth}
+use Rattle.spi_rules.specs.Settings.{widthOf, wordsOf, depthOf}
 use Rattle.spi_rules.specs.Registers.{lowBits}
 
 -- A word has at least one bit.
@@ -28,13 +30,19 @@ width-least s = if-keeps (λ (w : ℕ). 1 ≤ w) (s .con1 .mode16) 16 8 (λ e. o
 pub width-most : (s : Settings) → widthOf s ≤ 16
 width-most s = if-keeps (λ (w : ℕ). w ≤ 16) (s .con1 .mode16) 16 8 (λ e. omega arith) (λ e. omega arith)
 
+-- Every depth that can be chosen is within the cells of a buffer.
+words-within : (depth : Depth) → (1 ≤ wordsOf depth) × (wordsOf depth ≤ capacity)
+words-within Four = (lit≤ tt, lit≤ tt)
+words-within Eight = (lit≤ tt, lit≤ tt)
+words-within Sixteen = (lit≤ tt, lit≤ tt)
+
 -- A buffer holds at least one word.
 pub depth-least : (s : Settings) → 1 ≤ depthOf s
-depth-least s = if-keeps (λ (d : ℕ). 1 ≤ d) (s .con2 .spiben) enhancedDepth 1 (λ e. omega arith) (λ e. omega arith)
+depth-least s = if-keeps (λ (d : ℕ). 1 ≤ d) (s .con2 .spiben) (wordsOf (s .depth)) 1 (λ e. words-within (s .depth) .0) (λ e. omega arith)
 
 -- A buffer has a cell for each word of its depth.
 pub depth-most : (s : Settings) → depthOf s ≤ capacity
-depth-most s = if-keeps (λ (d : ℕ). d ≤ capacity) (s .con2 .spiben) enhancedDepth 1 (λ e. omega arith) (λ e. omega arith)
+depth-most s = if-keeps (λ (d : ℕ). d ≤ capacity) (s .con2 .spiben) (wordsOf (s .depth)) 1 (λ e. words-within (s .depth) .1) (λ e. omega arith)
 
 -- A power of two is at least 1.
 pub power-least : (k : ℕ) → 1 ≤ 2 ^ k

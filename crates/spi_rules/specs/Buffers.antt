@@ -9,9 +9,9 @@ use Rattle.ring.specs.Ring.{next, contents}
 use Rattle.spi_types.specs.declared.Transmit.{Transmit}
 use Rattle.spi_types.specs.declared.Receive.{Receive}
 
--- The cells of each buffer, used or not: what the fields `words` hold.
+-- The cells of each buffer, used or not: what the fields `words` hold. It is the greatest depth (document 02, Twelve).
 abbrev pub capacity : ℕ
-capacity = 8
+capacity = 16
 
 -- The cell of a position. A position that calls cannot reach is taken round the capacity, so that it names a cell too.
 abbrev pub cell : ℕ → ℕ

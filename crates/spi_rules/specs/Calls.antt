@@ -9,6 +9,8 @@ use Rattle.laws.specs.Choice.{if_then_else_}
 use Rattle.word_order.specs.Bits.{bitOf}
 use Rattle.spi_types.specs.declared.Con1.{Con1}
 use Rattle.spi_types.specs.declared.Con2.{Con2}
+use Rattle.spi_types.specs.declared.Depth.{Depth}
+use Rattle.spi_types.specs.declared.Depth.the-variants.{Four, Eight, Sixteen}
 use Rattle.spi_types.specs.declared.Settings.{Settings}
 use Rattle.spi_types.specs.declared.Engine.{Engine}
 use Rattle.spi_types.specs.declared.Module.{Module}
@@ -17,7 +19,7 @@ use Rattle.spi_types.specs.declared.Outcome.{Outcome}
 use Rattle.spi_types.specs.declared.Shift.the-variants.{Free}
 use Rattle.spi_types.specs.declared.Event.the-variants.{Taken, Written}
 use Rattle.spi_types.specs.declared.Refusal.{Refusal}
-use Rattle.spi_types.specs.declared.Refusal.the-variants.{NoSuchRegister, Disabled, Enabled, TransmitFull, ReceiveEmpty, WrongClock, Overflowed}
+use Rattle.spi_types.specs.declared.Refusal.the-variants.{NoSuchRegister, Disabled, Enabled, TransmitFull, ReceiveEmpty, WrongClock, Overflowed, NoSuchDepth}
 use Rattle.spi_types.specs.declared.Answer.{Answer}
 use Rattle.spi_types.specs.declared.Answer.the-variants.{Refused, Done, Value, NoEdge, Edge}
 use Rattle.spi_types.specs.declared.Call.{Call}
@@ -42,11 +44,11 @@ refuse m r = record { answer = Refused r; after = m }
 unfoldable pub answering : Module → Answer → Engine → Outcome
 answering m a n = record { answer = a; after = record { settings = m .settings; engine = n } }
 
--- Power-up: all zero, interrupt flag clear. The remembered levels are low.
-unfoldable pub poweredUp : Module
-poweredUp =
+-- Power-up with a depth (document 02, Twelve): all else zero, interrupt flag clear. The remembered levels are low.
+unfoldable pub poweredAt : Depth → Module
+poweredAt depth =
     record {
-      settings = record { spien = false; spisidl = false; sisel = 0; con1 = con1From 0; con2 = con2From 0 };
+      settings = record { depth = depth; spien = false; spisidl = false; sisel = 0; con1 = con1From 0; con2 = con2From 0 };
       engine =
           record {
             transmit = emptyTransmit;
@@ -57,6 +59,18 @@ poweredUp =
             interrupt = false;
           };
     }
+
+-- Power-up without a depth chooses 8.
+abbrev pub poweredUp : Module
+poweredUp = poweredAt Eight
+
+-- The power-up call with a depth, in any state: 25 for another one than 4, 8 and 16.
+unfoldable pub powerUpOf : Module → ℕ → Outcome
+powerUpOf m words =
+    if eqb words 4 then record { answer = Done; after = poweredAt Four }
+    else if eqb words 8 then record { answer = Done; after = poweredAt Eight }
+    else if eqb words 16 then record { answer = Done; after = poweredAt Sixteen }
+    else refuse m NoSuchDepth
 
 -- The first unread word is taken by a BUF read, which is an event.
 unfoldable pub wordTaken : Settings → Engine → Engine
@@ -106,10 +120,10 @@ writeStat m v =
 
 -- The settings with another CON1, and with another CON2.
 unfoldable pub withCon1 : Settings → Con1 → Settings
-withCon1 s c = record { spien = s .spien; spisidl = s .spisidl; sisel = s .sisel; con1 = c; con2 = s .con2 }
+withCon1 s c = record { depth = s .depth; spien = s .spien; spisidl = s .spisidl; sisel = s .sisel; con1 = c; con2 = s .con2 }
 
 unfoldable pub withCon2 : Settings → Con2 → Settings
-withCon2 s c = record { spien = s .spien; spisidl = s .spisidl; sisel = s .sisel; con1 = s .con1; con2 = c }
+withCon2 s c = record { depth = s .depth; spien = s .spien; spisidl = s .spisidl; sisel = s .sisel; con1 = s .con1; con2 = c }
 
 -- CON1 and CON2 writes: refused with 3 while SPIEN is 1, whatever the value.
 unfoldable pub configured : Module → Settings → Outcome

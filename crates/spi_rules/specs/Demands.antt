@@ -12,6 +12,8 @@ use lib.ListN.{length}
 use Rattle.laws.specs.Choice.{if_then_else_}
 use Rattle.word_order.specs.Bits.{bitOf, spelled}
 use Rattle.word_order.specs.Ledger.{isQuiet, Passed, sent, kept, lostOf, edgesGiven, carriesFiller, unsent}
+use Rattle.spi_types.specs.declared.Depth.{Depth}
+use Rattle.spi_types.specs.declared.Depth.the-variants.{Eight}
 use Rattle.spi_types.specs.declared.Module.{Module}
 use Rattle.spi_types.specs.declared.Outcome.{Outcome}
 use Rattle.spi_types.specs.declared.Progress.{Progress}
@@ -23,10 +25,10 @@ use Rattle.spi_types.specs.declared.Answer.{Answer}
 use Rattle.spi_types.specs.declared.Call.{Call}
 use Rattle.spi_types.specs.declared.Call.the-variants.{Read, Write, Tick, Pin, ClockStep, Clear}
 use Rattle.spi_rules.specs.Refusals.{numberOf, saidOf, isDone, isEdge}
-use Rattle.spi_rules.specs.Examples.{examples, furtherExamples, frameExamples, markExamples, stepExamples}
-use Rattle.spi_rules.specs.InBits.{wordBits, room, clocksItself, stopsBetweenWords, heedsSelect, givesPulses, takesPulses}
+use Rattle.spi_rules.specs.Examples.{examples, furtherExamples, frameExamples, markExamples, depthExamples, stepExamples}
+use Rattle.spi_rules.specs.InBits.{wordBits, chosen, room, clocksItself, stopsBetweenWords, heedsSelect, givesPulses, takesPulses}
 use Rattle.spi_rules.specs.Words.{waitingIn, unreadIn, owedWords}
-use Rattle.spi_rules.specs.Calls.{poweredUp, performOf, interruptOf, sckOf, sdoOf, ssOf}
+use Rattle.spi_rules.specs.Calls.{poweredAt, poweredUp, powerUpOf, performOf, interruptOf, sckOf, sdoOf, ssOf}
 use Rattle.spi_rules.specs.Invariant.{Reached}
 use Rattle.spi_rules.specs.Watch.{Watched, watchedCall, watchedCalls, showsPulse}
 use Rattle.spi_rules.specs.Lives.{Beginning, life}
@@ -76,6 +78,21 @@ pub record AllZero (m : Module) : Type 0 where
   pub sck : sckOf m ≡ false
   pub ss : m .engine .pins .ss ≡ false
   pub sdo : m .engine .pins .sdo ≡ false
+
+-- Power-up with a depth (document 02, Twelve), in any state. 25 is given exactly for another depth than 4, 8 and 16, and then nothing
+-- changes. Otherwise the module is as at power-up, with that depth; without one the depth is 8. No other call changes it.
+abbrev pub isDepth : ℕ → Bool
+isDepth words = among words (4 ∷ 8 ∷ 16 ∷ [])
+
+pub record PowersUp : Type 0 where
+  pub refusedExactly : (m : Module) (words : ℕ) → saidOf (powerUpOf m words .answer) .number ≡ (if isDepth words then 0 else 25)
+  pub refusedUnchanged : (m : Module) (words : ℕ) → isDepth words ≡ false → powerUpOf m words .after ≡ m
+  pub done : (m : Module) (words : ℕ) → isDepth words ≡ true →
+      (isDone (powerUpOf m words .answer) ≡ true) × (chosen (powerUpOf m words .after .settings .depth) ≡ words)
+      × (powerUpOf m words .after ≡ poweredAt (powerUpOf m words .after .settings .depth))
+  pub allZero : (depth : Depth) → AllZero (poweredAt depth)
+  pub without : poweredUp ≡ poweredAt Eight
+  pub stays : (m : Module) (c : Call) → performOf m c .after .settings .depth ≡ m .settings .depth
 
 -- Demand 2. Every register value, pin level, flag and interrupt after every call is what document 01's rules say: the rules
 -- are the definitions of this folder, docs/TRACE.md sets each beside the paper, and the contract of each call is an
@@ -245,8 +262,9 @@ pub record ClockSteps (m : Module) : Type 0 where
 pub record OneModule : Type 0 where
   pub answered : Answered
   pub paperExamples : (examples ≡ true) × (furtherExamples ≡ true) × (frameExamples ≡ true) × (markExamples ≡ true) × (stepExamples ≡ true)
+      × (depthExamples ≡ true)
   pub figures : Figures
-  pub allZero : AllZero poweredUp
+  pub powersUp : PowersUp
   pub reached : (b : Beginning) (cs : List Call) → Reached (life b cs .now)
   pub readsShow : (b : Beginning) (cs : List Call) → ReadsShow (life b cs)
   pub callChanges : (b : Beginning) (cs : List Call) (c : Call) → CallChanges (life b cs) c

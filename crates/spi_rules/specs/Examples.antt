@@ -1,6 +1,6 @@
 -- Document 01, "Checked examples", and cases of document 02: each as calls from power-up with what they must answer and show.
 -- proofs/ExamplesHold.antt proves them together, as one list.
-use Prim.Native.Nat.{ℕ}
+use Prim.Native.Nat.{ℕ, _*_, _-_}
 use mathlib.Core.Bool.{Bool, true, false, _&&_, Bool·beq}
 use mathlib.Core.List.{List, [], _∷_, _++_, map}
 use lib.Dec.{eqb}
@@ -13,7 +13,7 @@ use Rattle.spi_types.specs.declared.Call.the-variants.{Read, Write, Tick, Pin, 
 use Rattle.spi_types.specs.declared.Output.{Output}
 use Rattle.spi_types.specs.declared.Output.the-variants.{Low, High, Undriven}
 use Rattle.spi_rules.specs.Refusals.{saidOf}
-use Rattle.spi_rules.specs.Calls.{poweredUp, performOf, interruptOf, sckOf, sdoOf, ssOf}
+use Rattle.spi_rules.specs.Calls.{poweredUp, powerUpOf, performOf, interruptOf, sckOf, sdoOf, ssOf}
 
 -- One step of an example: a call with what its answer must say, what SDO must show, what SS must show, how the interrupt flag
 -- must stand, or the level of SCK.
@@ -382,6 +382,79 @@ unmarkedStandard =
 
 abbrev pub markExamples : Bool
 markExamples = everyHolds (markedEnhanced ∷ unmarkedStandard ∷ [])
+
+-- Document 02, Twelve: an enhanced host of a depth, by its own figures: one word more than the depth is accepted, STAT reads so then, and the
+-- next word gives 5. SISEL 7 is met as the last word waits, 4 as one leaves, 5 not while words are left, 2 at the finish that leaves three quarters
+-- of the depth unread, 3 at the one that leaves the depth. The word behind them is lost, which SISEL 1 does not take for an append.
+abbrev pub depthCase : ℕ → ℕ → ℕ → List Step
+depthCase depth threeQuarters stat =
+    set-up 0x0020 0x0001
+    ++ (says (Write 0 0x801C) ok
+    ∷ replicate depth (says (Write 3 0x0081) ok)
+    ++ (flagged false
+    ∷ says (Write 3 0x0081) ok
+    ∷ flagged true
+    ∷ says (Read 0) (value stat)
+    ∷ says (Write 3 0x0081) (refused 5)
+    ∷ says (Write 0 0x8010) ok
+    ∷ flagged true
+    ∷ says Clear ok
+    ∷ tickEdges 15
+    ++ (flagged false
+    ∷ tickEdges 1
+    ++ (flagged true
+    ∷ says Clear ok
+    ∷ says (Write 0 0x8014) ok
+    ∷ tickEdges 16
+    ++ (flagged false
+    ∷ says (Write 0 0x8008) ok
+    ∷ tickEdges (16 * (threeQuarters - 3))
+    ++ (flagged false
+    ∷ tickEdges 16
+    ++ (flagged true
+    ∷ says Clear ok
+    ∷ says (Write 0 0x800C) ok
+    ∷ tickEdges (16 * (depth - 1 - threeQuarters))
+    ++ (flagged false
+    ∷ tickEdges 16
+    ++ (flagged true
+    ∷ says (Read 0) (value 0x800D)
+    ∷ says Clear ok
+    ∷ says (Write 0 0x8004) ok
+    ∷ tickEdges 16
+    ++ (flagged false ∷ says (Read 0) (value 0x80C5) ∷ says (Tick true false) noEdge ∷ []))))))))))
+
+-- SISEL 6: a word leaves the transmit buffer with none left, at once at a write or as the word before it is finished.
+abbrev pub noneLeft : List Step
+noneLeft =
+    set-up 0x0020 0x0001
+    ++ (says (Write 0 0x8018) ok
+    ∷ says (Write 3 0x0001) ok
+    ∷ flagged true
+    ∷ says Clear ok
+    ∷ says (Write 3 0x0002) ok
+    ∷ says (Write 3 0x0003) ok
+    ∷ tickEdges 16
+    ++ (flagged false ∷ tickEdges 16 ++ (flagged true ∷ [])))
+
+-- Ten words written at depth 16, so that nine wait: SPIBEC shows 7, and the buffer is not full.
+abbrev pub nineWait : List Step
+nineWait = set-up 0x0020 0x0001 ++ (replicate 10 (says (Write 3 0x0081) ok) ++ (says (Read 0) (value 0x8720) ∷ []))
+
+-- Power-up with other depths gives 25.
+abbrev pub noDepth : List ℕ → Bool
+noDepth [] = true
+noDepth (words ∷ rest) = sameSaid (saidOf (powerUpOf poweredUp words .answer)) (refused 25) && noDepth rest
+
+-- The chosen depth counts in enhanced operation alone: example g at depth 16.
+abbrev pub deep : ℕ → List Step → Bool
+deep words steps = sameSaid (saidOf (powerUpOf poweredUp words .answer)) ok && allHold (powerUpOf poweredUp words .after) steps
+
+abbrev pub depthExamples : Bool
+depthExamples =
+    noDepth (0 ∷ 1 ∷ 3 ∷ 5 ∷ 7 ∷ 9 ∷ 12 ∷ 15 ∷ 17 ∷ 32 ∷ [])
+    && (deep 4 (depthCase 4 3 0x843E)
+    && (deep 8 (depthCase 8 6 0x873E) && (deep 16 (depthCase 16 12 0x873E) && (deep 16 nineWait && (deep 16 exampleG && deep 4 noneLeft)))))
 
 -- Document 02, Three: frames.
 

@@ -62,13 +62,13 @@ abbrev pub con2Bits : Con2 → List Placed
 con2Bits c = bit 15 (c .frmen) ∷ bit 14 (c .spifsd) ∷ bit 13 (c .frmpol) ∷ bit 1 (c .frmdly) ∷ bit 0 (c .spiben) ∷ []
 
 -- What a STAT read shows. SPIBEC, SRMPT and SRXMPT show something in enhanced operation and while enabled: words waiting (host) or
--- unread (client), with 8 shown as 7; no word loaded or begun, so that nothing has left the transmit buffer unfinished and the wire
+-- unread (client), with more than 7 shown as 7 (document 02, Twelve); no word loaded or begun, so that nothing has left the transmit buffer unfinished and the wire
 -- is quiet; the receive buffer empty. SPITBF and SPIRBF: that buffer is full.
 abbrev pub counts : Module → ℕ
 counts m = length (if m .settings .con1 .msten then waitingIn m else unreadIn m)
 
 abbrev pub spibecShown : Module → ℕ
-spibecShown m = if m .settings .spien && m .settings .con2 .spiben then (if eqb (counts m) 8 then 7 else counts m) else 0
+spibecShown m = if m .settings .spien && m .settings .con2 .spiben then (if ltb 7 (counts m) then 7 else counts m) else 0
 
 abbrev pub shiftsNone : Watched → Bool
 shiftsNone x = eqb (length (leftBuffer (x .now))) 0 && isQuiet (x .ledger .wire)

@@ -5,15 +5,22 @@ use mathlib.Core.Bool.{Bool, not, _&&_, _||_, Bool·beq}
 use lib.Dec.{eqb}
 use Rattle.laws.specs.Choice.{if_then_else_}
 use Rattle.spi_types.specs.declared.Con1.{Con1}
+use Rattle.spi_types.specs.declared.Depth.{Depth}
+use Rattle.spi_types.specs.declared.Depth.the-variants.{Four, Eight, Sixteen}
 use Rattle.spi_types.specs.declared.Settings.{Settings}
 
 -- A word has 16 bits with MODE16, else 8.
 abbrev pub wordBits : Settings → ℕ
 wordBits s = if s .con1 .mode16 then 16 else 8
 
--- Each buffer holds 8 words with SPIBEN, else 1.
+-- With SPIBEN each buffer holds the 4, 8 or 16 words that power-up chose, else 1.
+abbrev pub chosen : Depth → ℕ
+chosen Four = 4
+chosen Eight = 8
+chosen Sixteen = 16
+
 abbrev pub room : Settings → ℕ
-room s = if s .con2 .spiben then 8 else 1
+room s = if s .con2 .spiben then chosen (s .depth) else 1
 
 -- The edges of a word at which SDI is sampled: the odd ones with CKE, else the even ones. With FRMEN CKE counts as 0.
 abbrev pub oddSampled : Settings → Bool

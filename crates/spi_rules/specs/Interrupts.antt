@@ -11,7 +11,7 @@ use Rattle.spi_types.specs.declared.Event.the-variants.{Taken, Appended, Left, 
 use Rattle.spi_rules.specs.Changes.{withInterrupt}
 use Rattle.spi_rules.specs.Settings.{depthOf}
 
--- The counts that SISEL names are the depth, one less, and three quarters of it: 8, 7 and 6 at depth 8.
+-- The counts that SISEL names are the depth, one less, and three quarters of it: 8, 7 and 6 at depth 8 (document 02, Twelve).
 abbrev pub threeQuarters : ℕ → ℕ
 threeQuarters depth = 3 * depth / 4
 

@@ -68,8 +68,8 @@ pub record ModuleHolds (m : Module) : Type 0 where
   pub settings : SettingsHold (m .settings)
   pub transmit : RingHolds (room (m .settings)) (m .engine .transmit .write .0) (m .engine .transmit .read .0) (m .engine .transmit .count)
   pub receive : RingHolds (room (m .settings)) (m .engine .receive .write .0) (m .engine .receive .read .0) (m .engine .receive .count)
-  pub transmitCells : length (m .engine .transmit .words) ≡ 8
-  pub receiveCells : length (m .engine .receive .words) ≡ 8
+  pub transmitCells : length (m .engine .transmit .words) ≡ 16
+  pub receiveCells : length (m .engine .receive .words) ≡ 16
   pub transmitWords : CellsHold (wordBits (m .settings)) (m .engine .transmit .words)
   pub receiveWords : CellsHold (wordBits (m .settings)) (m .engine .receive .words)
   pub shift : ShiftHolds (m .settings) (m .engine) (m .engine .shift)

@@ -5,14 +5,15 @@ use mathlib.Core.List.{List}
 use mathlib.Core.Path.{_≡_}
 use Rattle.word_order.specs.Ledger.{opened}
 use Rattle.word_order.specs.Port.{resumed}
+use Rattle.spi_types.specs.declared.Depth.{Depth}
 use Rattle.spi_types.specs.declared.Module.{Module}
 use Rattle.spi_types.specs.declared.Call.{Call}
-use Rattle.spi_rules.specs.Calls.{poweredUp}
+use Rattle.spi_rules.specs.Calls.{poweredAt}
 use Rattle.spi_rules.specs.Invariant.{Reached}
 use Rattle.spi_rules.specs.Watch.{terms, portIn, Memory, Watched, watchedCalls}
 
 pub data Beginning : Type 0 where
-  powerUp : Beginning
+  powerUp : Depth → Beginning
   midLife : (m : Module) → Reached m → m .settings .spien ≡ true → Beginning
 
 -- The levels that a module remembers.
@@ -20,7 +21,7 @@ abbrev pub levelsIn : Module → Memory
 levelsIn m = record { sck = m .engine .pins .sck; ss = m .engine .pins .ss; pulse = m .engine .pins .pulse }
 
 abbrev pub begins : Beginning → Watched
-begins powerUp = record { now = poweredUp; memory = levelsIn poweredUp; ledger = opened }
+begins (powerUp depth) = record { now = poweredAt depth; memory = levelsIn (poweredAt depth); ledger = opened }
 begins (midLife m holds enabled) = record { now = m; memory = levelsIn m; ledger = resumed (terms (m .settings)) (portIn m) }
 
 -- A watched module after some calls.

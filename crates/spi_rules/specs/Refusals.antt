@@ -6,7 +6,7 @@ use lib.Dec.{eqb}
 use Rattle.laws.specs.Choice.{if_then_else_}
 use Rattle.spi_types.specs.declared.Settings.{Settings}
 use Rattle.spi_types.specs.declared.Refusal.{Refusal}
-use Rattle.spi_types.specs.declared.Refusal.the-variants.{NoSuchRegister, Disabled, Enabled, TransmitFull, ReceiveEmpty, WrongClock, NoRate, UnreadableLine, DifferentModes, TooManyEdges, Undivided, LateSampling, UnselectedCke, Overflowed}
+use Rattle.spi_types.specs.declared.Refusal.the-variants.{NoSuchRegister, Disabled, Enabled, TransmitFull, ReceiveEmpty, WrongClock, NoRate, UnreadableLine, DifferentModes, TooManyEdges, Undivided, LateSampling, UnselectedCke, Overflowed, NoSuchDepth}
 use Rattle.spi_types.specs.declared.Answer.{Answer}
 use Rattle.spi_types.specs.declared.Answer.the-variants.{Refused, Done, Value, NoEdge, Edge}
 use Rattle.spi_types.specs.declared.Said.{Said}
@@ -45,6 +45,8 @@ numberOf LateSampling = 14
 numberOf UnselectedCke = 15
 -- Request Four: a BUF read while the receive buffer is marked
 numberOf Overflowed = 16
+-- Request Twelve: a depth other than 4, 8 and 16 at power-up
+numberOf NoSuchDepth = 25
 
 -- What an answer says in the paper's numbers. Its kind has a number of its own, so that no two answers say the same.
 abbrev pub saidOf : Answer → Said

@@ -89,7 +89,7 @@ srxmpt m = showsEnhanced (m .settings) && empty (m .engine .receive .count)
 unfoldable pub srmpt : Module → Bool
 srmpt m = showsEnhanced (m .settings) && isFree (m .engine .shift)
 
--- The three bits of SPIBEC show at most 7, so that 8 is shown as 7.
+-- The three bits of SPIBEC show at most 7, so that 8 and above are shown as 7 (document 02, Twelve).
 unfoldable pub atMost7 : ℕ → ℕ
 atMost7 count = if ltb count 7 then count else 7
 
@@ -115,6 +115,7 @@ statValue m =
 unfoldable pub statSettings : ℕ → Settings → Settings
 statSettings v s =
     record {
+      depth = s .depth;
       spien = bitOf v 15;
       spisidl = bitOf v 13;
       sisel = v / 2 ^ 2 % 8;

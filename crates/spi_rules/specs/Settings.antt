@@ -2,19 +2,23 @@
 use Prim.Native.Nat.{ℕ}
 use mathlib.Core.Bool.{Bool, not, _&&_}
 use Rattle.laws.specs.Choice.{if_then_else_}
+use Rattle.spi_types.specs.declared.Depth.{Depth}
+use Rattle.spi_types.specs.declared.Depth.the-variants.{Four, Eight, Sixteen}
 use Rattle.spi_types.specs.declared.Settings.{Settings}
 
 -- Width w: 16 with MODE16, else 8.
 abbrev pub widthOf : Settings → ℕ
 widthOf s = if s .con1 .mode16 then 16 else 8
 
--- Words that a buffer holds in enhanced operation.
-abbrev pub enhancedDepth : ℕ
-enhancedDepth = 8
+-- Document 02, Twelve: the words that a buffer holds in enhanced operation, as chosen at power-up.
+abbrev pub wordsOf : Depth → ℕ
+wordsOf Four = 4
+wordsOf Eight = 8
+wordsOf Sixteen = 16
 
--- Words that each buffer holds: the enhanced depth with SPIBEN, else 1.
+-- Words that each buffer holds: the chosen depth with SPIBEN, else 1.
 abbrev pub depthOf : Settings → ℕ
-depthOf s = if s .con2 .spiben then enhancedDepth else 1
+depthOf s = if s .con2 .spiben then wordsOf (s .depth) else 1
 
 -- Document 02, Three: with FRMEN a module is framed. SPIFSD 0 makes it a frame host, which gives pulses on SS; SPIFSD 1 makes
 -- it a frame client, which samples them there.

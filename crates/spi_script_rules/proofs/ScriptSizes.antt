@@ -17,7 +17,7 @@ use lib.ListN.{length, length-append}
 use Rattle.laws.proofs.Keeps.{if-keeps, or-right}
 use Rattle.spi_types.specs.declared.Module.{Module}
 use Rattle.spi_types.specs.declared.Refusal.{Refusal}
-use Rattle.spi_types.specs.declared.Refusal.the-variants.{NoSuchRegister, Disabled, Enabled, TransmitFull, ReceiveEmpty, WrongClock, NoRate, UnreadableLine, DifferentModes, TooManyEdges, Undivided, LateSampling, UnselectedCke, Overflowed}
+use Rattle.spi_types.specs.declared.Refusal.the-variants.{NoSuchRegister, Disabled, Enabled, TransmitFull, ReceiveEmpty, WrongClock, NoRate, UnreadableLine, DifferentModes, TooManyEdges, Undivided, LateSampling, UnselectedCke, Overflowed, NoSuchDepth}
 use Rattle.spi_types.specs.declared.Answer.{Answer}
 use Rattle.spi_types.specs.declared.Answer.the-variants.{Refused, Done, Value, NoEdge, Edge}
 use Rattle.spi_types.specs.declared.Call.{Call}
@@ -62,6 +62,7 @@ number-below Undivided = omega arith
 number-below LateSampling = omega arith
 number-below UnselectedCke = omega arith
 number-below Overflowed = omega arith
+number-below NoSuchDepth = omega arith
 
 pub refused-length : (r : Refusal) → length (refusedText r) ≤ 4
 unfolding refusedText decimalOf

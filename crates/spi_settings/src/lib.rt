@@ -1,10 +1,11 @@
 // What the settings decide by themselves: width, depth, role, why it cannot be enabled, and which events raise the
 // interrupt flag.
+use spi_types::Depth;
 use spi_types::Event;
 use spi_types::Refusal;
 use spi_types::Settings;
 ghost use mathlib.Core.Path.{_≡_};
-ghost use Rattle.spi_rules.specs.Settings.{widthOf, depthOf, framed, frameHost, frameClient, ckeOf, silent, ssenClient, ownClock};
+ghost use Rattle.spi_rules.specs.Settings.{widthOf, wordsOf, depthOf, framed, frameHost, frameClient, ckeOf, silent, ssenClient, ownClock};
 ghost use Rattle.spi_rules.specs.Select.{deselected};
 ghost use Rattle.spi_rules.specs.Refusals.{undivided, lateSampling, unselectedCke, causes, badSettings, firstGiven};
 ghost use Rattle.spi_rules.specs.Interrupts.{enhancedRaises, standardRaises, raises};
@@ -16,11 +17,23 @@ pub fn width(s: Settings) -> u8
     if s.con1.mode16 { 16 } else { 8 }
 }
 
+// How many words each buffer holds in enhanced operation.
+fn words(depth: Depth) -> u8
+    ensures { λ r. ⌜ r ≡ wordsOf depth ⌝ }
+{
+    match depth {
+        Depth::Four => 4,
+        Depth::Eight => 8,
+        Depth::Sixteen => 16,
+    }
+}
+
 // How many words each buffer holds.
 pub fn depth(s: Settings) -> u8
     ensures { λ r. ⌜ r ≡ depthOf s ⌝ }
 {
-    if s.con2.spiben { 8 } else { 1 }
+    let chosen = s.depth;
+    if s.con2.spiben { words(chosen) } else { 1 }
 }
 
 // Whether the module is framed.

@@ -13,6 +13,7 @@ use Rattle.laws.proofs.Keeps.{if-true, if-false, clash, by-test}
 use Rattle.spi_types.specs.declared.Module.{Module}
 use Rattle.spi_types.specs.declared.Call.{Call}
 use Rattle.spi_rules.specs.Calls.{poweredUp, afterCalls}
+use Rattle.spi_types.specs.declared.Depth.the-variants.{Eight}
 use Rattle.spi_rules.specs.Lives.{powerUp, begins, life}
 use Rattle.spi_rules.specs.Examples.{paperExamples}
 use Rattle.spi_rules.proofs.LivesReach.{watched-reaches}
@@ -90,7 +91,7 @@ module _ (m : Module) (f : List ℕ) where
       (tooManyCalls (laid-whole f laid) all run (ltb-true 65535 (fileCount f) many)))
       (λ few.
       outcome-is (Made (fileCount f)) (to-19 ∙ if-false (ltb 65535 (fileCount f)) (Refused TooManyCalls) _ few)
-      (subst (Outcome m f 0 (fileCount f)) (watched-reaches (fileCalls f) (begins powerUp))
+      (subst (Outcome m f 0 (fileCount f)) (watched-reaches (fileCalls f) (begins (powerUp Eight)))
       (played (laid-whole f laid) all run (ltb-false 65535 (fileCount f) few)))))
       (λ wrong.
       outcome-is (Refused BadRecord) (to-18 ∙ if-true (not (recordsRight f)) (Refused BadRecord) _ (ap not wrong))
@@ -118,7 +119,7 @@ module _ (m : Module) (f : List ℕ) where
   one-outcome (played w r s n) (tooManyCalls x t q o) = absurd (omega (arith, one-run (section f) (section f 0) _ _ _ _ s q .1))
   one-outcome (played w r s n) (played x t q o) =
       let same = one-run (section f) (section f 0) _ _ _ _ s q in
-      (refl, same .1, ap (λ (cs : List Call). life powerUp cs .now) (same .0))
+      (refl, same .1, ap (λ (cs : List Call). life (powerUp Eight) cs .now) (same .0))
 
 pub traces-hold : Traces
 traces-hold =

@@ -8,6 +8,7 @@ use lib.ListN.{length, take, drop}
 use Rattle.spi_types.specs.declared.Module.{Module}
 use Rattle.spi_types.specs.declared.Call.{Call}
 use Rattle.spi_types.specs.declared.Call.the-variants.{Read, Write, Tick, Pin, Clear}
+use Rattle.spi_types.specs.declared.Depth.the-variants.{Eight}
 use Rattle.spi_rules.specs.Lives.{powerUp, life}
 use Rattle.spi_trace_rules.specs.declared.Entry.{Entry}
 use Rattle.spi_trace_rules.specs.declared.Played.{Played}
@@ -159,7 +160,7 @@ pub data Outcome (m : Module) (f : List ℕ) : ℕ → ℕ → Module → Type 0
   -- the next call would be number 65,536
   tooManyCalls : {cs : List Call} {n : ℕ} → Whole f → AllRight f → Runs (section f) (section f 0) cs n → mostCalls < n → Outcome m f 19 0 m
   played : {cs : List Call} {n : ℕ} → Whole f → AllRight f → Runs (section f) (section f 0) cs n → n ≤ mostCalls →
-      Outcome m f 0 n (life powerUp cs .now)
+      Outcome m f 0 n (life (powerUp Eight) cs .now)
 
 -- The numbers of an answer.
 abbrev pub numberIn : Played → ℕ

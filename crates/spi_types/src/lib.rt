@@ -16,7 +16,7 @@ pub struct SpiWrite(pub u8);
 
 // The words waiting to be sent: `count` of them, the first at `read`.
 pub struct Transmit {
-    pub words: [u16; 8],
+    pub words: [u16; 16],
     pub write: CpuWrite,
     pub read: SpiRead,
     pub count: u8,
@@ -25,7 +25,7 @@ pub struct Transmit {
 // The received words not yet read: `count` of them, the first at `read`. The mark stands from an overflow in enhanced
 // operation until the module is disabled.
 pub struct Receive {
-    pub words: [u16; 8],
+    pub words: [u16; 16],
     pub write: SpiWrite,
     pub read: CpuRead,
     pub count: u8,
@@ -80,8 +80,16 @@ pub struct Con2 {
     pub spiben: bool,
 }
 
-// What register writes set and edges only look at.
+// How many words each buffer holds in enhanced operation. Power-up chooses it (document 02, Twelve).
+pub enum Depth {
+    Four,
+    Eight,
+    Sixteen,
+}
+
+// What power-up and register writes set and edges only look at.
 pub struct Settings {
+    pub depth: Depth,
     pub spien: bool,
     pub spisidl: bool,
     pub sisel: u8,
@@ -132,6 +140,7 @@ pub enum Refusal {
     LateSampling,
     UnselectedCke,
     Overflowed,
+    NoSuchDepth,
 }
 
 // What a call answers: a refusal, nothing to tell, a register's value, no edge, or one edge made.

@@ -30,6 +30,7 @@ pub fn refusal_number(r: Refusal) -> u8
         Refusal::LateSampling => 14,
         Refusal::UnselectedCke => 15,
         Refusal::Overflowed => 16,
+        Refusal::NoSuchDepth => 25,
     }
 }
 

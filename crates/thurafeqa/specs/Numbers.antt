@@ -34,10 +34,10 @@ pub record SaveTells (script : List ℕ) (r : ℕ) (before after : List ℕ) : T
   pub number : r ≡ saveNumber (savedOf script (length before))
   pub buffer : after ≡ bufferAfter script before
 
--- The library's version, 5.3.0: the major number times 65,536, the minor one times 256, and the patch.
+-- The library's version, 6.0.0: the major number times 65,536, the minor one times 256, and the patch.
 abbrev pub versionNumber : ℕ
-versionNumber = 5 * 65536 + 3 * 256 + 0
+versionNumber = 6 * 65536 + 0 * 256 + 0
 
 -- The number of the memory's format: it rises wherever the meaning of memory (crates/spi_memory/specs/Memory.antt) changes.
 abbrev pub formatNumber : ℕ
-formatNumber = 3
+formatNumber = 4

@@ -5,7 +5,7 @@ use spi_save_rules::Saved;
 use spi_trace_rules::Played;
 ghost use Prim.Native.Nat.{_%_};
 ghost use mathlib.Core.Path.{_≡_};
-ghost use Rattle.spi_rules.specs.Calls.{poweredUp, readOf, writeOf, tickOf, pinsOf, clockStepOf, clearOf};
+ghost use Rattle.spi_rules.specs.Calls.{poweredUp, powerUpOf, readOf, writeOf, tickOf, pinsOf, clockStepOf, clearOf};
 ghost use Rattle.spi_link_rules.specs.Link.{linkedOf};
 ghost use Rattle.spi_clock_rules.specs.Clock.{reportOf, saidClock};
 ghost use Rattle.spi_memory.specs.Memory.{moduleIn};
@@ -20,6 +20,14 @@ pub extern "C" fn thurafeqa_power_up(w: &mut [u16; 96])
     ensures { λ _. ⌜ moduleIn (now (w .exit)) ≡ poweredUp ⌝ }
 {
     spi_memory::power_up(w);
+}
+
+// Power-up with a depth of 4, 8 or 16 words for enhanced operation.
+#[no_mangle]
+pub extern "C" fn thurafeqa_power_up_with(w: &mut [u16; 96], depth: u32) -> u32
+    ensures { λ r. ⌜ Tells (powerUpOf (moduleIn (now (w .entry))) depth) r (now (w .entry)) (now (w .exit)) ⌝ }
+{
+    spi_numbers::power_up_with(w, depth)
 }
 
 // Reads a register.
@@ -201,7 +209,7 @@ pub extern "C" fn thurafeqa_save(script: &[u8], file: &mut [u8]) -> u32
 pub extern "C" fn thurafeqa_version() -> u32
     ensures { λ r. ⌜ r ≡ versionNumber ⌝ }
 {
-    328448
+    393216
 }
 
 // The number of the memory's format: it rises wherever the meaning of the 96 numbers changes.
@@ -209,5 +217,5 @@ pub extern "C" fn thurafeqa_version() -> u32
 pub extern "C" fn thurafeqa_format() -> u32
     ensures { λ r. ⌜ r ≡ formatNumber ⌝ }
 {
-    3
+    4
 }

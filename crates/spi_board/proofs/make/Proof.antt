@@ -4,7 +4,7 @@ use Rattle.laws.specs.Choice.{if_then_else_}
 use Rattle.spi_rules.specs.Calls.{performOf}
 use Rattle.spi_numbers.specs.Told.{levelIn}
 use Rattle.spi_board.specs.Boards.{askedOf}
-use Rattle.spi_board.proofs.Asks.{asked-as, asked-look, made, powered, reported, looked, stepped}
+use Rattle.spi_board.proofs.Asks.{asked-as, asked-look, made, powered, powered-with, reported, looked, stepped}
 use Rattle.spi_board.proofs.make.Statement.{statement}
 use Rattle.spi_board.proofs.make.Tie as tie
 
@@ -41,8 +41,13 @@ unfolding askedOf if_then_else_
 returns-8 c = asked-as 0 _ _ _ (c .before .before .if8 .taken) (powered (c .power-up .ensures))
 
 returns-9 : tie.Need-returns-9
-returns-9 c =
+unfolding askedOf if_then_else_
+returns-9 c = asked-as 9 _ _ _ (c .before .before .if9 .taken) (powered-with (c .power-up-with .ensures))
+
+returns-10 : tie.Need-returns-10
+returns-10 c =
     asked-look _ _ _ (search needs) (search needs) (search needs) (search needs) (search needs) (search needs) (search needs) (search needs)
+    (search needs)
     (looked (c .levels .ensures .0))
 
 pub make-spec : {M : Type 1} → statement M
@@ -67,4 +72,6 @@ make-spec =
     (λ c κs. search needs)
     returns-8
     (λ c κs. search needs)
-    returns-9)
+    returns-9
+    (λ c κs. search needs)
+    returns-10)

@@ -13,8 +13,8 @@ returns : tie.Need-returns
 unfolding firstUnread engineIn byteIn
 returns c =
     let w = c .before .before .args .w .now in
-    let place : placeIn w 61 % 256 % 8 ≡ placeIn w 61 % 8 = omega arith in
-    sym (cell-read 8 (from 44 (placeIn w)) (placeIn w 61 % 256 % 8) (omega arith) ∙ ap (λ (k : ℕ). placeIn w (44 + k)) place)
+    let place : placeIn w 61 % 256 % 16 ≡ placeIn w 61 % 16 = omega arith in
+    sym (cell-read 16 (from 44 (placeIn w)) (placeIn w 61 % 256 % 16) (omega arith) ∙ ap (λ (k : ℕ). placeIn w (44 + k)) place)
 
 pub first-unread-in-spec : {M : Type 1} → statement M
 first-unread-in-spec =

@@ -13,8 +13,8 @@ returns : tie.Need-returns
 unfolding firstWaiting engineIn byteIn
 returns c =
     let w = c .before .before .args .w .now in
-    let place : placeIn w 41 % 256 % 8 ≡ placeIn w 41 % 8 = omega arith in
-    sym (cell-read 8 (from 24 (placeIn w)) (placeIn w 41 % 256 % 8) (omega arith) ∙ ap (λ (k : ℕ). placeIn w (24 + k)) place)
+    let place : placeIn w 41 % 256 % 16 ≡ placeIn w 41 % 16 = omega arith in
+    sym (cell-read 16 (from 24 (placeIn w)) (placeIn w 41 % 256 % 16) (omega arith) ∙ ap (λ (k : ℕ). placeIn w (24 + k)) place)
 
 pub first-waiting-in-spec : {M : Type 1} → statement M
 first-waiting-in-spec =

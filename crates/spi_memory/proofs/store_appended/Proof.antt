@@ -11,7 +11,7 @@ returns : tie.Need-returns
 unfolding engineIn byteIn
 returns c =
     let w = c .before .before .before .before .before .args .w .now in
-    receive-arrived w (c .before .before .before .is-whole .ensures .1) (placeIn w 60 % 8) _ _ _ _ _ (c .before .byte-number .ensures) (c .byte-number2 .ensures) (omega arith) (omega arith)
+    receive-arrived w (c .before .before .before .is-whole .ensures .1) (placeIn w 60 % 16) _ _ _ _ _ (c .before .byte-number .ensures) (c .byte-number2 .ensures) (omega arith) (omega arith)
 
 pub store-appended-spec : {M : Type 1} → statement M
 store-appended-spec =

@@ -17,7 +17,7 @@ returns c =
     let r-words = c .before .before .before .before .before .before .before .before .before .args .r .words in
     let is-whole = c .before .before .before .before .before .before .before .is-whole .ensures .1 in
     let byte-number = c .before .before .before .byte-number .ensures in
-    rw store-words (engine-step _ (wordsWritten 44 r-words ++ at 60 _ ∷ at 61 _ ∷ at 62 _ ∷ at 75 _ ∷ []) is-whole refl refl (rw (cells-all 8 r-words (search needs), byte-number, (c .before .before .byte-number2 .ensures), (c .before .byte-number3 .ensures), (c .number .ensures))))
+    rw store-words (engine-step _ (wordsWritten 44 r-words ++ at 60 _ ∷ at 61 _ ∷ at 62 _ ∷ at 75 _ ∷ []) is-whole refl refl (rw (cells-all 16 r-words (search needs), byte-number, (c .before .before .byte-number2 .ensures), (c .before .byte-number3 .ensures), (c .number .ensures))))
 
 pub store-receive-spec : {M : Type 1} → statement M
 store-receive-spec =

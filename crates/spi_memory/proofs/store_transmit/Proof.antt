@@ -16,7 +16,7 @@ returns c =
     let store-words = c .before .before .before .store-words .ensures in
     let t-words = c .before .before .before .before .before .before .before .before .args .t .words in
     let is-whole = c .before .before .before .before .before .before .is-whole .ensures .1 in
-    rw store-words (engine-step _ (wordsWritten 24 t-words ++ at 40 _ ∷ at 41 _ ∷ at 42 _ ∷ []) is-whole refl refl (rw (cells-all 8 t-words (search needs), (c .before .before .byte-number .ensures), (c .before .byte-number2 .ensures), (c .byte-number3 .ensures))))
+    rw store-words (engine-step _ (wordsWritten 24 t-words ++ at 40 _ ∷ at 41 _ ∷ at 42 _ ∷ []) is-whole refl refl (rw (cells-all 16 t-words (search needs), (c .before .before .byte-number .ensures), (c .before .byte-number2 .ensures), (c .byte-number3 .ensures))))
 
 pub store-transmit-spec : {M : Type 1} → statement M
 store-transmit-spec =

@@ -1,14 +1,16 @@
+-- Enhanced and standard operation.
+use borrow.Author.Needs.{needs}
 use Rattle.laws.specs.Choice.{if_then_else_}
+use Rattle.laws.proofs.Choices.{so, not-so}
+use mathlib.Core.Path.{refl}
 use Rattle.spi_settings.proofs.depth.Statement.{statement}
 use Rattle.spi_settings.proofs.depth.Tie as tie
 
 returns : tie.Need-returns
-unfolding if_then_else_
-returns c = cc
+returns c = so _ _ _ (c .before .if1 .taken) (c .words .ensures)
 
 returns-2 : tie.Need-returns-2
-unfolding if_then_else_
-returns-2 c = cc
+returns-2 c = not-so _ _ _ (c .if1 .left) refl
 
 pub depth-spec : {M : Type 1} → statement M
-depth-spec = tie.close (tie.spec returns returns-2)
+depth-spec = tie.close (tie.spec (λ c. search needs) returns returns-2)
