@@ -5,6 +5,7 @@ use Rattle.card_demands.proofs.DemandsHold.{page-holds}
 use Rattle.ti_order.proofs.DemandsHold as ti
 use Rattle.spi_one_module.proofs.DemandsHold.{one-module}
 use Rattle.spi_link_rules.proofs.LinkDemandsHold.{linked-runs}
+use Rattle.spi_wire.proofs.WireDelivers.{wire-delivers}
 use Rattle.spi_clock_rules.proofs.ClockDemandsHold.{clock-reports}
 use Rattle.spi_script_rules.proofs.ScriptDemandsHold.{scripts-hold}
 use Rattle.spi_trace_rules.proofs.TraceDemandsHold.{traces-hold}
@@ -18,6 +19,7 @@ demands-hold =
     record {
       oneModule = one-module;
       linkedRuns = linked-runs;
+      wireDelivers = wire-delivers;
       clockReports = clock-reports;
       scripts = scripts-hold;
       traces = traces-hold;

@@ -1,10 +1,11 @@
--- What the buyer signs for, all of it: the demands on one module, on two modules on one wire, on the clock report, on the
+-- What the buyer signs for, all of it: the demands on one module, on two modules on one wire and what it delivers, on the clock report, on the
 -- script program, on trace files, on saved sessions, on the board and on its total of words owed, on the audio card and on the
 -- TI module. Each page says its part in the crate of its rules.
 use Rattle.card_rules.specs.CardDemands.{CardDemands}
 use Rattle.ti_rules.specs.Demands.{TiDemands}
 use Rattle.spi_rules.specs.Demands.{OneModule}
 use Rattle.spi_link_rules.specs.LinkDemands.{LinkedRuns}
+use Rattle.spi_link_rules.specs.WireDemands.{WireDelivers}
 use Rattle.spi_clock_rules.specs.ClockDemands.{ClockReports}
 use Rattle.spi_script_rules.specs.ScriptDemands.{Scripts}
 use Rattle.spi_trace_rules.specs.TraceDemands.{Traces}
@@ -15,6 +16,7 @@ use Rattle.spi_board_rules.specs.OwedDemands.{Totals}
 pub record Demands : Type 0 where
   pub oneModule : OneModule
   pub linkedRuns : LinkedRuns
+  pub wireDelivers : WireDelivers
   pub clockReports : ClockReports
   pub scripts : Scripts
   pub traces : Traces

@@ -34,7 +34,6 @@ use Rattle.spi_rules.specs.Registers.{statSettings, statEngine, enabledEngine, 
 use Rattle.spi_rules.specs.Buffers.{empty, firstWaiting, waiting}
 use Rattle.spi_rules.specs.Interrupts.{noted}
 use Rattle.spi_rules.specs.Loading.{wordLeaves, moved, canLoad, loaded, nextTop, isBegun, sdoAt, rested}
-use Rattle.spi_rules.specs.Finish.{overflowed, wordAppended, isLost, delivered, sentDropped, freed, finished}
 use Rattle.spi_rules.specs.Select.{selectRemembered, aborted, deselected, selectSeen}
 use Rattle.spi_rules.specs.Edge.{wordEdges, shifted, advanced, advancedIfBegun, underWay, pulsed, clocked, edged, levels, stepped}
 use Rattle.spi_rules.specs.Words.{unfinished}
@@ -48,6 +47,7 @@ use Rattle.spi_rules.proofs.BuffersOrder.{none-waiting, left-takes-first}
 use Rattle.spi_rules.proofs.ClockSteps.{step-cases, tick-cases, pins-cases}
 use Rattle.spi_invariant.proofs.Parts.{BuffersHold, queued}
 use Rattle.spi_invariant.proofs.Engine.{engine-of}
+use Rattle.spi_invariant.proofs.FinishWords.{finished-sdo}
 use Rattle.spi_order.proofs.Levels.{Recalls}
 use Rattle.spi_order.proofs.Ports.{portOf}
 
@@ -156,19 +156,6 @@ carried-level s l before owed (sends u) (busy w) c =
     (c .filler) (c .edges)
 
 -- SDO is left by everything with CKE 0 but the edges of a word that goes on.
-
--- A level of the pins that a finish leaves.
-finished-sdo : (s : Settings) → ckeOf s ≡ false → (filler : Bool) (word : ℕ) (n : Engine) →
-    finished s filler word n .pins .sdo ≡ n .pins .sdo
-unfolding finished rested sdoAt loaded moved freed sentDropped wordLeaves delivered overflowed wordAppended noted
-finished-sdo s cke filler word n =
-    let P : Engine → Type 0 = λ x. x .pins .sdo ≡ n .pins .sdo in
-    let received : P (delivered s word n) = if-keeps P (isLost s n) _ _ (λ e. refl) (λ e. refl) in
-    let dropped : P (sentDropped s filler (delivered s word n)) =
-    if-keeps P (ssenClient s && not filler) _ _ (λ e. received) (λ e. received) in
-    let next : Engine = loaded s (freed s (sentDropped s filler (delivered s word n))) in
-    if-false (ckeOf s && not (isBegun (next .shift))) _ _ (ap (λ (b : Bool). b && not (isBegun (next .shift))) cke)
-    ∙ if-keeps P (canLoad s (freed s (sentDropped s filler (delivered s word n)))) _ _ (λ e. dropped) (λ e. dropped)
 
 module _ (s : Settings) (cke : ckeOf s ≡ false) where
   -- An edge after which no word is begun.

@@ -5,6 +5,7 @@
 --     loaded-way         loading puts no word under way
 --     finished-order     the words not sent after the finish
 --     finished-spares    what else the finish leaves as it was
+--     finished-sdo       with CKE 0 also SDO
 -- Assumes nothing.
 use Prim.Native.Nat.{ℕ, _^_, _<_}
 use mathlib.Core.Bool.{Bool, true, false, not, _&&_, _||_}
@@ -12,7 +13,7 @@ use mathlib.Core.List.{List, [], _∷_, _++_, append-nil}
 use mathlib.Core.Path.{_≡_, refl, sym, ap, _∙_}
 use Rattle.laws.specs.Choice.{if_then_else_}
 use Rattle.laws.proofs.Choices.{so, not-so}
-use Rattle.laws.proofs.Keeps.{if-keeps, if-ap, and-left}
+use Rattle.laws.proofs.Keeps.{if-keeps, if-ap, if-false, and-left}
 use Rattle.word_order.specs.Port.{idle, isUnder}
 use Rattle.spi_types.specs.declared.Settings.{Settings}
 use Rattle.spi_types.specs.declared.Engine.{Engine}
@@ -20,7 +21,7 @@ use Rattle.spi_types.specs.declared.Transmit.{Transmit}
 use Rattle.spi_types.specs.declared.Progress.{Progress}
 use Rattle.spi_types.specs.declared.Shift.the-variants.{Begun, Loaded, Free}
 use Rattle.spi_types.specs.declared.Shift.{Shift}
-use Rattle.spi_rules.specs.Settings.{widthOf, depthOf, ssenClient}
+use Rattle.spi_rules.specs.Settings.{widthOf, depthOf, ckeOf, ssenClient}
 use Rattle.spi_rules.specs.Registers.{isFree}
 use Rattle.spi_rules.specs.Buffers.{departed, waiting, unread, overrun}
 use Rattle.spi_rules.specs.Interrupts.{noted}
@@ -162,3 +163,16 @@ finished-spares s filler word n =
       pulse = b .pulse ∙ a .pulse;
       spirov = b .spirov ∙ a .spirov;
     }
+
+-- With CKE 0 a finish leaves SDO.
+pub finished-sdo : (s : Settings) → ckeOf s ≡ false → (filler : Bool) (word : ℕ) (n : Engine) →
+    finished s filler word n .pins .sdo ≡ n .pins .sdo
+unfolding finished rested sdoAt loaded moved freed sentDropped wordLeaves delivered overflowed wordAppended noted
+finished-sdo s cke filler word n =
+    let P : Engine → Type 0 = λ x. x .pins .sdo ≡ n .pins .sdo in
+    let received : P (delivered s word n) = if-keeps P (isLost s n) _ _ (λ e. refl) (λ e. refl) in
+    let dropped : P (sentDropped s filler (delivered s word n)) =
+    if-keeps P (ssenClient s && not filler) _ _ (λ e. received) (λ e. received) in
+    let next : Engine = loaded s (freed s (sentDropped s filler (delivered s word n))) in
+    if-false (ckeOf s && not (isBegun (next .shift))) _ _ (ap (λ (b : Bool). b && not (isBegun (next .shift))) cke)
+    ∙ if-keeps P (canLoad s (freed s (sentDropped s filler (delivered s word n)))) _ _ (λ e. dropped) (λ e. dropped)

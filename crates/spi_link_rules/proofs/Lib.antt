@@ -11,5 +11,6 @@ pub mod LinkExamplesHold
 pub mod LinkDemandsHold
 -- The page, run:
 pub mod LinkPageHolds
+pub mod WirePageHolds
 -- The clock step beneath ticks and pin calls moves nothing:
 pub mod LinkBefore

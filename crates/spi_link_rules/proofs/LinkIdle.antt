@@ -22,7 +22,6 @@ use Rattle.spi_types.specs.declared.Shift.{Shift}
 use Rattle.spi_types.specs.declared.Shift.the-variants.{Free, Loaded, Begun}
 use Rattle.spi_types.specs.declared.Answer.the-variants.{NoEdge}
 use Rattle.spi_types.specs.declared.Call.{Call}
-use Rattle.spi_types.specs.declared.Call.the-variants.{Tick}
 use Rattle.spi_rules.specs.Settings.{widthOf, wordsOf, depthOf, framed, clockStops, ssenClient, ownClock, unframedHost}
 use Rattle.spi_rules.specs.Refusals.{isDone, isEdge}
 use Rattle.spi_rules.specs.Registers.{isFree}
@@ -39,9 +38,9 @@ use Rattle.spi_owed.proofs.Parts.{givenIn, owedIn, AllUndisturbing}
 use Rattle.spi_owed.proofs.Calls.{calls-pay, calls-leave, none-owed-idle, no-edge-owes-none}
 use Rattle.spi_link_rules.specs.declared.Run.{Run}
 use Rattle.spi_link_rules.specs.declared.Linked.{Linked}
-use Rattle.spi_link_rules.specs.Link.{mostEdges, levelRead, madeEdge, hostTicked, clientSees, runStops, oneMore, clientTurn, handedOver, hostTurn, runOf, toldOf, linkedOf}
-use Rattle.spi_link_rules.specs.LinkDemands.{hostCalls, runHostCalls}
-use Rattle.spi_link_rules.proofs.LinkRuns.{Allowed, link-when, link-is, run-host, run-counts, turn-within}
+use Rattle.spi_link_rules.specs.Link.{mostEdges, madeEdge, runStops, oneMore, hostTurn, toldOf, linkedOf}
+use Rattle.spi_link_rules.specs.LinkDemands.{readAs, tickBeside, hostCalls, runHostCalls}
+use Rattle.spi_link_rules.proofs.LinkRuns.{Allowed, link-when, link-is, edge-is, ticked, turn-is, run-is, run-host, run-counts, link-within-limit}
 use Rattle.spi_link_rules.specs.declared.LinkAnswer.the-variants as linked
 
 -- At most one word has left the transmit buffer and is not finished.
@@ -74,39 +73,48 @@ tick-none m sdi ss on own none =
     (λ still. ap (λ (o : Outcome). o .answer) (tick-stands m sdi ss on own still))
     (λ moves. clash true refl (sym (ap (λ (o : Outcome). madeEdge (o .answer)) (tick-own m sdi ss on own moves)) ∙ none))
 
+-- The same of the host's tick in a run.
+ticked-settings : (host client : Module) → ticked host client .after .settings ≡ host .settings
+unfolding performOf
+ticked-settings host client = tick-settings host (readAs (sdoOf client)) false
+
+pub ticked-none : (host client : Module) → host .settings .spien ≡ true → ownClock (host .settings) ≡ true →
+    isEdge (ticked host client .answer) ≡ false → ticked host client .answer ≡ NoEdge
+unfolding performOf
+ticked-none host client on own e =
+    tick-none host (readAs (sdoOf client)) false on own (edge-is (ticked host client .answer) ∙ e)
+
 -- The host's calls leave it undisturbed: they are ticks.
 turn-undisturbed : (left : ℕ) (host client : Module) → host .settings .spien ≡ true →
     AllUndisturbing host (hostCalls left host client)
-unfolding hostCalls hostTicked clientSees levelRead performOf
+unfolding hostCalls
 turn-undisturbed zero host client on = tt
 turn-undisturbed (suc left) host client on =
-    let sdi : Bool = levelRead (sdoOf client) in
-    let ticked : Outcome = tickOf host sdi false in
-    let still : ticked .after .settings .spien ≡ true = ap (λ (s : Settings). s .spien) (tick-settings host sdi false) ∙ on in (
-      record { enabled = still; noWord = and-false (isDone (ticked .answer)) false refl },
-      if-keeps (λ (cs : List Call). AllUndisturbing (ticked .after) cs) (isEdge (ticked .answer)) _ _
-          (λ e. turn-undisturbed left (ticked .after) (clientSees (ticked .after) client) still)
+    let o : Outcome = ticked host client in
+    let still : o .after .settings .spien ≡ true = ap (λ (s : Settings). s .spien) (ticked-settings host client) ∙ on in (
+      record { enabled = still; noWord = and-false (isDone (o .answer)) false refl },
+      if-keeps (λ (cs : List Call). AllUndisturbing (o .after) cs) (isEdge (o .answer)) _ _
+          (λ e. turn-undisturbed left (o .after) _ still)
           (λ e. tt),
     )
 
 -- A turn that leaves edges of the limit leaves a host that owes none.
 turn-stops : (left : ℕ) (host client : Module) → ModuleHolds host → host .settings .spien ≡ true →
     unframedHost (host .settings) ≡ true → hostTurn left host client .used < left → owedIn (hostTurn left host client .host) ≡ 0
-unfolding hostTurn handedOver clientTurn oneMore runStops hostTicked performOf
+unfolding hostTurn oneMore runStops
 turn-stops zero host client h on own = λ k. absurd (omega (arith, k))
 turn-stops (suc left) host client h on own =
-    let sdi : Bool = levelRead (sdoOf client) in
-    let ticked : Outcome = tickOf host sdi false in
-    let same : ticked .after .settings ≡ host .settings = tick-settings host sdi false in
-    if-keeps (λ (r : Run). r .used < suc left → owedIn (r .host) ≡ 0) (madeEdge (ticked .answer)) _ _
+    let c : Call = tickBeside client in
+    let o : Outcome = ticked host client in
+    let same : o .after .settings ≡ host .settings = ticked-settings host client in
+    subst (λ (r : Run). r .used < suc left → owedIn (r .host) ≡ 0) (sym (turn-is left host client))
+    (if-keeps (λ (r : Run). r .used < suc left → owedIn (r .host) ≡ 0) (isEdge (o .answer)) _ _
     (λ e k.
-    turn-stops left (ticked .after) (clientSees (ticked .after) client) (call-keeps host (Tick sdi false) h)
-    (ap (λ (s : Settings). s .spien) same ∙ on)
-    (ap unframedHost same ∙ own)
+    turn-stops left (o .after) _ (call-keeps host c h) (ap (λ (s : Settings). s .spien) same ∙ on) (ap unframedHost same ∙ own)
     (omega (arith, k)))
     (λ e k.
-    let none : tickOf host sdi false .answer ≡ NoEdge = tick-none host sdi false on (and-left _ (clockStops (host .settings)) own) e in
-    ap owedIn (no-edge-unchanged host (Tick sdi false) none) ∙ no-edge-owes-none host h on own sdi false none)
+    let none : o .answer ≡ NoEdge = ticked-none host client on (and-left _ (clockStops (host .settings)) own) e in
+    ap owedIn (no-edge-unchanged host c none) ∙ no-edge-owes-none host h on own _ false none))
 
 -- What is used: all that is owed if the limit allows it, and else the limit.
 all-owed : (used left debt limit : ℕ) → used + left ≡ debt → used ≤ limit → (used < limit → left ≡ 0) → debt ≤ limit → used ≡ debt
@@ -131,7 +139,7 @@ nothing-left used left debt all e = omega arith
 pub host-on : (host client : Module) (limit : ℕ) → Allowed host client limit → host .settings .spien ≡ true
 host-on host client limit a = not-false (host .settings .spien) (or-left _ (not (client .settings .spien)) (a .enabled))
 
-host-own : (host client : Module) (limit : ℕ) → Allowed host client limit → unframedHost (host .settings) ≡ true
+pub host-own : (host client : Module) (limit : ℕ) → Allowed host client limit → unframedHost (host .settings) ≡ true
 host-own host client limit a =
     let role : (not (ownClock (host .settings)) || framed (host .settings)) ≡ false = or-left _ _ (a .roles) in
     and-both (ownClock (host .settings)) (clockStops (host .settings))
@@ -156,8 +164,8 @@ module _ (host client : Module) (limit n : ℕ) (h : ModuleHolds host) (e : link
 
   -- The host's calls leave it undisturbed.
   undisturbed : AllUndisturbing host (runHostCalls host client limit)
-  unfolding runHostCalls clientSees levelRead performOf
-  undisturbed = turn-undisturbed limit host (clientSees host client) (host-on host client limit allowed)
+  unfolding runHostCalls
+  undisturbed = turn-undisturbed limit host _ (host-on host client limit allowed)
 
   -- The edges used are what the host's debt fell by.
   pub link-pays : n + owedIn (linkedOf host client limit .host) ≡ owedIn host
@@ -169,15 +177,16 @@ module _ (host client : Module) (limit n : ℕ) (h : ModuleHolds host) (e : link
 
   -- No more is used than the limit, and if less is used the host owes nothing more.
   within : n ≤ limit
-  unfolding runOf
-  within = subst (λ (k : ℕ). k ≤ limit) (link-when host client limit n e .1) (turn-within limit host (clientSees host client))
+  within = link-within-limit host client limit n e
 
   stopped : n < limit → owedIn (linkedOf host client limit .host) ≡ 0
-  unfolding runOf toldOf
+  unfolding toldOf
   stopped short =
+      let is = run-is host client limit in
       ap (λ (l : Linked). owedIn (l .host)) (link-is host client limit allowed)
-      ∙ turn-stops limit host (clientSees host client) h (host-on host client limit allowed) (host-own host client limit allowed)
-      (subst (λ (k : ℕ). k < limit) (sym (link-when host client limit n e .1)) short)
+      ∙ ap (λ (r : Run). owedIn (r .host)) is
+      ∙ turn-stops limit host _ h (host-on host client limit allowed) (host-own host client limit allowed)
+      (subst (λ (k : ℕ). k < limit) (sym (link-when host client limit n e .1) ∙ ap (λ (r : Run). r .used) is) short)
 
   -- With a limit of at least what the host owes, exactly that is used, and the host is idle.
   pub link-uses-owed : owedIn host ≤ limit → (n ≡ owedIn host) × IsIdle (linkedOf host client limit .host)

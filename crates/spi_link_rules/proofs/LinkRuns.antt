@@ -1,6 +1,7 @@
 -- What a linked run does at each end.
 --     link-when, link-is        a run that is not refused has passed every test, and is then the run
 --     link-refused-unchanged    a refused run leaves both modules as they were
+--     turn-is, run-is           a turn and a run by the page's calls
 --     link-calls                a run does to each end what the calls that it makes there do
 --     link-counts               the edges used are the edges that the host's calls make
 --     link-holds                both ends keep the invariant, whatever the limit
@@ -8,20 +9,22 @@
 -- Assumes nothing.
 use Prim.Native.Nat.{ℕ, zero, suc, _+_, _≤_, zero-le}
 use mathlib.Core.Bool.{Bool, true, false}
-use mathlib.Core.List.{List, []}
-use mathlib.Core.Path.{_≡_, refl, sym, ap, subst, _∙_}
+use mathlib.Core.List.{List}
+use mathlib.Core.Path.{_≡_, refl, sym, ap, ap₂, subst, _∙_}
 use native.Mathlib.Omega.{arith}
 use lib.Dec.{ltb}
 use Rattle.laws.specs.Choice.{if_then_else_}
-use Rattle.laws.proofs.Keeps.{if-keeps, if-false, clash}
+use Rattle.laws.proofs.Keeps.{if-keeps, if-both, if-true, if-false, clash}
 use Rattle.spi_types.specs.declared.Module.{Module}
 use Rattle.spi_types.specs.declared.Outcome.{Outcome}
 use Rattle.spi_types.specs.declared.Refusal.{Refusal}
 use Rattle.spi_types.specs.declared.Refusal.the-variants.{Disabled, WrongClock, DifferentModes, TooManyEdges}
 use Rattle.spi_types.specs.declared.Answer.{Answer}
 use Rattle.spi_types.specs.declared.Answer.the-variants.{Refused, Done, Value, NoEdge, Edge}
+use Rattle.spi_types.specs.declared.Output.{Output}
+use Rattle.spi_types.specs.declared.Output.the-variants.{Low, High, Undriven}
 use Rattle.spi_types.specs.declared.Call.{Call}
-use Rattle.spi_rules.specs.Calls.{afterCalls, performOf}
+use Rattle.spi_rules.specs.Calls.{afterCalls, tickOf, pinsOf, performOf, sckOf, sdoOf}
 use Rattle.spi_rules.specs.Invariant.{ModuleHolds}
 use Rattle.spi_rules.specs.Refusals.{saidOf, isEdge}
 use Rattle.spi_rules.specs.Demands.{edgesMade}
@@ -30,7 +33,7 @@ use Rattle.spi_link_rules.specs.declared.Run.{Run}
 use Rattle.spi_link_rules.specs.declared.LinkAnswer.{LinkAnswer}
 use Rattle.spi_link_rules.specs.declared.Linked.{Linked}
 use Rattle.spi_link_rules.specs.Link.{mostEdges, levelRead, madeEdge, hostTicked, clientSees, runStops, oneMore, clientTurn, handedOver, hostTurn, runOf, eitherDisabled, wrongRoles, differentModes, refuseLink, toldOf, linkedOf}
-use Rattle.spi_link_rules.specs.LinkDemands.{hostCalls, clientCalls, runHostCalls, runClientCalls}
+use Rattle.spi_link_rules.specs.LinkDemands.{readAs, tickBeside, pinsBeside, hostCalls, clientCalls, runHostCalls, runClientCalls}
 use Rattle.spi_link_rules.specs.declared.LinkAnswer.the-variants as linked
 
 -- An answer that tells of edges is no refusal.
@@ -98,8 +101,14 @@ link-refused-unchanged host client limit r =
     (λ s e. (refl, refl))
     (λ e. clash true refl (ap tellsEdges e))
 
--- The answer that makes an edge.
-edge-is : (a : Answer) → madeEdge a ≡ isEdge a
+-- The run is that of the page's calls: what is read of a pin, the answer that makes an edge, the host's tick, and what the client sees.
+level-is : (o : Output) → levelRead o ≡ readAs o
+unfolding levelRead
+level-is Low = refl
+level-is High = refl
+level-is Undriven = refl
+
+pub edge-is : (a : Answer) → madeEdge a ≡ isEdge a
 unfolding madeEdge
 edge-is (Refused r) = refl
 edge-is Done = refl
@@ -107,83 +116,108 @@ edge-is (Value v) = refl
 edge-is NoEdge = refl
 edge-is Edge = refl
 
--- A turn and the calls that it makes at one end go the same way.
-goes-on : (end : Run → Module) (m : Module) (b c : Bool) (x y : Run) (cs : List Call) → b ≡ c → end x ≡ afterCalls m cs → end y ≡ m →
-    end (if b then x else y) ≡ afterCalls m (if c then cs else [])
-unfolding if_then_else_
-goes-on end m true true x y cs e h k = h
-goes-on end m true false x y cs e h k = clash true refl e
-goes-on end m false true x y cs e h k = clash true refl (sym e)
-goes-on end m false false x y cs e h k = k
+tick-is : (host client : Module) → hostTicked host client ≡ performOf host (tickBeside client)
+unfolding hostTicked performOf
+tick-is host client = ap (λ (b : Bool). tickOf host b false) (level-is (sdoOf client))
 
--- From the host's turn on, the run does to the host what its calls there do.
+sees-is : (host client : Module) → clientSees host client ≡ performOf client (pinsBeside host) .after
+unfolding clientSees performOf
+sees-is host client = ap (λ (b : Bool). pinsOf client (sckOf host) b false .after) (level-is (sdoOf host))
+
+-- A turn by those calls: the host ticks, and after an edge the client is shown the new levels and the host has its next turn.
+abbrev pub ticked : Module → Module → Outcome
+ticked host client = performOf host (tickBeside client)
+
+abbrev pub shown : Module → Module → Module
+shown host client = performOf client (pinsBeside host) .after
+
+abbrev pub turned : ℕ → Module → Module → Run
+turned left host client =
+    let o : Outcome = ticked host client in
+    if isEdge (o .answer) then oneMore (hostTurn left (o .after) (shown (o .after) client)) else runStops (o .after) client
+
+pub turn-is : (left : ℕ) (host client : Module) → hostTurn (suc left) host client ≡ turned left host client
+unfolding hostTurn handedOver clientTurn
+turn-is left host client =
+    let o : Outcome = ticked host client in
+    ap (λ (o : Outcome). handedOver (hostTurn left) o client) (tick-is host client)
+    ∙ ap₂ (λ (b : Bool) (m : Module). if b then oneMore (hostTurn left (o .after) m) else runStops (o .after) client)
+    (edge-is (o .answer)) (sees-is (o .after) client)
+
+-- From the host's turn on, the run does to each end what its calls there do.
 turn-host : (left : ℕ) (host client : Module) →
     hostTurn left host client .host ≡ afterCalls host (hostCalls left host client)
-unfolding hostTurn handedOver clientTurn oneMore runStops hostCalls hostTicked clientSees levelRead performOf
+unfolding hostTurn oneMore runStops hostCalls
 turn-host zero host client = refl
 turn-host (suc left) host client =
-    let ticked : Outcome = hostTicked host client in
-    goes-on (λ (r : Run). r .host) (ticked .after) (madeEdge (ticked .answer)) (isEdge (ticked .answer)) _ _ _ (edge-is (ticked .answer))
-    (turn-host left (ticked .after) (clientSees (ticked .after) client))
-    refl
+    let o : Outcome = ticked host client in
+    ap (λ (r : Run). r .host) (turn-is left host client)
+    ∙ if-both (λ (r : Run) (cs : List Call). r .host ≡ afterCalls (o .after) cs) (isEdge (o .answer)) (isEdge (o .answer)) _ _ _ _ refl
+    (λ e. turn-host left (o .after) (shown (o .after) client))
+    (λ e. refl)
 
--- From the host's turn on, the run does to the client what its calls there do.
 turn-client : (left : ℕ) (host client : Module) →
     hostTurn left host client .client ≡ afterCalls client (clientCalls left host client)
-unfolding hostTurn handedOver clientTurn oneMore runStops clientCalls hostTicked clientSees levelRead performOf
+unfolding hostTurn oneMore runStops clientCalls
 turn-client zero host client = refl
 turn-client (suc left) host client =
-    let ticked : Outcome = hostTicked host client in
-    goes-on (λ (r : Run). r .client) client (madeEdge (ticked .answer)) (isEdge (ticked .answer)) _ _ _ (edge-is (ticked .answer))
-    (turn-client left (ticked .after) (clientSees (ticked .after) client))
-    refl
+    let o : Outcome = ticked host client in
+    ap (λ (r : Run). r .client) (turn-is left host client)
+    ∙ if-both (λ (r : Run) (cs : List Call). r .client ≡ afterCalls client cs) (isEdge (o .answer)) (isEdge (o .answer)) _ _ _ _ refl
+    (λ e. turn-client left (o .after) (shown (o .after) client))
+    (λ e. refl)
 
 -- An edge counts one, and nothing else does.
-edge-counts : (a : Answer) → saidOf a .edges ≡ (if madeEdge a then 1 else 0)
-unfolding madeEdge if_then_else_
+edge-counts : (a : Answer) → saidOf a .edges ≡ (if isEdge a then 1 else 0)
+unfolding if_then_else_
 edge-counts (Refused r) = refl
 edge-counts Done = refl
 edge-counts (Value v) = refl
 edge-counts NoEdge = refl
 edge-counts Edge = refl
 
--- A turn counts one edge if the tick made one.
-counts-on : (m : Module) (b c : Bool) (k : ℕ) (x y : Run) (cs : List Call) → b ≡ c → k ≡ (if b then 1 else 0) →
-    x .used ≡ edgesMade m cs + 1 → y .used ≡ 0 → (if b then x else y) .used ≡ k + edgesMade m (if c then cs else [])
-unfolding if_then_else_
-counts-on m true true k x y cs f e h l = omega arith
-counts-on m true false k x y cs f e h l = clash true refl f
-counts-on m false true k x y cs f e h l = clash true refl (sym f)
-counts-on m false false k x y cs f e h l = omega arith
-
 -- From the host's turn on, the edges used are those that the host's calls make.
 turn-counts : (left : ℕ) (host client : Module) →
     hostTurn left host client .used ≡ edgesMade host (hostCalls left host client)
-unfolding hostTurn handedOver clientTurn oneMore runStops hostCalls hostTicked clientSees levelRead performOf
+unfolding hostTurn oneMore runStops hostCalls
 turn-counts zero host client = refl
 turn-counts (suc left) host client =
-    let ticked : Outcome = hostTicked host client in
-    counts-on (ticked .after) (madeEdge (ticked .answer)) (isEdge (ticked .answer)) (saidOf (ticked .answer) .edges) _ _ _ (edge-is (ticked .answer)) (edge-counts (ticked .answer))
-    (ap (λ (k : ℕ). k + 1) (turn-counts left (ticked .after) (clientSees (ticked .after) client)))
-    refl
+    let o : Outcome = ticked host client in
+    let edges : ℕ = saidOf (o .answer) .edges in
+    ap (λ (r : Run). r .used) (turn-is left host client)
+    ∙ if-both (λ (r : Run) (cs : List Call). r .used ≡ edges + edgesMade (o .after) cs) (isEdge (o .answer)) (isEdge (o .answer)) _ _ _ _ refl
+    (λ e.
+    let one : edges ≡ 1 = edge-counts (o .answer) ∙ if-true (isEdge (o .answer)) 1 0 e in
+    let rest : hostTurn left (o .after) (shown (o .after) client) .used
+    ≡ edgesMade (o .after) (hostCalls left (o .after) (shown (o .after) client)) =
+    turn-counts left (o .after) (shown (o .after) client) in
+    omega (arith, one, rest))
+    (λ e. let none : edges ≡ 0 = edge-counts (o .answer) ∙ if-false (isEdge (o .answer)) 1 0 e in omega (arith, none))
 
--- The run does to the host what its calls there do.
+-- A run by those calls: it begins by showing the client the host's levels.
+pub run-is : (host client : Module) (limit : ℕ) → runOf host client limit ≡ hostTurn limit host (shown host client)
+unfolding runOf
+run-is host client limit = ap (hostTurn limit host) (sees-is host client)
+
+-- The run does to each end what its calls there do.
 pub run-host : (host client : Module) (limit : ℕ) →
     runOf host client limit .host ≡ afterCalls host (runHostCalls host client limit)
-unfolding runOf runHostCalls clientSees levelRead performOf
-run-host host client limit = turn-host limit host (clientSees host client)
+unfolding runHostCalls
+run-host host client limit =
+    ap (λ (r : Run). r .host) (run-is host client limit) ∙ turn-host limit host (shown host client)
 
--- The run does to the client what its calls there do.
 pub run-client : (host client : Module) (limit : ℕ) →
     runOf host client limit .client ≡ afterCalls client (runClientCalls host client limit)
-unfolding runOf runClientCalls clientSees levelRead performOf
-run-client host client limit = turn-client limit host (clientSees host client)
+unfolding runClientCalls
+run-client host client limit =
+    ap (λ (r : Run). r .client) (run-is host client limit) ∙ turn-client limit host (shown host client)
 
 -- The edges used are those that the host's calls make.
 pub run-counts : (host client : Module) (limit : ℕ) →
     runOf host client limit .used ≡ edgesMade host (runHostCalls host client limit)
-unfolding runOf runHostCalls clientSees levelRead performOf
-run-counts host client limit = turn-counts limit host (clientSees host client)
+unfolding runHostCalls
+run-counts host client limit =
+    ap (λ (r : Run). r .used) (run-is host client limit) ∙ turn-counts limit host (shown host client)
 
 -- A linked run that is not refused does to each end what the calls that it makes there do.
 pub link-calls : (host client : Module) (limit n : ℕ) → linkedOf host client limit .answer ≡ linked.Used n →
@@ -214,16 +248,16 @@ link-holds host client limit h k =
 
 -- A turn uses no more edges than are left.
 pub turn-within : (left : ℕ) (host client : Module) → hostTurn left host client .used ≤ left
-unfolding hostTurn handedOver clientTurn oneMore runStops
+unfolding hostTurn oneMore runStops
 turn-within zero host client = zero-le
 turn-within (suc left) host client =
-    let ticked : Outcome = hostTicked host client in
-    let rest : hostTurn left (ticked .after) (clientSees (ticked .after) client) .used ≤ left =
-    turn-within left (ticked .after) (clientSees (ticked .after) client) in
-    if-keeps (λ (r : Run). r .used ≤ suc left) (madeEdge (ticked .answer)) _ _ (λ e. omega (arith, rest)) (λ e. zero-le)
+    let o : Outcome = ticked host client in
+    let rest : hostTurn left (o .after) (shown (o .after) client) .used ≤ left = turn-within left (o .after) (shown (o .after) client) in
+    subst (λ (r : Run). r .used ≤ suc left) (sym (turn-is left host client))
+    (if-keeps (λ (r : Run). r .used ≤ suc left) (isEdge (o .answer)) _ _ (λ e. omega (arith, rest)) (λ e. zero-le))
 
 -- The edges used are never above the limit.
 pub link-within-limit : (host client : Module) (limit n : ℕ) → linkedOf host client limit .answer ≡ linked.Used n → n ≤ limit
-unfolding runOf
 link-within-limit host client limit n e =
-    subst (λ (k : ℕ). k ≤ limit) (link-when host client limit n e .1) (turn-within limit host (clientSees host client))
+    subst (λ (k : ℕ). k ≤ limit) (ap (λ (r : Run). r .used) (sym (run-is host client limit)) ∙ link-when host client limit n e .1)
+    (turn-within limit host (shown host client))

@@ -3,20 +3,23 @@
 -- Assumes nothing.
 use Prim.Native.Nat.{ℕ, zero, suc}
 use mathlib.Core.Bool.{Bool, true, false, not, _&&_, _||_}
-use mathlib.Core.Path.{_≡_, ap, _∙_}
+use mathlib.Core.Path.{_≡_, sym, ap, subst, _∙_}
 use borrow.Author.Tests.{not-false}
 use Rattle.laws.proofs.Keeps.{if-keeps, or-left, or-right}
 use Rattle.spi_types.specs.declared.Module.{Module}
 use Rattle.spi_types.specs.declared.Outcome.{Outcome}
+use Rattle.spi_types.specs.declared.Answer.the-variants.{Done}
 use Rattle.spi_rules.specs.Settings.{framed, ownClock}
+use Rattle.spi_rules.specs.Refusals.{isEdge}
 use Rattle.spi_rules.specs.Edge.{levels, stepped}
-use Rattle.spi_rules.specs.Calls.{answering, pinsOf, sckOf, sdoOf, performOf}
+use Rattle.spi_rules.specs.Calls.{answering, sckOf, sdoOf, performOf}
 use Rattle.spi_invariant.proofs.Select.{stepped-select}
 use Rattle.spi_invariant.proofs.CallsWhen.{pin-is}
 use Rattle.spi_link_rules.specs.declared.Run.{Run}
 use Rattle.spi_link_rules.specs.declared.Linked.{Linked}
-use Rattle.spi_link_rules.specs.Link.{levelRead, madeEdge, hostTicked, clientSees, runStops, oneMore, clientTurn, handedOver, hostTurn, runOf, toldOf, linkedOf}
-use Rattle.spi_link_rules.proofs.LinkRuns.{Allowed, link-when, link-is}
+use Rattle.spi_link_rules.specs.Link.{runStops, oneMore, hostTurn, toldOf, linkedOf}
+use Rattle.spi_link_rules.specs.LinkDemands.{readAs, pinsBeside}
+use Rattle.spi_link_rules.proofs.LinkRuns.{Allowed, link-when, link-is, ticked, shown, turn-is, run-is}
 use Rattle.spi_link_rules.specs.declared.LinkAnswer.the-variants as linked
 
 -- An enabled module clocked from its pin, with its select low.
@@ -25,14 +28,14 @@ record Selected (m : Module) : Type 0 where
   pin : ownClock (m .settings) ≡ false
   low : m .engine .pins .ss ≡ false
 
--- A client that sees the host's levels is selected.
-sees-selected : (host client : Module) → client .settings .spien ≡ true → ownClock (client .settings) ≡ false →
-    Selected (clientSees host client)
-unfolding clientSees performOf answering
-sees-selected host client on pin =
+-- A client that is shown the host's levels is selected.
+shown-selected : (host client : Module) → client .settings .spien ≡ true → ownClock (client .settings) ≡ false →
+    Selected (shown host client)
+unfolding answering
+shown-selected host client on pin =
     let sck : Bool = sckOf host in
-    let sdi : Bool = levelRead (sdoOf host) in
-    let is : pinsOf client sck sdi false ≡ answering client _ (stepped (client .settings) (levels sck sdi false) (client .engine)) =
+    let sdi : Bool = readAs (sdoOf host) in
+    let is : performOf client (pinsBeside host) ≡ answering client Done (stepped (client .settings) (levels sck sdi false) (client .engine)) =
     pin-is client sck sdi false on pin in
     record {
       enabled = ap (λ (o : Outcome). o .after .settings .spien) is ∙ on;
@@ -44,20 +47,19 @@ sees-selected host client on pin =
 
 -- From the host's turn on, a selected client stays selected.
 turn-selected : (left : ℕ) (host client : Module) → Selected client → Selected (hostTurn left host client .client)
-unfolding hostTurn handedOver clientTurn oneMore runStops
+unfolding hostTurn oneMore runStops
 turn-selected zero host client h = h
 turn-selected (suc left) host client h =
-    let ticked : Outcome = hostTicked host client in
-    if-keeps (λ (r : Run). Selected (r .client)) (madeEdge (ticked .answer)) _ _
-    (λ e.
-    turn-selected left (ticked .after) (clientSees (ticked .after) client)
-    (sees-selected (ticked .after) client (h .enabled) (h .pin)))
-    (λ e. h)
+    let o : Outcome = ticked host client in
+    subst (λ (r : Run). Selected (r .client)) (sym (turn-is left host client))
+    (if-keeps (λ (r : Run). Selected (r .client)) (isEdge (o .answer)) _ _
+    (λ e. turn-selected left (o .after) (shown (o .after) client) (shown-selected (o .after) client (h .enabled) (h .pin)))
+    (λ e. h))
 
 -- After a linked run the client's select is low.
 pub link-selected : (host client : Module) (limit n : ℕ) → linkedOf host client limit .answer ≡ linked.Used n →
     linkedOf host client limit .client .engine .pins .ss ≡ false
-unfolding toldOf runOf
+unfolding toldOf
 link-selected host client limit n e =
     let a : Allowed host client limit = link-when host client limit n e .0 in
     let on : client .settings .spien ≡ true =
@@ -66,4 +68,5 @@ link-selected host client limit n e =
     or-left (client .settings .con1 .msten) _ (or-right (not (ownClock (host .settings)) || framed (host .settings)) _ (a .roles)) in
     let pin : ownClock (client .settings) ≡ false = ap (λ (b : Bool). b && not (client .settings .con1 .dissck)) role in
     ap (λ (l : Linked). l .client .engine .pins .ss) (link-is host client limit a)
-    ∙ turn-selected limit host (clientSees host client) (sees-selected host client on pin) .low
+    ∙ ap (λ (r : Run). r .client .engine .pins .ss) (run-is host client limit)
+    ∙ turn-selected limit host (shown host client) (shown-selected host client on pin) .low

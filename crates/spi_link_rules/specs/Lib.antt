@@ -2,3 +2,5 @@
 pub mod Link
 pub mod LinkExamples
 pub mod LinkDemands
+-- What passes over the wire (document 02, Thirteen):
+pub mod WireDemands

@@ -81,6 +81,7 @@ module _ (s : Settings) (n : Engine) (t : TransmitHolds s (n .transmit)) where
         word = k .word;
         received = subst (λ (e : ℕ). p .received < 2 ^ e) (sym (sampled-is (ckeOf s) (p .edges))) (k .received);
         first = begun-first p k;
+        zeros = k .zeros;
       }
 
 pub port-fits : (m : Module) → Reached m → Fits (terms (m .settings)) (portIn m)

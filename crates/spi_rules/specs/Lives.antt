@@ -20,9 +20,13 @@ pub data Beginning : Type 0 where
 abbrev pub levelsIn : Module → Memory
 levelsIn m = record { sck = m .engine .pins .sck; ss = m .engine .pins .ss; pulse = m .engine .pins .pulse }
 
+-- A module that is watched from where it stands.
+abbrev pub resumedAt : Module → Watched
+resumedAt m = record { now = m; memory = levelsIn m; ledger = resumed (terms (m .settings)) (portIn m) }
+
 abbrev pub begins : Beginning → Watched
 begins (powerUp depth) = record { now = poweredAt depth; memory = levelsIn (poweredAt depth); ledger = opened }
-begins (midLife m holds enabled) = record { now = m; memory = levelsIn m; ledger = resumed (terms (m .settings)) (portIn m) }
+begins (midLife m holds enabled) = resumedAt m
 
 -- A watched module after some calls.
 abbrev pub life : Beginning → List Call → Watched

@@ -29,7 +29,7 @@ pub record Counts (t : Terms) (u : Under) (w : OnWire) : Type 0 where
   pub shown : w .shown ≡ topBits (t .width) (sampledIn (t .samples) (u .edges)) (u .word)
   pub seen : spelled 0 (w .seen) ≡ u .received
 
-counted-word : (t : Terms) (owed : List ℕ) (u : Under) (w : OnWire) (sdo sdi : Bool) → SameWord t owed u w → Shows t sdo u →
+pub counted-word : (t : Terms) (owed : List ℕ) (u : Under) (w : OnWire) (sdo sdi : Bool) → SameWord t owed u w → Shows t sdo u →
     Counts t (progressed t sdi u) (counted t sdo sdi w)
 unfolding counted progressed receivedAfter
 counted-word t owed u w sdo sdi c s =
@@ -206,6 +206,7 @@ clock-tied t whole p l h sdo sdi (sends u) (busy w) a b c s =
             short = ltb-true (u .edges + 1) (t .last) e;
             fits = c .fits;
             first = c .first;
+            zeros = c .zeros;
           };
       fit = h .fit;
       mark = h .mark;

@@ -21,6 +21,7 @@ pub record FitsUnder (t : Terms) (owed : List ℕ) (u : Under) : Type 0 where
   pub word : u .word < 2 ^ t .width
   pub received : u .received < 2 ^ sampledIn (t .samples) (u .edges)
   pub first : u .filler ≡ false → owed ≡ u .word ∷ drop 1 owed
+  pub zeros : u .filler ≡ true → u .word ≡ 0
 
 abbrev pub FitsWay : Terms → List ℕ → Way → Type 0
 FitsWay t owed idle = Unit {0}
@@ -66,6 +67,7 @@ resumed-carries t owed (sends u) f =
       short = f .short;
       fits = f .word;
       first = f .first;
+      zeros = f .zeros;
     }
 
 pub tied-resumed : (t : Terms) (p : Port) → Fits t p → Tied t p (resumed t p)

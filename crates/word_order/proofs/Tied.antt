@@ -25,7 +25,7 @@ AllBelow k [] = Unit {0}
 AllBelow k (word ∷ words) = (word < k) × AllBelow k words
 
 -- The word under way and the word on the wire: as many edges, SDO showed its bits from the top, SDI spelled what was
--- received. Unless it is a filler it is the first of those owed.
+-- received. Unless it is a filler it is the first of those owed; a filler is the word 0.
 pub record SameWord (t : Terms) (owed : List ℕ) (u : Under) (w : OnWire) : Type 0 where
   pub filler : w .filler ≡ u .filler
   pub edges : w .edges ≡ u .edges
@@ -34,6 +34,7 @@ pub record SameWord (t : Terms) (owed : List ℕ) (u : Under) (w : OnWire) : Typ
   pub short : u .edges < t .last
   pub fits : u .word < 2 ^ t .width
   pub first : u .filler ≡ false → owed ≡ u .word ∷ drop 1 owed
+  pub zeros : u .filler ≡ true → u .word ≡ 0
 
 abbrev pub Carries : Terms → List ℕ → Way → Wire → Type 0
 Carries t owed idle quiet = Unit {0}
@@ -160,14 +161,24 @@ carries-more t owed more (sends u) (busy w) c =
       short = c .short;
       fits = c .fits;
       first = λ f. first-stays (u .word) more owed (c .first f);
+      zeros = c .zeros;
     }
 
 -- A fresh word.
 fresh-word : (t : Terms) → Whole t → (owed : List ℕ) (filler : Bool) (word : ℕ) → word < 2 ^ t .width →
-    (filler ≡ false → owed ≡ word ∷ drop 1 owed) →
+    (filler ≡ false → owed ≡ word ∷ drop 1 owed) → (filler ≡ true → word ≡ 0) →
     SameWord t owed (record { filler = filler; word = word; edges = 0; received = 0 }) (fresh filler)
-fresh-word t w owed filler word f first =
-    record { filler = refl; edges = refl; shown = refl; seen = refl; short = w .some; fits = f; first = first }
+fresh-word t w owed filler word f first zeros =
+    record {
+      filler = refl;
+      edges = refl;
+      shown = refl;
+      seen = refl;
+      short = w .some;
+      fits = f;
+      first = first;
+      zeros = zeros;
+    }
 
 zero-fits : (w : ℕ) → 0 < 2 ^ w
 zero-fits w = pow-pos w
@@ -184,11 +195,11 @@ unfolding firstOnWire
 begun-carries t w [] l b none some idle quiet c =
     subst (Carries t [] (firstWay (t .silent) [])) (sym (if-false (leftToSend l) _ _ (none refl)))
     (if-both (Carries t []) (t .silent) (t .silent) _ _ _ _ refl (λ e. tt)
-    (λ e. fresh-word t w [] true 0 (zero-fits (t .width)) (λ f. clash true refl f)))
+    (λ e. fresh-word t w [] true 0 (zero-fits (t .width)) (λ f. clash true refl f) (λ f. refl)))
 begun-carries t w (word ∷ rest) l b none some idle quiet c =
     subst (Carries t (word ∷ rest) (firstWay (t .silent) (word ∷ rest)))
     (sym (if-true (leftToSend l) _ _ (some word rest refl)))
-    (fresh-word t w (word ∷ rest) false word (b .0) (λ f. refl))
+    (fresh-word t w (word ∷ rest) false word (b .0) (λ f. refl) (λ f. clash false f refl))
 begun-carries t w owed l b none some idle (busy x) c = absurd c
 begun-carries t w owed l b none some (sends u) quiet c = absurd c
 begun-carries t w owed l b none some (sends u) (busy x) c = c

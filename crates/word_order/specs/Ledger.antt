@@ -98,6 +98,11 @@ withRead x l = record { accepted = l .accepted; departures = l .departures; arri
 abbrev pub withWire : Wire → Ledger → Ledger
 withWire x l = record { accepted = l .accepted; departures = l .departures; arrivals = l .arrivals; read = l .read; wire = x }
 
+-- The words that passed, marked or not.
+abbrev pub wordsOf : List Passed → List ℕ
+wordsOf [] = []
+wordsOf (a ∷ rest) = a .word ∷ wordsOf rest
+
 -- The words without a mark: those fully sent, and those received and not lost.
 abbrev pub unmarked : List Passed → List ℕ
 unmarked [] = []

@@ -1,0 +1,2 @@
+-- What passes between two ports.
+pub mod Wire
