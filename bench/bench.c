@@ -27,6 +27,7 @@ static const struct {
     {"register calls", "call", 1000},
     {"trace, sections played", "call", 6},
     {"trace of 16,000 records", "call", 4},
+    {"trace of 16,000 records salvaged", "record", 20},
 };
 
 /* Two ways to do the same. */

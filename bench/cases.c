@@ -298,37 +298,70 @@ static struct outcome trace_played(uint32_t times)
     return played(&f, times);
 }
 
+/* A host at work, from one record to another. */
+static void put_work(struct file *f, uint32_t from, uint32_t to)
+{
+    uint32_t i;
+
+    for (i = from; i < to; i++) {
+        switch (i % 34) {
+        case 3:
+            put(f, KIND_WRITE, BUF, i);
+            break;
+        case 2:
+            put(f, KIND_READ, BUF, 0);
+            break;
+        default:
+            if (i % 2 == 0)
+                put(f, KIND_TICK, i >> 1 & 1, 0);
+            else
+                put(f, KIND_READ, STAT, 0);
+            break;
+        }
+    }
+}
+
 /* The same without sections that are played: each record is one call. */
 static struct outcome trace_long(uint32_t times)
 {
     static const uint32_t length = 4 * 16000;
     static struct file f;
-    uint32_t i;
 
     if (f.length == 0) {
         begin(&f, 1, &length);
         put_host(&f);
-        for (i = 3; i < 16000; i++) {
-            switch (i % 34) {
-            case 3:
-                put(&f, KIND_WRITE, BUF, i);
-                break;
-            case 2:
-                put(&f, KIND_READ, BUF, 0);
-                break;
-            default:
-                if (i % 2 == 0)
-                    put(&f, KIND_TICK, i >> 1 & 1, 0);
-                else
-                    put(&f, KIND_READ, STAT, 0);
-                break;
-            }
-        }
+        put_work(&f, 3, 16000);
     }
     return played(&f, times);
 }
 
+/* Such a file of two sections is salvaged that broke off before its last 100
+ * bytes; the units are the records that are left. */
+static struct outcome trace_salvaged(uint32_t times)
+{
+    static const uint32_t length[] = {4 * 8000, 4 * 8000};
+    static struct file f, mended;
+    struct outcome o = {0, 0};
+    uint64_t told;
+
+    if (f.length == 0) {
+        begin(&f, 2, length);
+        put_host(&f);
+        put_work(&f, 3, 16000);
+        f.length -= 98;
+    }
+    while (times-- > 0) {
+        told = salvage(f.byte, f.length, mended.byte, sizeof mended.byte);
+        o.units += ((uint32_t)told - 18) / 4;
+        o.sum = mixed(mixed(o.sum, (uint32_t)told), (uint32_t)(told >> 32));
+        o.sum = mixed(o.sum, mended.byte[(uint32_t)told - 1]);
+    }
+    return o;
+}
+
+
 const struct side EITHER(library_side, plain_side) = {
     EITHER("library", "plain C"),
     {busy_host, deep_host, watched_host, stepped_host, frame_host, client_8,
-     client_16, linked_pair, registers, trace_played, trace_long}};
+     client_16, linked_pair, registers, trace_played, trace_long,
+     trace_salvaged}};

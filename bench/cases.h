@@ -23,6 +23,7 @@ enum {
     REGISTERS,
     TRACE_PLAYED,
     TRACE_LONG,
+    TRACE_SALVAGED,
     CASES
 };
 

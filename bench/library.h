@@ -26,5 +26,7 @@ struct thurafeqa_clock {
 uint32_t thurafeqa_clock(const uint16_t *m, uint32_t rate,
                          struct thurafeqa_clock *report);
 uint32_t thurafeqa_play(uint16_t *m, const uint8_t *file, size_t length);
+uint64_t thurafeqa_salvage(const uint8_t *file, size_t length,
+                           uint8_t *salvaged, size_t room);
 
 #endif

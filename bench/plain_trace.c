@@ -3,6 +3,8 @@
  * together, so that play passes nothing else. */
 #include "plain_trace.h"
 
+#include <string.h>
+
 enum { WRITE, READ, TICK, PINS, CLEAR, PLAY };
 enum { MOST_SECTIONS = 64, MOST_LEVELS = 8, MOST = 65535, RECORDS = MOST / 4 };
 
@@ -152,4 +154,85 @@ uint32_t plain_play(struct plain_spi *m, const uint8_t *file, size_t length)
     plain_power_up(m);
     play(m, &t, 0);
     return t.section[0].calls;
+}
+
+/* ---- salvage --------------------------------------------------------------- */
+
+static void put_number(uint8_t *at, uint32_t n)
+{
+    at[0] = (uint8_t)n;
+    at[1] = (uint8_t)(n >> 8);
+    at[2] = (uint8_t)(n >> 16);
+    at[3] = (uint8_t)(n >> 24);
+}
+
+/* How many bytes of a section are kept. */
+static uint32_t kept(const uint8_t *body, uint32_t whole, uint32_t s,
+                     uint32_t count, uint8_t *levels)
+{
+    uint32_t at, level = levels[s];
+
+    for (at = 0; at < whole; at += 4) {
+        uint32_t r = number(body + at), played = r >> 8 & 0xFF;
+
+        if ((r & 0xFF) < PLAY) {
+            if (r & zero[r & 0xFF])
+                return at;
+            continue;
+        }
+        if ((r & 0xFF) > PLAY || played <= s || played >= count ||
+            level == MOST_LEVELS)
+            return at;
+        if (levels[played] <= level)
+            levels[played] = (uint8_t)(level + 1);
+    }
+    return at;
+}
+
+uint64_t plain_salvage(const uint8_t *file, size_t length, uint8_t *salvaged,
+                       size_t room)
+{
+    uint8_t levels[MOST_SECTIONS];
+    uint32_t sizes[MOST_SECTIONS], count, s, at, start, cut = 0;
+    uint64_t end;
+
+    if (length < 2 || length > MOST)
+        return 17u << 16;
+    count = file[0] | (uint32_t)file[1] << 8;
+    end = start = 2 + 8 * count;
+    if (count < 1 || count > MOST_SECTIONS || end > length)
+        return 17u << 16;
+    for (s = 0; s < count; s++) {
+        if (number(file + 2 + 8 * s) != end)
+            return 17u << 16;
+        end += number(file + 6 + 8 * s);
+    }
+    if (end > MOST)
+        return 17u << 16;
+    memset(levels, 1, sizeof levels);
+    at = start;
+    for (s = 0; s < count; s++) {
+        uint32_t size = number(file + 6 + 8 * s);
+        uint32_t there = start >= length ? 0 : (uint32_t)length - start;
+
+        sizes[s] = kept(file + (there ? start : 0),
+                        (size < there ? size : there) & ~3u, s, count, levels);
+        cut += sizes[s] < size;
+        start += size;
+        at += sizes[s];
+    }
+    if (at > room)
+        return 20u << 16;
+    salvaged[0] = (uint8_t)count;
+    salvaged[1] = 0;
+    at = start = 2 + 8 * count;
+    for (s = 0; s < count; s++) {
+        put_number(salvaged + 2 + 8 * s, at);
+        put_number(salvaged + 6 + 8 * s, sizes[s]);
+        if (sizes[s] > 0)
+            memcpy(salvaged + at, file + start, sizes[s]);
+        start += number(file + 6 + 8 * s);
+        at += sizes[s];
+    }
+    return (uint64_t)cut << 48 | (end - at) << 32 | at;
 }

@@ -19,6 +19,7 @@ typedef uint16_t module[THURAFEQA_NUMBERS];
 #define levels thurafeqa_levels
 #define linked thurafeqa_linked
 #define play thurafeqa_play
+#define salvage thurafeqa_salvage
 #else
 #include "plain_trace.h"
 #define EITHER(library, plain) plain
@@ -35,6 +36,7 @@ typedef struct plain_spi module;
 #define levels plain_levels
 #define linked plain_linked
 #define play plain_play
+#define salvage plain_salvage
 #endif
 
 enum { STAT, CON1, CON2, BUF };

@@ -58,7 +58,7 @@ pub mod register {
 
 /// The version of this file: major, minor and patch numbers. [`version`] tells the library's.
 #[allow(dead_code)]
-pub const VERSION: (u8, u8, u8) = (6, 0, 0);
+pub const VERSION: (u8, u8, u8) = (6, 1, 0);
 
 /// The format of a module's words. It rises wherever their meaning changes, so save it beside them.
 #[allow(dead_code)]
@@ -95,6 +95,7 @@ unsafe extern "C" {
     safe fn thurafeqa_clock(m: &Module, rate: u32, report: &mut ClockReport) -> u32;
     unsafe fn thurafeqa_play(m: &mut Module, file: *const u8, length: usize) -> u32;
     unsafe fn thurafeqa_save(script: *const u8, length: usize, file: *mut u8, room: usize) -> u32;
+    unsafe fn thurafeqa_salvage(file: *const u8, length: usize, salvaged: *mut u8, room: usize) -> u64;
     unsafe fn thurafeqa_board_call(
         modules: *mut Module, count: usize, owed: u32, n: u32, kind: u32, x: u32, y: u32, z: u32,
         report: &mut ClockReport,
@@ -160,7 +161,7 @@ pub enum Refusal {
     BadRecord = 18,
     /// A trace would make more than 65,535 calls.
     TooManyCalls = 19,
-    /// A saved trace does not fit what is lent for it, or would be longer than 65,535 bytes.
+    /// A saved or salvaged trace does not fit what is lent for it, or a saved one would be longer than 65,535 bytes.
     NoRoom = 20,
     /// A board's list has no module, or more than four.
     BadList = 21,
@@ -333,6 +334,32 @@ pub fn save(script: &[u8], file: &mut [u8]) -> Result<usize, Refusal> {
     // SAFETY: the pointers and lengths are those of slices, and no other overlaps one that can be changed
     let answer = unsafe { thurafeqa_save(script.as_ptr(), script.len(), file.as_mut_ptr(), file.len()) };
     value(answer).map(usize::from)
+}
+
+/// What was salvaged of a cut trace.
+#[allow(dead_code)]
+#[derive(Clone, Copy, Debug, PartialEq, Eq)]
+pub struct Salvaged {
+    /// How long is the new file?
+    pub length: usize,
+    /// How many sections were cut?
+    pub cut: u16,
+    /// How many bytes were lost, the old lengths' sum less the new ones'?
+    pub lost: u16,
+}
+
+/// Salvages a trace that broke off: from a file whose table of contents is whole and gapless, a new one that [`Module::play`] refuses
+/// neither with `BadContents` nor with `BadRecord`. Each section is cut before its first record that is wrong or runs past the
+/// section's or the file's end; sections keep their numbers, and what stands behind the last one is left off. The new file is
+/// written from the first lent byte on, and the bytes behind it keep their values. If it is refused, all that is lent is as it was.
+///
+/// Refused: `BadContents`, `NoRoom`.
+#[allow(dead_code)]
+pub fn salvage(file: &[u8], salvaged: &mut [u8]) -> Result<Salvaged, Refusal> {
+    // SAFETY: the pointers and lengths are those of slices, and no other overlaps one that can be changed
+    let told = unsafe { thurafeqa_salvage(file.as_ptr(), file.len(), salvaged.as_mut_ptr(), salvaged.len()) };
+    let length = value(told as u32).map(usize::from)?;
+    Ok(Salvaged { length, cut: (told >> 48) as u16, lost: (told >> 32) as u16 })
 }
 
 #[allow(dead_code)] // a program need not make every call

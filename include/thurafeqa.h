@@ -38,10 +38,12 @@
  *
  * Every call takes any module and any argument, and ends. It asks only this:
  * - pointers are not null, and each points to a whole thurafeqa, a whole report
- *   or, in thurafeqa_play and thurafeqa_save, as many bytes as its length says;
- *   that of a board's list points to as many modules as its count says;
+ *   or, in thurafeqa_play, thurafeqa_save and thurafeqa_salvage, as many bytes
+ *   as its length says; that of a board's list points to as many modules as its
+ *   count says;
  * - a trace that is played lies outside of the module, and what is lent for a
- *   saved one outside of its script;
+ *   saved one outside of its script, or for a salvaged one outside of the cut
+ *   one;
  * - the two modules of a linked run are two different objects;
  * - no call runs on a module while another changes it. Calls on different
  *   modules may run at the same time, but not through one board: a board's call
@@ -67,7 +69,7 @@ extern "C" {
  * must have the same major number, and the library's minor number must not be
  * lower. */
 #define THURAFEQA_VERSION_MAJOR 6u
-#define THURAFEQA_VERSION_MINOR 0u
+#define THURAFEQA_VERSION_MINOR 1u
 #define THURAFEQA_VERSION_PATCH 0u
 #define THURAFEQA_VERSION                                                      \
     (THURAFEQA_VERSION_MAJOR << 16 | THURAFEQA_VERSION_MINOR << 8 |            \
@@ -106,7 +108,7 @@ typedef char thurafeqa_has_192_bytes[sizeof(thurafeqa) == 192 ? 1 : -1];
 #define THURAFEQA_BAD_CONTENTS 17u    /* trace: table of contents, length */
 #define THURAFEQA_BAD_RECORD 18u      /* trace: a record is wrong */
 #define THURAFEQA_TOO_MANY_CALLS 19u  /* trace: more than 65,535 calls */
-#define THURAFEQA_NO_ROOM 20u         /* a saved trace does not fit */
+#define THURAFEQA_NO_ROOM 20u         /* a trace does not fit what is lent */
 #define THURAFEQA_BAD_LIST 21u        /* board: not one to four modules */
 #define THURAFEQA_NO_MODULE 22u       /* board: not there, or named twice */
 #define THURAFEQA_WRONG_LENGTH 24u    /* TI: no character length 1 to 16 */
@@ -302,6 +304,39 @@ uint32_t thurafeqa_play(thurafeqa *m, const uint8_t *file, size_t length);
  * which 16,381 lines are the most; then all that is lent is as it was. */
 uint32_t thurafeqa_save(const uint8_t *script, size_t length, uint8_t *file,
                         size_t room);
+
+/* Salvages a trace that broke off, as an upload may: from a file whose table of
+ * contents is whole and gapless, a new one that thurafeqa_play refuses neither
+ * with 17 nor with 18. Each section is cut before its first record that is wrong
+ * or runs past the section's or the file's end; sections keep their numbers, and
+ * what stands behind the last one is left off. `file` points to the `length`
+ * bytes of the old file, and `salvaged` to `room` bytes that are lent, none of
+ * them in the old file; neither pointer is null, even if there are no bytes. The
+ * new file is written from the first byte on, and the bytes behind it keep their
+ * values.
+ * What is told is more than an answer, and the three functions below take it
+ * apart: the answer, whose value is the new file's length; how many bytes were
+ * lost, the old lengths' sum less the new ones'; and how many sections were cut.
+ * Refusals: 17 (the section count is wrong, the contents are not whole or
+ * gapless, or the file or its last stated end passes 65,535), then 20 (the new
+ * file is longer than `room`); then all that is lent is as it was. */
+uint64_t thurafeqa_salvage(const uint8_t *file, size_t length,
+                           uint8_t *salvaged, size_t room);
+
+static inline uint32_t thurafeqa_salvage_answer(uint64_t told)
+{
+    return (uint32_t)(told & 0xFFFFFFFFu);
+}
+
+static inline uint16_t thurafeqa_salvage_lost(uint64_t told)
+{
+    return (uint16_t)(told >> 32 & 0xFFFFu);
+}
+
+static inline uint16_t thurafeqa_salvage_cut(uint64_t told)
+{
+    return (uint16_t)(told >> 48);
+}
 
 /* A board: one to four modules that lie one behind the other. `modules` points
  * to the first, SPI1, which has the number 0, and `count` says how many there

@@ -113,10 +113,11 @@ static enum trace_fault read_contents(struct trace *t, size_t length)
 
 /* ---- refusal 18: the records ------------------------------------------ */
 
-/* What is wrong with a record of section s, whose level is known. */
-static enum trace_fault record_fault(const struct trace *t, int s,
-                                     struct record r)
+enum trace_fault trace_record_fault(const uint8_t *at, int section,
+                                    int sections, int level)
 {
+    struct record r = record_at(at);
+
     switch (r.kind) {
     case TRACE_WRITE:
         return r.argument > 3 ? TRACE_BAD_REGISTER : TRACE_RIGHT;
@@ -137,12 +138,11 @@ static enum trace_fault record_fault(const struct trace *t, int s,
             return TRACE_BAD_ARGUMENT;
         break;
     case TRACE_PLAY:
-        if ((int)r.argument <= s)
+        if ((int)r.argument <= section)
             return TRACE_NOT_HIGHER;
-        if ((int)r.argument >= t->sections)
+        if ((int)r.argument >= sections)
             return TRACE_NOT_THERE;
-        return t->section[s].level == TRACE_LEVELS ? TRACE_TOO_DEEP
-                                                   : TRACE_RIGHT;
+        return level == TRACE_LEVELS ? TRACE_TOO_DEEP : TRACE_RIGHT;
     default:
         return TRACE_BAD_KIND;
     }
@@ -163,7 +163,8 @@ static enum trace_fault read_records(struct trace *t)
 
         for (at = here->start; at < end; at += 4) {
             struct record r = record_at(t->file + at);
-            enum trace_fault fault = record_fault(t, s, r);
+            enum trace_fault fault =
+                trace_record_fault(t->file + at, s, t->sections, here->level);
 
             if (fault != TRACE_RIGHT)
                 return fault;

@@ -66,6 +66,11 @@ struct trace {
     uint16_t step[TRACE_BYTES / 4]; /* places of records in the file */
 };
 
+/* What is wrong with a record of a file with so many sections, which stands in
+ * a section of that number and level. */
+enum trace_fault trace_record_fault(const uint8_t *at, int section,
+                                    int sections, int level);
+
 /* Looks a file through, before anything is played; *t is whole if all is
  * right. Reads no byte but the given ones. */
 enum trace_fault trace_open(struct trace *t, const uint8_t *file,

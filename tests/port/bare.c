@@ -135,6 +135,24 @@ static void clocked(thurafeqa *m)
     is(report.rate * eight.number == 40000000.0, 1);
 }
 
+/* That trace of five records, cut within the last of them: four are left. */
+static void salvaged(const uint8_t *file, thurafeqa *other)
+{
+    static uint8_t mended[26];
+    uint64_t told;
+
+    is(thurafeqa_salvage_answer(thurafeqa_salvage(file, 9, mended, sizeof mended)),
+       THURAFEQA_BAD_CONTENTS << 16);
+    is(thurafeqa_salvage_answer(thurafeqa_salvage(file, 28, mended, 25)),
+       THURAFEQA_NO_ROOM << 16);
+    is(mended[0], 0);
+    told = thurafeqa_salvage(file, 28, mended, sizeof mended);
+    is(thurafeqa_salvage_answer(told), sizeof mended);
+    is(thurafeqa_salvage_cut(told), 1);
+    is(thurafeqa_salvage_lost(told), 4);
+    is(thurafeqa_play(other, mended, sizeof mended), 4);
+}
+
 /* A script that is saved and played ends in the module that the calls make. */
 static void traced(thurafeqa *m, thurafeqa *other)
 {
@@ -151,6 +169,7 @@ static void traced(thurafeqa *m, thurafeqa *other)
     is(thurafeqa_play(other, file, 29), THURAFEQA_BAD_CONTENTS << 16);
     is(thurafeqa_play(other, file, 30), 5);
     is((uint32_t)memcmp(m, other, sizeof *m), 0);
+    salvaged(file, other);
 }
 
 static void board(void)

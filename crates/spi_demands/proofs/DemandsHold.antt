@@ -10,6 +10,7 @@ use Rattle.spi_clock_rules.proofs.ClockDemandsHold.{clock-reports}
 use Rattle.spi_script_rules.proofs.ScriptDemandsHold.{scripts-hold}
 use Rattle.spi_trace_rules.proofs.TraceDemandsHold.{traces-hold}
 use Rattle.spi_save_rules.proofs.SaveDemandsHold.{saves-hold}
+use Rattle.spi_salvage_rules.proofs.SalvageDemandsHold.{salvages-hold}
 use Rattle.spi_board_rules.proofs.BoardDemandsHold.{boards-hold}
 use Rattle.spi_board_rules.proofs.OwedDemandsHold.{totals-hold}
 use Rattle.spi_demands.specs.Demands.{Demands}
@@ -24,6 +25,7 @@ demands-hold =
       scripts = scripts-hold;
       traces = traces-hold;
       saves = saves-hold;
+      salvages = salvages-hold;
       boards = boards-hold;
       totals = totals-hold;
       audioCard = page-holds;

@@ -1,5 +1,5 @@
 -- What the buyer signs for, all of it: the demands on one module, on two modules on one wire and what it delivers, on the clock report, on the
--- script program, on trace files, on saved sessions, on the board and on its total of words owed, on the audio card and on the
+-- script program, on trace files, on saved sessions, on salvaged traces, on the board and on its total of words owed, on the audio card and on the
 -- TI module. Each page says its part in the crate of its rules.
 use Rattle.card_rules.specs.CardDemands.{CardDemands}
 use Rattle.ti_rules.specs.Demands.{TiDemands}
@@ -10,6 +10,7 @@ use Rattle.spi_clock_rules.specs.ClockDemands.{ClockReports}
 use Rattle.spi_script_rules.specs.ScriptDemands.{Scripts}
 use Rattle.spi_trace_rules.specs.TraceDemands.{Traces}
 use Rattle.spi_save_rules.specs.SaveDemands.{Saves}
+use Rattle.spi_salvage_rules.specs.SalvageDemands.{Salvages}
 use Rattle.spi_board_rules.specs.BoardDemands.{Boards}
 use Rattle.spi_board_rules.specs.OwedDemands.{Totals}
 
@@ -21,6 +22,7 @@ pub record Demands : Type 0 where
   pub scripts : Scripts
   pub traces : Traces
   pub saves : Saves
+  pub salvages : Salvages
   pub boards : Boards
   pub totals : Totals
   pub audioCard : CardDemands

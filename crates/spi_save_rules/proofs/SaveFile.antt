@@ -5,23 +5,24 @@
 --     file-played    it is played, and counts its calls
 --     file-calls     and makes them in order
 -- Assumes nothing.
-use Prim.Native.Nat.{ℕ, zero, suc, _+_, _*_, _/_, _%_, _≤_}
+use Prim.Native.Nat.{ℕ, zero, suc, _+_, _*_, _≤_}
 use mathlib.Core.Bool.{Bool, true, false, not, _&&_}
 use mathlib.Core.List.{List, [], _∷_, _++_, append-nil}
-use mathlib.Core.Path.{_≡_, refl, sym, ap, _∙_}
+use mathlib.Core.Path.{_≡_, refl, ap, _∙_}
 use native.Mathlib.Omega.{arith}
 use borrow.Author.Tests.{le-ltb}
 use lib.Dec.{leb, ltb}
 use lib.ListN.{length, length-append}
-use lib.Seq.{take-at}
 use Rattle.laws.specs.Choice.{if_then_else_}
 use Rattle.laws.proofs.Keeps.{if-false, and-left, and-right, and-both, clash}
 use Rattle.spi_types.specs.declared.Call.{Call}
 use Rattle.spi_types.specs.declared.Call.the-variants.{Read, Write, Tick, Pin, ClockStep, Clear}
 use Rattle.spi_trace_rules.specs.declared.Entry.{Entry}
 use Rattle.spi_trace_rules.specs.declared.Played.the-variants.{Made}
-use Rattle.spi_trace_rules.specs.Trace.{byteAt, halfAt, wordAt, sectionCount, tableEnd, startOf, sizeOf, contentsRight, bodyOf, entriesIn, recordsOf as entriesOf, isPlay, wireIn, levelOf, rightRecord, allRight, allBelow, recordsRight, callOf, callsBy, callsOf, countBy, countOf, fileCalls, fileCount, playedOf}
+use Rattle.spi_trace_rules.specs.Trace.{byteAt, halfAt, sectionCount, contentsRight, entriesIn, recordsOf as entriesOf, isPlay, wireIn, levelOf, rightRecord, allRight, allBelow, recordsRight, callOf, callsBy, callsOf, countBy, countOf, fileCalls, fileCount, playedOf}
 use Rattle.spi_trace_rules.proofs.TraceContents.{laid-contents}
+use Rattle.spi_trace_bytes.proofs.TraceNumbers.{two-bytes}
+use Rattle.spi_trace_bytes.proofs.TraceFiles.{file-count, file-body, file-laid}
 use Rattle.spi_save_rules.specs.Save.{keeps, wires, recordOf, recordsOf, fileOf}
 
 -- Every call is one that is kept.
@@ -55,37 +56,17 @@ pub file-length : (cs : List Call) → allKept cs ≡ true → length (fileOf cs
 unfolding fileOf
 file-length cs k = omega (arith, records-length cs k, ap length (append-nil (recordsOf cs)))
 
--- A number of two bytes, and one of four.
-two-bytes : (n : ℕ) → n % 256 + 256 * (n / 256) ≡ n
-two-bytes n = omega arith
-
-four-bytes : (n : ℕ) → n % 65536 % 256 + 256 * (n % 65536 / 256) + 65536 * (n / 65536 % 256 + 256 * (n / 65536 / 256)) ≡ n
-four-bytes n = omega arith
-
--- The contents.
-module _ (cs : List Call) (k : allKept cs ≡ true) where
-  size : sizeOf (fileOf cs) 0 ≡ 4 * length cs
-  unfolding sizeOf wordAt halfAt byteAt fileOf
-  size = four-bytes (length (recordsOf cs)) ∙ records-length cs k
-
-  contents : length (fileOf cs) ≤ 65535 → contentsRight (fileOf cs) ≡ true
-  unfolding tableEnd sectionCount startOf wordAt halfAt byteAt fileOf
-  contents fits =
-      laid-contents (fileOf cs)
-      (record {
-        some = omega arith;
-        most = omega arith;
-        starts = elim [
-          | zero ↦ λ h. refl
-          | suc i ↦ λ h. absurd (omega arith)
-        ];
-        records = elim [
-          | zero ↦ λ h. omega (arith, size)
-          | suc i ↦ λ h. absurd (omega arith)
-        ];
-        ends = omega (arith, size, file-length cs k);
-        size = fits;
-      })
+-- The contents, by the laws of files.
+contents : (cs : List Call) → allKept cs ≡ true → length (fileOf cs) ≤ 65535 → contentsRight (fileOf cs) ≡ true
+unfolding fileOf
+contents cs k fits =
+    laid-contents (fileOf cs)
+    (file-laid (recordsOf cs ∷ []) (omega arith) (omega arith)
+    (elim [
+      | zero ↦ λ h. omega (arith, records-length cs k)
+      | suc i ↦ λ h. absurd (omega arith)
+    ])
+    fits)
 
 -- Records.
 
@@ -128,11 +109,8 @@ records-entries (c ∷ cs) k =
     cc (entries-more c (recordsOf cs), one-entry c (and-left (keeps c) _ k), records-entries cs (and-right (keeps c) _ k))
 
 section : (cs : List Call) → allKept cs ≡ true → entriesOf (fileOf cs) 0 ≡ entries cs
-unfolding entriesOf bodyOf startOf wordAt halfAt byteAt fileOf
-section cs k =
-    ap entriesIn
-    (take-at (recordsOf cs) [] (sizeOf (fileOf cs) 0) (records-length cs k ∙ sym (size cs k)))
-    ∙ records-entries cs k
+unfolding entriesOf fileOf
+section cs k = ap entriesIn (file-body (recordsOf cs ∷ []) 0 (omega arith)) ∙ records-entries cs k
 
 -- The levels of the wires, read back from an argument.
 record Levels (argument : ℕ) (sdi sck ss : Bool) : Type 0 where
@@ -203,16 +181,16 @@ count sub (c ∷ cs) =
 
 -- The whole file.
 pub file-section : (cs : List Call) → sectionCount (fileOf cs) ≡ 1
-unfolding sectionCount halfAt byteAt fileOf
-file-section cs = refl
+unfolding fileOf
+file-section cs = file-count (recordsOf cs ∷ [])
 
 pub file-calls : (cs : List Call) → allKept cs ≡ true → fileCalls (fileOf cs) ≡ cs
 unfolding fileCalls callsOf
 file-calls cs k = ap (callsBy (callsOf (fileOf cs) 7)) (section cs k) ∙ calls (callsOf (fileOf cs) 7) cs k
 
-file-count : (cs : List Call) → allKept cs ≡ true → fileCount (fileOf cs) ≡ length cs
+calls-counted : (cs : List Call) → allKept cs ≡ true → fileCount (fileOf cs) ≡ length cs
 unfolding fileCount countOf
-file-count cs k = ap (countBy (countOf (fileOf cs) 7)) (section cs k) ∙ count (countOf (fileOf cs) 7) cs
+calls-counted cs k = ap (countBy (countOf (fileOf cs) 7)) (section cs k) ∙ count (countOf (fileOf cs) 7) cs
 
 records : (cs : List Call) → allKept cs ≡ true → recordsRight (fileOf cs) ≡ true
 unfolding recordsRight allBelow sectionCount halfAt byteAt fileOf
@@ -225,5 +203,5 @@ unfolding playedOf
 file-played cs k fits =
     if-false (not (contentsRight (fileOf cs))) _ _ (ap not (contents cs k fits))
     ∙ if-false (not (recordsRight (fileOf cs))) _ _ (ap not (records cs k))
-    ∙ if-false (ltb 65535 (fileCount (fileOf cs))) _ _ (le-ltb 65535 (fileCount (fileOf cs)) (omega (arith, file-count cs k, file-length cs k)))
-    ∙ ap Made (file-count cs k)
+    ∙ if-false (ltb 65535 (fileCount (fileOf cs))) _ _ (le-ltb 65535 (fileCount (fileOf cs)) (omega (arith, calls-counted cs k, file-length cs k)))
+    ∙ ap Made (calls-counted cs k)

@@ -4,14 +4,14 @@ use Prim.Native.Nat.{ℕ, _+_}
 use mathlib.Core.Bool.{Bool, true, false, _&&_}
 use mathlib.Core.List.{List, [], _∷_, _++_}
 use lib.Dec.{leb}
-use lib.ListN.{length, drop}
+use lib.ListN.{length}
 use Rattle.laws.specs.Choice.{if_then_else_}
 use Rattle.spi_types.specs.declared.Call.{Call}
 use Rattle.spi_types.specs.declared.Call.the-variants.{Read, Write, Tick, Pin, ClockStep, Clear}
 use Rattle.spi_script_rules.specs.declared.Line.{Line}
 use Rattle.spi_script_rules.specs.declared.Line.the-variants.{Unreadable, Asked}
 use Rattle.spi_script_rules.specs.Script.{readFrom, linesOf, readingOf}
-use Rattle.spi_trace_rules.specs.TraceBytes.{entry, file}
+use Rattle.spi_trace_rules.specs.TraceBytes.{entry, file, placed}
 use Rattle.spi_save_rules.specs.declared.Saved.{Saved}
 use Rattle.spi_save_rules.specs.declared.Saved.the-variants.{NoRoom, Written}
 
@@ -70,8 +70,7 @@ savedOf input room = if fits (savedFile input) room then Written (length (savedF
 
 -- The buffer after it: the file, and behind it the bytes of before. A refused save leaves all of them.
 unfoldable pub bufferAfter : List ℕ → List ℕ → List ℕ
-bufferAfter input buffer =
-    if fits (savedFile input) (length buffer) then savedFile input ++ drop (length (savedFile input)) buffer else buffer
+bufferAfter input buffer = if fits (savedFile input) (length buffer) then placed (savedFile input) buffer else buffer
 
 -- The numbers of an answer: that of the refusal, 0 if saved; and the file's length, 0 if refused.
 unfoldable pub savedNumberOf : Saved → ℕ

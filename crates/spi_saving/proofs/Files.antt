@@ -2,22 +2,19 @@
 --     Saving                          what holds of the loop: the records that are left complete the buffer
 --     saving-room, saving-goes-on     one line more
 --     saving-ends                     no line is left
---     put-front                       a text at the start of a buffer, and behind it the buffer's own bytes
 --     file-parts                      the file is its table of contents and its records
 --     session-is, few-kept, counted  what is read of a script, and how many of its lines are kept
 --     too-long, too-large, fitting    whether it fits, by the bytes of its records
 --     refused, saved                  what a save answers, and the buffer after it
 -- Assumes nothing.
-use Prim.Native.Nat.{ℕ, suc, _+_, _*_, _≤_, _<_}
-use mathlib.Core.Bool.{true, false, _&&_}
-use mathlib.Core.List.{List, [], _∷_, _++_, append-assoc, append-nil}
-use mathlib.Core.Path.{_≡_, refl, sym, ap, _∙_}
-use native.Mathlib.Numerals.{add-one}
+use Prim.Native.Nat.{ℕ, _+_, _*_, _≤_, _<_}
+use mathlib.Core.Bool.{true, false}
+use mathlib.Core.List.{List, _++_, append-nil}
+use mathlib.Core.Path.{_≡_, sym, ap, ap₂, _∙_}
 use native.Mathlib.Omega.{arith}
 use borrow.Author.Tests.{le-leb, lt-leb}
 use lib.Dec.{leb}
-use lib.ListN.{length, take, drop, length-append, set}
-use lib.Seq.{sets, sets-eq}
+use lib.ListN.{length, take, drop, getD, length-append}
 use Rattle.laws.proofs.Keeps.{if-true, if-false, and-both, and-false, and-first}
 use Rattle.spi_types.specs.declared.Call.{Call}
 use Rattle.spi_script_rules.specs.declared.Line.{Line}
@@ -26,11 +23,13 @@ use Rattle.spi_script_rules.specs.Session.{firstLine}
 use Rattle.spi_script_rules.specs.Texts.{put, Written}
 use Rattle.spi_script_rules.proofs.ScriptLines.{read-part, reads-at-most}
 use Rattle.spi_script_rules.proofs.Texts.{put-then, put-length}
+use Rattle.spi_trace_rules.specs.TraceBytes.{half, word}
 use Rattle.spi_save_rules.specs.declared.Saved.the-variants.{NoRoom, Written as Saved·Written}
 use Rattle.spi_save_rules.specs.Save.{keptOf, keptFrom, keptCalls, recordsOf, fileOf, savedFile, fits, savedOf, bufferAfter}
 use Rattle.spi_save_rules.proofs.SaveFile.{file-length, records-length}
 use Rattle.spi_save_rules.proofs.SaveLines.{line-kept, all-kept}
 use Rattle.spi_saving.specs.Heads.{headOf}
+use Rattle.spi_saving.proofs.Placing.{put-front}
 use Rattle.spi_saving.proofs.Kept.{next-kept, none-behind, records-append}
 
 -- The records of what is kept from a place on.
@@ -75,22 +74,11 @@ module _ {session wanted : List ℕ} {at place : ℕ} {out : List ℕ} (h : Savi
   unfolding recordsOf put
   saving-ends over = sym (ap (λ (cs : List Call). put out place (recordsOf cs)) (none-behind session at over)) ∙ h .completes
 
--- A text at the start of a buffer.
-put-sets : (buffer : List ℕ) (place : ℕ) (text : List ℕ) → put buffer place text ≡ sets buffer place text
-unfolding put
-put-sets buffer place [] = refl
-put-sets buffer place (b ∷ bs) = rw add-one (put-sets (set buffer place b) (suc place) bs)
-
-pub put-front : (buffer text : List ℕ) → length text ≤ length buffer → put buffer 0 text ≡ text ++ drop (length text) buffer
-put-front buffer text h =
-    put-sets buffer 0 text
-    ∙ sets-eq text buffer 0 (omega arith)
-    ∙ ap (λ (k : ℕ). text ++ drop k buffer) (let same : 0 + length text ≡ length text = omega arith in same)
-
--- The file is its table of contents and its records.
-pub file-parts : (cs : List Call) → fileOf cs ≡ headOf (length (recordsOf cs)) ++ recordsOf cs
+-- The file is its table of contents, of one section with the size for it, and its records.
+pub file-parts : (cs : List Call) (sizes : List ℕ) → getD sizes 0 0 ≡ length (recordsOf cs) → fileOf cs ≡ headOf 1 sizes ++ recordsOf cs
 unfolding fileOf headOf
-file-parts cs = ap (λ (body : List ℕ). headOf (length (recordsOf cs)) ++ body) (append-nil (recordsOf cs))
+file-parts cs sizes size =
+    ap₂ (λ (n : ℕ) (body : List ℕ). half 1 ++ (word 10 ++ (word n ++ body))) (sym size) (append-nil (recordsOf cs))
 
 -- What is read of a script, as the part that is handed on.
 module _ (script : List ℕ) {n : ℕ} (part : n ≡ length (readFrom script)) where
@@ -131,22 +119,22 @@ pub refused : (script out : List ℕ) → fits (savedFile script) (length out) �
 unfolding savedOf bufferAfter
 refused script out off = (sym (if-false (fits (savedFile script) (length out)) _ _ off), sym (if-false (fits (savedFile script) (length out)) _ _ off))
 
-pub saved : (script out out' : List ℕ) {size next : ℕ} → size ≡ 4 * length (keptFrom (linesOf (readFrom script))) →
-    10 + size ≤ 65535 → 10 + size ≤ length out → Written (headOf size) out 0 out' next →
+pub saved : (script out out' : List ℕ) {size next : ℕ} (sizes : List ℕ) → getD sizes 0 0 ≡ size →
+    size ≡ 4 * length (keptFrom (linesOf (readFrom script))) →
+    10 + size ≤ 65535 → 10 + size ≤ length out → Written (headOf 1 sizes) out 0 out' next →
     (Saved·Written (10 + size) ≡ savedOf script (length out))
     × (put out' next (recordsOf (keptFrom (linesOf (readFrom script)))) ≡ bufferAfter script out)
 unfolding savedOf bufferAfter savedFile keptCalls
-saved script out out' {size} {next} counted short room head =
+saved script out out' {size} {next} sizes one counted short room head =
     let cs = keptFrom (linesOf (readFrom script)) in
     let on = fitting script counted (length out) short room in
     let long = saved-size script counted (length out) in
-    let parts : fileOf cs ≡ headOf size ++ recordsOf cs =
-    file-parts cs ∙ ap (λ (k : ℕ). headOf k ++ recordsOf cs) (records-length cs (all-kept (linesOf (readFrom script))) ∙ sym counted) in (
+    let parts : fileOf cs ≡ headOf 1 sizes ++ recordsOf cs = file-parts cs sizes (one ∙ counted ∙ sym (records-length cs (all-kept (linesOf (readFrom script))))) in (
       cc (long, if-true (fits (savedFile script) (length out)) (Saved·Written (length (savedFile script))) NoRoom on),
       cc (
         head .buffer,
         head .behind,
-        put-then out 0 (headOf size) (recordsOf cs),
+        put-then out 0 (headOf 1 sizes) (recordsOf cs),
         parts,
         put-front out (fileOf cs) (omega (arith, long)),
         if-true (fits (savedFile script) (length out)) (savedFile script ++ drop (length (savedFile script)) out) out on,

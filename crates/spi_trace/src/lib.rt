@@ -73,7 +73,7 @@ fn play_section(f: &[u8], next: &[u16; 16384], w: &mut [u16; 96], k: u16, left: 
     let mut at = spi_trace_files::first_record(f, k);
     let mut records = spi_trace_files::record_count(f, k);
     while 0 < records {
-        let e = spi_trace_files::entry_at(f, at as usize);
+        let e = spi_trace_reader::entry_of(f, at as usize);
         if spi_trace_files::is_idle(e) {
             let slot = (at / 4) as usize;
             let to = next[slot];

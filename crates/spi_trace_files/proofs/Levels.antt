@@ -1,6 +1,7 @@
 -- Levels, record by record.
 --     levels-first, levels-next   before any section, and behind one more
 --     right-at                    a record's level is its section's
+--     play-low                    a right play record stands below level 8
 -- Assumes nothing.
 use Prim.Native.Nat.{ℕ, zero, suc, _+_, _-_, _<_, _≤_}
 use mathlib.Core.Bool.{Bool, true, false, _&&_, _||_}
@@ -12,10 +13,9 @@ use lib.Dec.{eqb, leb, ltb}
 use lib.ListN.{length, getD, set, length-set, List·getD-append, replicate, length-replicate, getD-replicate}
 use lib.Seq.{getD-set-same, getD-set-other, set-getD}
 use Rattle.laws.specs.Choice.{if_then_else_}
-use Rattle.laws.proofs.Keeps.{if-true, if-false, by-test, and-left, and-right, and-both, and-first, and-false}
+use Rattle.laws.proofs.Keeps.{if-true, if-false, by-test, and-right, and-both, and-first, and-false}
 use Rattle.spi_trace_rules.specs.declared.Entry.{Entry}
-use Rattle.spi_trace_rules.specs.Trace.{sectionCount, contentsRight, recordsOf, isPlay, playsAny, higher, highestPlayer, levelsBelow, levelOf, rightRecord, rightOf, allRight, allOf}
-use Rattle.spi_trace_rules.proofs.TraceContents.{contents-laid}
+use Rattle.spi_trace_rules.specs.Trace.{sectionCount, recordsOf, isPlay, playsAny, higher, highestPlayer, levelsBelow, levelOf, rightRecord, rightOf, allRight, allOf}
 use Rattle.spi_trace_rules.proofs.TraceLevels.{levels-length, level-below, play-right}
 use Rattle.spi_trace_files.specs.Places.{entryAt, entriesAt}
 use Rattle.spi_trace_files.specs.Passes.{raisedOne, raisedBy, LevelsAt}
@@ -156,9 +156,9 @@ module _ (s : ℕ → List Entry) where
       ∙ ap (λ (x : ℕ). 1 + x) (higher-first (highestPlayer s (levelsBelow s k) j k) 0 (omega arith))
       ∙ sym (if-false (playsAny (s k) j) _ _ none))
 
-  pub levels-first : LevelsAt s 0 (replicate 64 1)
+  pub levels-first : LevelsAt s 0 (replicate 256 1)
   unfolding highestPlayer levelsBelow
-  levels-first = record { all = length-replicate {A = ℕ} 64 1; each = λ j h. getD-replicate {A = ℕ} 64 j 1 0 h }
+  levels-first = record { all = length-replicate {A = ℕ} 256 1; each = λ j h. getD-replicate {A = ℕ} 256 j 1 0 h }
 
   pub levels-next : (k : ℕ) (ls : List ℕ) → LevelsAt s k ls → LevelsAt s (k + 1) (raisedBy (levelOf s k) ls (s k))
   levels-next k ls at =
@@ -172,7 +172,7 @@ module _ (s : ℕ → List Entry) where
       }
 
   -- A section's own level.
-  pub level-here : (k : ℕ) (ls : List ℕ) → LevelsAt s k ls → k < 64 → getD ls k 0 ≡ levelOf s k
+  pub level-here : (k : ℕ) (ls : List ℕ) → LevelsAt s k ls → k < 256 → getD ls k 0 ≡ levelOf s k
   unfolding levelOf
   level-here k ls at h = at .each k h
 
@@ -201,16 +201,8 @@ module _ (f : List ℕ) where
     unfolding raisedBy
     raised-none level ls = ap (raisedBy level ls) (entries-none f n at h)
 
-  -- A right play record stands below level 8 and names one of 64 sections.
-  pub play-safe : contentsRight f ≡ true → (k : ℕ) (e : Entry) → rightOf f k e ≡ true → isPlay e ≡ true →
-      (levelOf (recordsOf f) k < 8) × (e .argument < 64)
-  play-safe contents k e right play =
-      let is = sym (play-right (sectionCount f) (levelOf (recordsOf f) k) k e play) ∙ right in
-      let rest = and-right (ltb k (e .argument)) _ is in (
-        ltb-true (levelOf (recordsOf f) k) 8 (and-right (ltb (e .argument) (sectionCount f)) _ rest),
-        omega (
-          arith,
-          ltb-true (e .argument) (sectionCount f) (and-left (ltb (e .argument) (sectionCount f)) _ rest),
-          contents-laid f contents .most,
-        ),
-      )
+-- A right play record stands below level 8.
+pub play-low : (count level k : ℕ) (e : Entry) → rightRecord count level k e ≡ true → isPlay e ≡ true → level < 8
+play-low count level k e right play =
+    let is = sym (play-right count level k e play) ∙ right in
+    ltb-true level 8 (and-right (ltb (e .argument) count) _ (and-right (ltb k (e .argument)) _ is))

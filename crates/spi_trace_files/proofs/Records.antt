@@ -71,7 +71,7 @@ module _ (f : List ℕ) (right : contentsRight f ≡ true) (k : ℕ) (h : k < se
       }
 
   -- There are at most 64 sections.
-  pub section-below : k < 64
+  pub section-below : k < 256
   section-below = omega (arith, contents-laid f right .most)
 
   -- The bytes of sections of whole records.

@@ -19,8 +19,8 @@ raisedBy level levels (e ∷ es) = raisedBy level (raisedOne level levels e) es
 
 -- With all sections below number `k` gone through, each section stands one above the highest of them that plays it.
 pub record LevelsAt (s : ℕ → List Entry) (k : ℕ) (levels : List ℕ) : Type 0 where
-  pub all : length levels ≡ 64
-  pub each : (j : ℕ) → j < 64 → getD levels j 0 ≡ 1 + highestPlayer s (levelsBelow s k) j k
+  pub all : length levels ≡ 256
+  pub each : (j : ℕ) → j < 256 → getD levels j 0 ≡ 1 + highestPlayer s (levelsBelow s k) j k
 
 -- Counts, a number for each section, that stop at 65,536: more than may be made is too much, however much.
 unfoldable pub capped : ℕ → ℕ

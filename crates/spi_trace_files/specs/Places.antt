@@ -1,9 +1,9 @@
 -- Records by their places in the file.
 use Prim.Native.Nat.{ℕ, zero, suc, _+_}
-use mathlib.Core.Bool.{Bool, _&&_}
 use mathlib.Core.List.{List, [], _∷_}
+use Rattle.laws.specs.Choice.{if_then_else_}
 use Rattle.spi_trace_rules.specs.declared.Entry.{Entry}
-use Rattle.spi_trace_rules.specs.Trace.{byteAt, halfAt, gapless, inFours, endsFile}
+use Rattle.spi_trace_rules.specs.Trace.{byteAt, halfAt, sectionCount, placeOf, gapless, tableRight}
 
 -- The record at a place.
 unfoldable pub entryAt : List ℕ → ℕ → Entry
@@ -14,6 +14,10 @@ unfoldable pub entriesAt : List ℕ → ℕ → ℕ → List Entry
 entriesAt f zero at = []
 entriesAt f (suc n) at = entryAt f at ∷ entriesAt f n (at + 4)
 
--- The first `n` sections lie one behind the other, of whole records, up to the file's end.
-abbrev pub laid : List ℕ → ℕ → Bool
-laid f n = gapless f n && (inFours f n && endsFile f n)
+-- Where the first `n` sections end, if none lies behind a gap; and where the last one does, if the table of contents is whole and gapless.
+-- Else 0.
+abbrev pub gaplessEnd : List ℕ → ℕ → ℕ
+gaplessEnd f n = if gapless f n then placeOf f n else 0
+
+unfoldable pub statedEnd : List ℕ → ℕ
+statedEnd f = if tableRight f then placeOf f (sectionCount f) else 0

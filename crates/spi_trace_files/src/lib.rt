@@ -7,8 +7,8 @@ ghost use mathlib.Core.Bool.{true};
 ghost use mathlib.Core.Path.{_≡_};
 ghost use lib.ListN.{length, getD, set};
 ghost use Rattle.laws.specs.Choice.{if_then_else_};
-ghost use Rattle.spi_trace_rules.specs.Trace.{tableEnd, byteAt, halfAt, wordAt, sectionCount, startOf, sizeOf, placeOf, contentsRight, bodyOf, recordsOf, isPlay, levelOf, rightRecord, allOf, recordsRight, countBy, fileCount, playedOf, isMade};
-ghost use Rattle.spi_trace_files.specs.Places.{entryAt, laid};
+ghost use Rattle.spi_trace_rules.specs.Trace.{tableEnd, byteAt, halfAt, wordAt, sectionCount, startOf, sizeOf, placeOf, inFours, contentsRight, bodyOf, recordsOf, isPlay, levelOf, rightRecord, allOf, recordsRight, countBy, fileCount, playedOf, isMade};
+ghost use Rattle.spi_trace_files.specs.Places.{entryAt, gaplessEnd, statedEnd};
 ghost use Rattle.spi_trace_files.specs.Passes.{raisedOne, raisedBy, capped, weightBy};
 ghost use Rattle.spi_trace_files.specs.Idle.{idle, landingOf, PassedFrom};
 
@@ -88,10 +88,10 @@ pub fn size(f: &[u8], k: u16) -> u32
     word_at(f, 6 + 8 * (k as usize))
 }
 
-// Whether the sections lie one behind the other, the first behind the table and the last ending the file.
-fn lies_gapless(f: &[u8], n: u16) -> bool
+// Where so many sections end, if each starts where the one before it ends and the first behind the table; else 0.
+fn gapless_end(f: &[u8], n: u16) -> u64
     requires { ⌜ n ≡ sectionCount (now f) ⌝ }
-    ensures { λ r. ⌜ r ≡ laid (now (f .entry)) n ⌝ }
+    ensures { λ r. ⌜ r ≡ gaplessEnd (now (f .entry)) n ⌝ }
 {
     let mut at: u64 = 2 + 8 * (n as u64);
     let mut k: u16 = 0;
@@ -99,35 +99,62 @@ fn lies_gapless(f: &[u8], n: u16) -> bool
         let here = start(f, k) as u64;
         let bytes = size(f, k);
         if here != at {
-            return false;
-        }
-        if bytes % 4 != 0 {
-            return false;
+            return 0;
         }
         at += bytes as u64;
         k += 1;
     }
-    at == f.len() as u64
+    at
+}
+
+// Whether so many sections have whole records.
+fn in_fours(f: &[u8], n: u16) -> bool
+    ensures { λ r. ⌜ r ≡ inFours (now (f .entry)) n ⌝ }
+{
+    let mut k: u16 = 0;
+    while k < n {
+        let bytes = size(f, k);
+        if bytes % 4 != 0 {
+            return false;
+        }
+        k += 1;
+    }
+    true
+}
+
+// Where the last section ends, if the table of contents is whole and gapless and the file not too long; else 0.
+pub fn stated_end(f: &[u8]) -> u64
+    ensures { λ r. ⌜ r ≡ statedEnd (now (f .entry)) ⌝ }
+{
+    if 65535 < f.len() {
+        return 0;
+    }
+    let n = count(f);
+    if n < 1 {
+        return 0;
+    }
+    if 64 < n {
+        return 0;
+    }
+    if f.len() < 2 + 8 * (n as usize) {
+        return 0;
+    }
+    gapless_end(f, n)
 }
 
 // Whether the contents are right, and the file is not too long.
 fn contents_right(f: &[u8]) -> bool
     ensures { λ r. ⌜ r ≡ contentsRight (now (f .entry)) ⌝ }
 {
-    if 65535 < f.len() {
+    let end = stated_end(f);
+    if end == 0 {
+        return false;
+    }
+    if end != f.len() as u64 {
         return false;
     }
     let n = count(f);
-    if n < 1 {
-        return false;
-    }
-    if 64 < n {
-        return false;
-    }
-    if f.len() < 2 + 8 * (n as usize) {
-        return false;
-    }
-    lies_gapless(f, n)
+    in_fours(f, n)
 }
 
 // The record at a place in the file.
@@ -149,6 +176,11 @@ fn whole_entry(f: &[u8], at: usize) -> Entry
 pub fn entry_at(f: &[u8], at: usize) -> Entry
     ensures { λ r. ⌜ r ≡ entryAt (now (f .entry)) at ⌝ }
 {
+    if 4 <= f.len() {
+        if at <= f.len() - 4 {
+            return whole_entry(f, at);
+        }
+    }
     if f.len() <= at {
         return Entry {
             kind: 0,
@@ -156,17 +188,14 @@ pub fn entry_at(f: &[u8], at: usize) -> Entry
             value: 0,
         };
     }
-    if f.len() - at < 4 {
-        let kind = byte_at(f, at);
-        let argument = byte_at(f, at + 1);
-        let value = half_at(f, at + 2);
-        return Entry {
-            kind: kind,
-            argument: argument,
-            value: value,
-        };
+    let kind = byte_at(f, at);
+    let argument = byte_at(f, at + 1);
+    let value = half_at(f, at + 2);
+    Entry {
+        kind: kind,
+        argument: argument,
+        value: value,
     }
-    whole_entry(f, at)
 }
 
 // Where the first record of a section lies, and how many records the section has, in a file that is not too long.
@@ -213,8 +242,8 @@ fn record_right(f: &[u8], k: u16, level: u8, e: Entry) -> bool
 }
 
 // A play record raises the section that it names above the level of its own.
-fn raise(levels: &mut [u8; 64], level: u8, e: Entry)
-    requires { ⌜ (isPlay e ≡ true → (level < 8) × (e .argument < 64)) ⌝ }
+fn raise(levels: &mut [u8; 256], level: u8, e: Entry)
+    requires { ⌜ (isPlay e ≡ true → level < 8) ⌝ }
     ensures { λ _. ⌜ now (levels .exit) ≡ raisedOne level (now (levels .entry)) e ⌝ }
 {
     let kind = e.kind;
@@ -222,17 +251,26 @@ fn raise(levels: &mut [u8; 64], level: u8, e: Entry)
         return;
     }
     let named = e.argument as usize;
-    if 64 <= named {
-        return;
-    }
     if level < levels[named] {
         return;
     }
     levels[named] = level + 1;
 }
 
+// Whether a record of a section of some level is right. If so, the section that it plays is raised above that level.
+pub fn take_record(f: &[u8], k: u16, levels: &mut [u8; 256], level: u8, e: Entry) -> bool
+    ensures { λ r. ⌜ r ≡ rightRecord (sectionCount (now (f .entry))) level k e ⌝ }
+    ensures { λ r. ⌜ now (levels .exit) ≡ (if r then raisedOne level (now (levels .entry)) e else now (levels .entry)) ⌝ }
+{
+    if !record_right(f, k, level, e) {
+        return false;
+    }
+    raise(levels, level, e);
+    true
+}
+
 // Whether every record of a section is right. If so, the sections that it plays are raised.
-fn section_right(f: &[u8], k: u16, levels: &mut [u8; 64]) -> bool
+fn section_right(f: &[u8], k: u16, levels: &mut [u8; 256]) -> bool
     requires { ⌜ (contentsRight (now f) ≡ true) × (k < sectionCount (now f)) ⌝ }
     requires { ⌜ getD (now levels) k 0 ≡ levelOf (recordsOf (now f)) k ⌝ }
     ensures { λ r. ⌜ r ≡ allOf (now (f .entry)) k (recordsOf (now (f .entry)) k) ⌝ }
@@ -244,10 +282,9 @@ fn section_right(f: &[u8], k: u16, levels: &mut [u8; 64]) -> bool
     let mut left = record_count(f, k);
     while 0 < left {
         let e = whole_entry(f, at as usize);
-        if !record_right(f, k, level, e) {
+        if !take_record(f, k, levels, level, e) {
             return false;
         }
-        raise(levels, level, e);
         at += 4;
         left -= 1;
     }
@@ -260,7 +297,7 @@ fn records_right(f: &[u8]) -> bool
     ensures { λ r. ⌜ r ≡ recordsRight (now (f .entry)) ⌝ }
 {
     let n = count(f);
-    let mut levels = [1u8; 64];
+    let mut levels = [1u8; 256];
     let mut k: u16 = 0;
     while k < n {
         if !section_right(f, k, &mut levels) {

@@ -1,7 +1,6 @@
 // A reader carries a trace file and its place in it. Each function takes it apart, and the work is done by functions over the
 // file's slice.
 use spi_trace_rules::Entry;
-ghost use Prim.Native.Nat.{_+_};
 ghost use mathlib.Core.Path.{_≡_};
 ghost use Rattle.spi_trace_rules.specs.Trace.{bodyOf};
 ghost use Rattle.spi_trace_files.specs.Places.{entryAt};
@@ -18,11 +17,11 @@ pub fn at_start<'a>(file: &'a [u8]) -> Reader<'a>
     Reader { file, at: 0 }
 }
 
-// The reader at another place of its file.
-pub fn moved<'a>(r: Reader<'a>, at: usize) -> Reader<'a>
-    ensures { λ q. ⌜ (q .file ≡ r .entry .file) × (q .at ≡ at) ⌝ }
+// A reader at a place of a file.
+pub fn at_place<'a>(file: &'a [u8], at: usize) -> Reader<'a>
+    ensures { λ r. ⌜ (r .file ≡ file .entry) × (r .at ≡ at) ⌝ }
 {
-    Reader { file: r.file, at }
+    Reader { file, at }
 }
 
 // The record at its place.
@@ -30,6 +29,13 @@ pub fn entry<'a>(r: Reader<'a>) -> Entry
     ensures { λ e. ⌜ e ≡ entryAt (now (r .entry .file)) (r .entry .at) ⌝ }
 {
     spi_trace_files::entry_at(r.file, r.at)
+}
+
+// The record at a place of a file.
+pub fn entry_of(file: &[u8], at: usize) -> Entry
+    ensures { λ e. ⌜ e ≡ entryAt (now (file .entry)) at ⌝ }
+{
+    entry(at_place(file, at))
 }
 
 // A section's body, as part of the file itself.

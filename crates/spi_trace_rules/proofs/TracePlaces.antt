@@ -1,5 +1,6 @@
 -- The page's numbers and places are those that the rules read.
 --     count-spelled, start-spelled, size-spelled   the numbers of the table of contents
+--     end-is, places                               where a section must start is where the one before it ends
 --     whole-laid, laid-whole                       right contents, by where one section ends and the next starts
 --     records-from                                 bytes are the records at their places
 --     section-is                                   a section's records
@@ -70,12 +71,12 @@ module _ (f : List ℕ) where
   size-spelled k = word-spelled (6 + 8 * k)
 
   -- Where a section must start is where the one before it ends.
-  end-is : (n : ℕ) → ((k : ℕ) → k < n → startOf f k ≡ placeOf f k) → placeOf f n ≡ endBefore f n
+  pub end-is : (n : ℕ) → ((k : ℕ) → k < n → startOf f k ≡ placeOf f k) → placeOf f n ≡ endBefore f n
   unfolding tableEnd
   end-is zero starts = omega (arith, count-spelled)
   end-is (suc n) starts = omega (arith, starts n (omega arith), start-spelled n, size-spelled n)
 
-  places : (n : ℕ) → ((k : ℕ) → k < n → start f k ≡ endBefore f k) → (k : ℕ) → k ≤ n → placeOf f k ≡ endBefore f k
+  pub places : (n : ℕ) → ((k : ℕ) → k < n → start f k ≡ endBefore f k) → (k : ℕ) → k ≤ n → placeOf f k ≡ endBefore f k
   unfolding tableEnd
   places n gapless zero h = omega (arith, count-spelled)
   places n gapless (suc k) h = omega (arith, places n gapless k (omega arith), gapless k (omega arith), size-spelled k)

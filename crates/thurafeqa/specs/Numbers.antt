@@ -1,5 +1,5 @@
--- What crosses the boundary besides the answers of modules in memory: what a caller is told of playing a trace file and of saving a
--- session, and the library's own numbers.
+-- What crosses the boundary besides the answers of modules in memory: what a caller is told of playing a trace file, of saving a session
+-- and of salvaging a cut file, and the library's own numbers.
 use Prim.Native.Nat.{ℕ, _+_, _*_}
 use mathlib.Core.Bool.{false}
 use mathlib.Core.List.{List}
@@ -10,6 +10,10 @@ use Rattle.spi_trace_rules.specs.Trace.{playedOf, isMade, playedModule}
 use Rattle.spi_trace_rules.specs.TraceDemands.{numberIn, countIn}
 use Rattle.spi_save_rules.specs.declared.Saved.{Saved}
 use Rattle.spi_save_rules.specs.Save.{savedOf, bufferAfter, savedNumberOf, savedLengthOf}
+use Rattle.spi_salvage_rules.specs.declared.Salvaged.{Salvaged}
+use Rattle.spi_salvage_rules.specs.Salvage as salvage
+use Rattle.spi_salvage_rules.specs.Salvage.{salvagedOf, salvageNumberOf}
+use Rattle.spi_salvage_rules.specs.SalvageDemands.{cutIn, lostIn, lengthIn}
 use Rattle.spi_memory.specs.Memory.{moduleIn}
 
 -- What playing a trace file answers: the upper 16 bits are the refusal number, 0 if the file is played, the lower 16 bits the calls
@@ -34,9 +38,19 @@ pub record SaveTells (script : List ℕ) (r : ℕ) (before after : List ℕ) : T
   pub number : r ≡ saveNumber (savedOf script (length before))
   pub buffer : after ≡ bufferAfter script before
 
--- The library's version, 6.0.0: the major number times 65,536, the minor one times 256, and the patch.
+-- What salvaging a file answers: from above 16 bits each, the sections cut, the bytes lost, the refusal number, 0 if it is salvaged, and the
+-- new file's length.
+unfoldable pub salvageNumber : Salvaged → ℕ
+salvageNumber s = cutIn s * 281474976710656 + lostIn s * 4294967296 + salvageNumberOf s * 65536 + lengthIn s
+
+-- Salvaging a file returns its number, and the buffer holds the new file and, behind it, its own bytes. A refusal leaves it as it was.
+pub record SalvageTells (f : List ℕ) (r : ℕ) (before after : List ℕ) : Type 0 where
+  pub number : r ≡ salvageNumber (salvagedOf f (length before))
+  pub buffer : after ≡ salvage.bufferAfter f before
+
+-- The library's version, 6.1.0: the major number times 65,536, the minor one times 256, and the patch.
 abbrev pub versionNumber : ℕ
-versionNumber = 6 * 65536 + 0 * 256 + 0
+versionNumber = 6 * 65536 + 1 * 256 + 0
 
 -- The number of the memory's format: it rises wherever the meaning of memory (crates/spi_memory/specs/Memory.antt) changes.
 abbrev pub formatNumber : ℕ

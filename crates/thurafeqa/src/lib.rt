@@ -1,6 +1,7 @@
 // The model for a program in C or Rust to link: the calls of one module, linked runs, clock reports and trace files over memory that the
 // caller holds, 96 numbers of 16 bits a module. Only numbers cross the boundary, and any numbers are answered.
 use spi_board::Cells;
+use spi_salvage_rules::Salvaged;
 use spi_save_rules::Saved;
 use spi_trace_rules::Played;
 ghost use Prim.Native.Nat.{_%_};
@@ -12,7 +13,7 @@ ghost use Rattle.spi_memory.specs.Memory.{moduleIn};
 ghost use Rattle.spi_numbers.specs.Told.{Tells, levelIn, levelsNumber, StepTells, ClockTells, LinkTells};
 ghost use Rattle.spi_board.specs.Boards.{askedOf};
 ghost use Rattle.spi_board.specs.Owing.{Asks, OwedTells, OwedPairTells};
-ghost use Rattle.thurafeqa.specs.Numbers.{playNumber, PlayTells, saveNumber, SaveTells, versionNumber, formatNumber};
+ghost use Rattle.thurafeqa.specs.Numbers.{playNumber, PlayTells, saveNumber, SaveTells, salvageNumber, SalvageTells, versionNumber, formatNumber};
 
 // Power-up: the memory may hold anything before.
 #[no_mangle]
@@ -204,12 +205,34 @@ pub extern "C" fn thurafeqa_save(script: &[u8], file: &mut [u8]) -> u32
     save_number(saved)
 }
 
+// What salvaging a file answers as a number.
+fn salvage_number(s: Salvaged) -> u64
+    ensures { λ r. ⌜ r ≡ salvageNumber s ⌝ }
+{
+    match s {
+        Salvaged::BadContents => 17 * 65536,
+        Salvaged::NoRoom => 20 * 65536,
+        Salvaged::Written(cut, lost, length) => {
+            cut as u64 * 281474976710656 + lost as u64 * 4294967296 + length as u64
+        }
+    }
+}
+
+// Salvages a cut trace file in a lent buffer. A refusal leaves the buffer as it was.
+#[no_mangle]
+pub extern "C" fn thurafeqa_salvage(file: &[u8], salvaged: &mut [u8]) -> u64
+    ensures { λ r. ⌜ SalvageTells (now (file .entry)) r (now (salvaged .entry)) (now (salvaged .exit)) ⌝ }
+{
+    let answer = spi_saving::salvage(file, salvaged);
+    salvage_number(answer)
+}
+
 // The library's version: the major number times 65,536, the minor one times 256, and the patch.
 #[no_mangle]
 pub extern "C" fn thurafeqa_version() -> u32
     ensures { λ r. ⌜ r ≡ versionNumber ⌝ }
 {
-    393216
+    393472
 }
 
 // The number of the memory's format: it rises wherever the meaning of the 96 numbers changes.

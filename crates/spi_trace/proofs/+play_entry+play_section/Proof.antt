@@ -30,7 +30,7 @@ use Rattle.spi_trace.proofs.play_section.Reads as play-section
 use Rattle.spi_trace.proofs.play_section.Kinds as play-section-kinds
 use Rattle.spi_trace.proofs.+play_entry+play_section.Lts-play_section as play-section-lts
 use Rattle.spi_trace.proofs.make.Reads as make-reads
-use Rattle.spi_trace_files.proofs.entry_at.Reads as entry-at-reads
+use Rattle.spi_trace_reader.proofs.entry_of.Reads as entry-of-reads
 use Rattle.spi_trace_files.proofs.is_idle.Reads as is-idle-reads
 use Rattle.spi_trace_files.proofs.first_record.Reads as first-record-reads
 use Rattle.spi_trace_files.proofs.record_count.Reads as record-count-reads
@@ -66,8 +66,8 @@ play-section-callees t = (
   first-record-reads.Learnt,
   record-count-reads.Asked,
   record-count-reads.Learnt,
-  entry-at-reads.Asked,
-  entry-at-reads.Learnt,
+  entry-of-reads.Asked,
+  entry-of-reads.Learnt,
   is-idle-reads.Asked,
   is-idle-reads.Learnt,
   play-entry-below t,
@@ -148,7 +148,7 @@ behind t c =
     let b = l .before .before .before .before .before in
     upcoming (b .args .f .now) (b .pre .1 .0 .0) (b .pre .1 .0 .1) (b .args .k) (b .pre .1 .1) (l .loop .at) (l .loop .records)
     (l .loop .inv .1) (l .loop .inv .2) (b .args .next .now) (b .pre .1 .0 .2) (c .before .before .before .loop-test .taken)
-    (ap idle (sym (c .before .before .entry-at .ensures)) ∙ sym (c .before .is-idle .ensures) ∙ c .if2 .taken)
+    (ap idle (sym (c .before .before .entry-of .ensures)) ∙ sym (c .before .is-idle .ensures) ∙ c .if2 .taken)
 
 no-level : (t : ℕ) → play-section-lts.Need-returns (play-section-callees t) (play-section-at t) play-section.Post records-inv records-left
 no-level t c =
@@ -217,7 +217,7 @@ entry-requires : (t : ℕ) → play-section-lts.Need-play-entry-requires (play-s
 entry-requires t c κs =
     let l = c .before .before .before .before .before in
     let b = l .before .before .before .before .before in
-    let e = c .before .before .before .entry-at in
+    let e = c .before .before .before .entry-of in
     let right = ap (rightOf (b .args .f .now) (b .args .k)) (e .ensures) ∙ there t l (c .before .before .before .before .loop-test .taken) .right in (
       omega (arith, b .pre .0, l .loop .inv .0),
       (b .pre .1 .0, names-one (b .args .f .now) (b .args .k) (e .result) right),
@@ -242,7 +242,7 @@ records-again t c =
       l .loop .inv .3
           ∙ played-on f left (l .loop .at) (l .loop .records) m some
           ∙ ap (λ (x : Module). afterCalls x (callsBy (callsOf f left) (entriesAt f (l .loop .records - 1) (l .loop .at + 4))))
-          (sym (c .play-entry .ensures ∙ ap (λ (e : Entry). afterCalls m (entryCalls f left e)) (c .before .before .before .before .entry-at .ensures))),
+          (sym (c .play-entry .ensures ∙ ap (λ (e : Entry). afterCalls m (entryCalls f left e)) (c .before .before .before .before .entry-of .ensures))),
     )
 
 records-done : (t : ℕ) → play-section-lts.Need-returns-3 (play-section-callees t) (play-section-at t) play-section.Post records-inv records-left

@@ -2,43 +2,25 @@
 use mathlib.Core.Path.{ap, sym, _∙_}
 use native.Mathlib.Omega.{arith}
 use borrow.Author.Needs.{needs}
-use Rattle.spi_trace_files.specs.Places.{laid}
-use Rattle.spi_trace_files.proofs.Contents.{too-long, no-section, too-many, no-table, only-gapless}
+use Rattle.spi_trace_rules.specs.Trace.{inFours}
+use Rattle.spi_trace_files.proofs.Contents.{no-end, other-end, own-end}
 use Rattle.spi_trace_files.proofs.contents_right.Statement.{statement}
 use Rattle.spi_trace_files.proofs.contents_right.Tie as tie
-use Rattle.spi_trace_files.proofs.contents_right.Reads as reads
-use Rattle.spi_trace_files.proofs.contents_right.Lts as lts
 
 returns : tie.Need-returns
-returns c = sym (too-long _ (c .if1 .taken))
+returns c = sym (no-end (c .before .before .before .args .f .now) (sym (c .before .stated-end .ensures) ∙ (c .if1 .taken)))
 
 returns-2 : tie.Need-returns-2
-returns-2 c = sym (no-section _ (omega arith))
+returns-2 c =
+    sym (other-end (c .before .before .before .before .args .f .now) (λ none. (c .before .if1 .left) ((c .before .before .stated-end .ensures) ∙ none)) (λ same. (c .if2 .taken) ((c .before .before .stated-end .ensures) ∙ same)))
 
 returns-3 : tie.Need-returns-3
-returns-3 c = sym (too-many _ (omega arith))
-
-returns-4 : tie.Need-returns-4
-returns-4 c = sym (no-table _ (omega arith))
-
-returns-5 : tie.Need-returns-5
-returns-5 c =
-    let f = c .before .before .before .before .before .before .before .args .f .now in
-    c .lies-gapless .ensures
-    ∙ ap (laid f) (c .before .before .before .before .count .ensures)
-    ∙ sym (only-gapless f (omega arith) (omega arith) (omega arith) (omega arith))
+returns-3 c =
+    (c .in-fours .ensures)
+    ∙ ap (inFours (c .before .before .before .before .before .before .args .f .now)) (c .before .count .ensures)
+    ∙ sym (own-end (c .before .before .before .before .before .before .args .f .now) (λ none. (c .before .before .before .if1 .left) ((c .before .before .before .before .stated-end .ensures) ∙ none)) (sym (c .before .before .before .before .stated-end .ensures) ∙ (omega arith)))
 
 pub contents-right-spec : {M : Type 1} → statement M
 contents-right-spec =
     tie.close
-    (tie.spec
-    returns
-    (λ c κs. search needs)
-    returns-2
-    returns-3
-    (λ c. search needs)
-    (λ c. search needs)
-    (λ c. search needs)
-    returns-4
-    (λ c κs. search needs)
-    returns-5)
+    (tie.spec (λ c κs. search needs) returns returns-2 (λ c κs. search needs) (λ c κs. search needs) returns-3)

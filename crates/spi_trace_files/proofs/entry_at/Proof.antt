@@ -6,24 +6,24 @@ use Rattle.spi_trace_files.proofs.Numbers.{entry-beyond}
 use Rattle.spi_trace_files.proofs.entry_at.Statement.{statement}
 use Rattle.spi_trace_files.proofs.entry_at.Tie as tie
 
-returns : tie.Need-returns
-returns c = sym (entry-beyond _ _ (c .if1 .taken))
-
 returns-2 : tie.Need-returns-2
+returns-2 c = sym (entry-beyond _ _ (c .if3 .taken))
+
+returns-3 : tie.Need-returns-3
 unfolding entryAt
-returns-2 c = cc
+returns-3 c = cc
 
 pub entry-at-spec : {M : Type 1} → statement M
 entry-at-spec =
     tie.close
     (tie.spec
-    returns
     (λ c. search needs)
     (λ c κs. search needs)
     (λ c. search needs)
-    (λ c κs. search needs)
-    (λ c. search needs)
-    (λ c κs. search needs)
     returns-2
     (λ c κs. search needs)
-    (λ c. search needs))
+    (λ c. search needs)
+    (λ c κs. search needs)
+    (λ c. search needs)
+    (λ c κs. search needs)
+    returns-3)

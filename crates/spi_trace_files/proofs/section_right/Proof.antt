@@ -8,14 +8,14 @@ use native.Mathlib.Omega.{arith}
 use borrow.Author.Needs.{needs}
 use borrow.Author.Tests.{not-true, not-false}
 use lib.ListN.{length, getD}
-use Rattle.laws.proofs.Keeps.{and-first, clash}
+use Rattle.laws.proofs.Keeps.{if-true, and-first, clash}
 use Rattle.spi_trace_rules.specs.Trace.{recordsOf, levelOf, rightOf, allOf}
 use Rattle.spi_trace_rules.proofs.TraceContents.{contents-laid}
 use Rattle.spi_trace_files.specs.Places.{entryAt, entriesAt}
 use Rattle.spi_trace_files.specs.Passes.{raisedOne, raisedBy}
 use Rattle.spi_trace_files.proofs.Contents.{and-skip}
 use Rattle.spi_trace_files.proofs.Records.{section-at, section-below}
-use Rattle.spi_trace_files.proofs.Levels.{right-at, right-more, raised-more, right-none, raised-none, play-safe}
+use Rattle.spi_trace_files.proofs.Levels.{right-at, right-more, raised-more, right-none, raised-none}
 use Rattle.spi_trace_files.proofs.section_right.Statement.{statement}
 use Rattle.spi_trace_files.proofs.section_right.Tie as tie
 
@@ -29,79 +29,63 @@ abbrev μ-loop : tie.MeasureT-loop
 μ-loop f k levels₀ own level at₀ left₀ levels at left = left
 
 element-copy-out-level : tie.Need-element-copy-out-level Inv-loop μ-loop
-element-copy-out-level c = section-below (c .before .args .f .now) (c .before .pre .0 .0) (c .before .args .k) (c .before .pre .0 .1)
-
-raise-requires : tie.Need-raise-requires Inv-loop μ-loop
-raise-requires c κs =
-    let b = c .before .before .before .before .before .before .before .before .before .before in
-    let right =
-    right-at (b .args .f .now) (b .args .k) _ (c .before .before .before .whole-entry .result) (b .pre .1)
-    ∙ sym (c .before .before .record-right .ensures) ∙ not-false (c .before .before .record-right .result) (c .before .if1 .left) in
-    λ play.
-    let safe = play-safe (b .args .f .now) (b .pre .0 .0) (b .args .k) (c .before .before .before .whole-entry .result) right play in
-    (omega (arith, safe .0, b .pre .1), safe .1)
+element-copy-out-level c = section-below (c .before .args .f .now) ((c .before .pre) .0 .0) (c .before .args .k) ((c .before .pre) .0 .1)
 
 add-at : tie.Need-add-at Inv-loop μ-loop
-add-at c =
-    let b = c .before .before .before .before .before .before .before .before .before .before .before in
-    omega (arith, contents-laid (b .args .f .now) (b .pre .0 .0) .size)
+add-at c = omega (arith, contents-laid (c .before .before .before .before .before .before .before .before .before .before .args .f .now) ((c .before .before .before .before .before .before .before .before .before .before .pre) .0 .0) .size)
 
 loop-holds : tie.Need-loop-holds Inv-loop μ-loop
 loop-holds c =
-    let b = c .before .before .before .before in
-    let f = b .args .f .now in
-    let at = section-at f (b .pre .0 .0) (b .args .k) (b .pre .0 .1) in
+    let f = (c .before .before .before .before .args .f .now) in
+    let at = section-at f ((c .before .before .before .before .pre) .0 .0) (c .before .before .before .before .args .k) ((c .before .before .before .before .pre) .0 .1) in
     let records = at .are ∙ ap₂ (entriesAt f) (sym (c .record-count .ensures)) (sym (c .before .first-record .ensures)) in
-    (omega (arith, at .inside), b .pre .1, ap (allOf f (b .args .k)) records, ap (raisedBy _ (b .args .levels .now)) records)
+    (omega (arith, at .inside), (c .before .before .before .before .pre) .1, ap (allOf f (c .before .before .before .before .args .k)) records, ap (raisedBy _ (c .before .before .before .before .args .levels .now)) records)
 
 returns : tie.Need-returns Inv-loop μ-loop
 returns c =
-    let l = c .before .before .before .before in
-    let b = l .before .before .before .before .before in
-    let f = b .args .f .now in
+    let f = (c .before .before .before .before .before .before .before .before .before .before .args .f .now) in
+    let k = (c .before .before .before .before .before .before .before .before .before .before .args .k) in
     let wrong =
-    ap (rightOf f (b .args .k)) (sym (c .before .before .whole-entry .ensures))
-    ∙ right-at f (b .args .k) _ (c .before .before .whole-entry .result) (b .pre .1)
-    ∙ sym (c .before .record-right .ensures) ∙ not-true (c .before .record-right .result) (c .if1 .taken) in (
+    ap (rightOf f k) (sym (c .before .before .before .whole-entry .ensures))
+    ∙ right-at f k _ (c .before .before .before .whole-entry .result) ((c .before .before .before .before .before .before .before .before .before .before .pre) .1)
+    ∙ sym ((c .before .take-record .ensures) .0) ∙ not-true (c .before .take-record .result) (c .if1 .taken) in (
       sym
-          (l .loop .inv .2
-          ∙ right-more f (b .args .k) (l .loop .left) (l .loop .at) (omega arith)
-          ∙ and-first (rightOf f (b .args .k) (entryAt f (l .loop .at))) _ wrong),
+          ((c .before .before .before .before .before .loop .inv) .2
+          ∙ right-more f k (c .before .before .before .before .before .loop .left) (c .before .before .before .before .before .loop .at) (omega arith)
+          ∙ and-first (rightOf f k (entryAt f (c .before .before .before .before .before .loop .at))) _ wrong),
       λ e. clash false e refl,
     )
 
 loop-again : tie.Need-loop-again Inv-loop μ-loop
 loop-again c =
-    let l = c .before .before .before .before .before .before in
-    let b = l .before .before .before .before .before in
-    let f = b .args .f .now in
-    let e = c .before .before .before .before .whole-entry .ensures in
+    let f = (c .before .before .before .before .before .before .before .before .before .before .args .f .now) in
+    let k = (c .before .before .before .before .before .before .before .before .before .before .args .k) in
+    let taken = not-false (c .before .take-record .result) (c .if1 .left) in
     let right =
-    ap (rightOf f (b .args .k)) (sym e)
-    ∙ right-at f (b .args .k) _ (c .before .before .before .before .whole-entry .result) (b .pre .1)
-    ∙ sym (c .before .before .before .record-right .ensures) ∙ not-false (c .before .before .before .record-right .result) (c .before .before .if1 .left) in (
+    ap (rightOf f k) (sym (c .before .before .before .whole-entry .ensures))
+    ∙ right-at f k _ (c .before .before .before .whole-entry .result) ((c .before .before .before .before .before .before .before .before .before .before .pre) .1)
+    ∙ sym ((c .before .take-record .ensures) .0) ∙ taken in (
       omega arith,
-      b .pre .1,
-      l .loop .inv .2
-          ∙ right-more f (b .args .k) (l .loop .left) (l .loop .at) (omega arith)
-          ∙ and-skip (rightOf f (b .args .k) (entryAt f (l .loop .at))) _ right,
-      l .loop .inv .3
-          ∙ raised-more f (b .args .k) (l .loop .left) (l .loop .at) (omega arith) _ (l .loop .levels)
-          ∙ ap (λ (ls : List ℕ). raisedBy (getD (b .args .levels .now) (b .args .k) 0) ls (entriesAt f (l .loop .left - 1) (l .loop .at + 4)))
-          (sym (c .raise .ensures ∙ ap (raisedOne _ (l .loop .levels)) e)),
+      (c .before .before .before .before .before .before .before .before .before .before .pre) .1,
+      (c .before .before .before .before .before .loop .inv) .2
+          ∙ right-more f k (c .before .before .before .before .before .loop .left) (c .before .before .before .before .before .loop .at) (omega arith)
+          ∙ and-skip (rightOf f k (entryAt f (c .before .before .before .before .before .loop .at))) _ right,
+      (c .before .before .before .before .before .loop .inv) .3
+          ∙ raised-more f k (c .before .before .before .before .before .loop .left) (c .before .before .before .before .before .loop .at) (omega arith) _ (c .before .before .before .before .before .loop .levels)
+          ∙ ap (λ (ls : List ℕ). raisedBy (getD (c .before .before .before .before .before .before .before .before .before .before .args .levels .now) k 0) ls (entriesAt f ((c .before .before .before .before .before .loop .left) - 1) ((c .before .before .before .before .before .loop .at) + 4)))
+          (sym ((c .before .take-record .ensures) .1 ∙ if-true (c .before .take-record .result) _ _ taken ∙ ap (raisedOne _ (c .before .before .before .before .before .loop .levels)) (c .before .before .before .whole-entry .ensures))),
     )
 
 returns-2 : tie.Need-returns-2 Inv-loop μ-loop
 returns-2 c =
-    let l = c .before in
-    let b = l .before .before .before .before .before in
-    let f = b .args .f .now in (
-      sym (l .loop .inv .2 ∙ right-none f (b .args .k) (l .loop .left) (l .loop .at) (omega arith)),
+    let f = (c .before .before .before .before .before .before .args .f .now) in
+    let k = (c .before .before .before .before .before .before .args .k) in (
+      sym ((c .before .loop .inv) .2 ∙ right-none f k (c .before .loop .left) (c .before .loop .at) (omega arith)),
       λ e.
           sym
-          (ap (λ (n : ℕ). raisedBy n (b .args .levels .now) (recordsOf f (b .args .k))) (sym (b .pre .1))
-          ∙ l .loop .inv .3
-          ∙ raised-none f (b .args .k) (l .loop .left) (l .loop .at) (omega arith) _ (l .loop .levels)),
+          (ap (λ (n : ℕ). raisedBy n (c .before .before .before .before .before .before .args .levels .now) (recordsOf f k)) (sym ((c .before .before .before .before .before .before .pre) .1))
+          ∙ (c .before .loop .inv) .3
+          ∙ raised-none f k (c .before .loop .left) (c .before .loop .at) (omega arith) _ (c .before .loop .levels)),
     )
 
 pub section-right-spec : {M : Type 1} → statement M
@@ -118,7 +102,6 @@ section-right-spec =
     (λ c κs. search needs)
     (λ c κs. search needs)
     returns
-    raise-requires
     add-at
     (λ c. omega arith)
     (λ c. omega arith)
