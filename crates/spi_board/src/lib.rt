@@ -3,11 +3,7 @@
 use spi_types::Settings;
 use spi_types::Shift;
 ghost use Prim.Native.Nat.{_+_, _-_, _≤_};
-ghost use mathlib.Core.List.{List};
 ghost use mathlib.Core.Path.{_≡_};
-ghost use lib.Ieee.{Float};
-ghost use Rattle.spi_types.specs.declared.Call.the-variants.{Tick};
-ghost use Rattle.spi_board_rules.specs.declared.BoardCall.the-variants.{Make};
 ghost use Rattle.spi_board_rules.specs.Owed.{inShift, countOf, atMost65535};
 ghost use Rattle.spi_memory.specs.Memory.{moduleIn};
 ghost use Rattle.spi_board.specs.Boards.{askedOf, callFault, pairFault, MakeTells};
@@ -144,20 +140,25 @@ fn both(total: u32, answer: u32) -> u64
     total as u64 * 4294967296 + answer as u64
 }
 
-// A tick of one module, with the board's total moved by it. Within a word no count moves, so that none is counted.
-fn tick_counted(w: &mut [u16; 96], owed: u32, sdi: bool, ss: bool) -> u64
-    ensures { λ r. ⌜ ((floats : List Float) → MakesOwed owed (Make (Tick sdi ss)) r floats floats (now (w .entry)) (now (w .exit))) ⌝ }
+// A call of one module, counted before and after it.
+fn make_between(
+    w: &mut [u16; 96],
+    owed: u32,
+    kind: u32,
+    x: u32,
+    y: u32,
+    z: u32,
+    report: &mut [f64; 3],
+) -> u64
+    ensures { λ r. ⌜ MakesOwed owed (askedOf kind x y z) r (now (report .entry)) (now (report .exit)) (now (w .entry)) (now (w .exit)) ⌝ }
 {
-    if spi_module::tick_within(w, sdi, ss) {
-        return both(owed % 65536, 1);
-    }
     let was = count(w);
-    let answer = spi_numbers::tick(w, sdi, ss);
+    let answer = make(w, kind, x, y, z, report);
     let is = count(w);
     both(moved(owed % 65536, was, is), answer)
 }
 
-// A call of one module, with the board's total moved by it.
+// A call of one module, with the board's total moved by it. A tick within a word moves no count, so that none is counted.
 pub fn make_counted(
     w: &mut [u16; 96],
     owed: u32,
@@ -170,12 +171,12 @@ pub fn make_counted(
     ensures { λ r. ⌜ MakesOwed owed (askedOf kind x y z) r (now (report .entry)) (now (report .exit)) (now (w .entry)) (now (w .exit)) ⌝ }
 {
     if kind == 3 {
-        return tick_counted(w, owed, x != 0, y != 0);
+        if spi_module::tick_within(w, x != 0, y != 0) {
+            return both(owed % 65536, 1);
+        }
+        return make_between(w, owed, 3, x, y, z, report);
     }
-    let was = count(w);
-    let answer = make(w, kind, x, y, z, report);
-    let is = count(w);
-    both(moved(owed % 65536, was, is), answer)
+    make_between(w, owed, kind, x, y, z, report)
 }
 
 // A linked run, with the board's total moved by both ends.
@@ -193,11 +194,17 @@ pub fn join_counted(host: &mut [u16; 96], client: &mut [u16; 96], owed: u32, lim
 pub fn refused(count: usize, owed: u32, n: u32) -> u64
     ensures { λ r. ⌜ r ≡ refusedCall count owed n ⌝ }
 {
-    let why = refusal(count, n);
-    if why == 0 {
+    let total = owed % 65536;
+    if 4 < count {
+        return both(total, BAD_LIST);
+    }
+    if (n as usize) < count {
         return 0;
     }
-    both(owed % 65536, why)
+    if count < 1 {
+        return both(total, BAD_LIST);
+    }
+    both(total, NO_MODULE)
 }
 
 // The same of a linked run of modules `a` and `b`.

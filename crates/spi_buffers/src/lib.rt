@@ -15,12 +15,8 @@ ghost use Rattle.spi_rules.specs.Buffers.{emptyTransmit, emptyReceive};
 pub fn next_position(depth: u8, at: u8) -> u8
     ensures { λ r. ⌜ r ≡ next depth at ⌝ }
 {
-    if at < depth {
-        let on = at + 1;
-        if on < depth { on } else { 0 }
-    } else {
-        0
-    }
+    let on = at as u16 + 1;
+    if on < depth as u16 { on as u8 } else { 0 }
 }
 
 // A transmit buffer with nothing in it.

@@ -21,6 +21,7 @@ ghost use mathlib.Core.Path.{_≡_};
 ghost use lib.ListN.{length};
 ghost use Rattle.spi_types.specs.declared.Shift.the-variants.{Free, Loaded, Begun};
 ghost use Rattle.spi_rules.specs.Changes.{withTransmit, withReceive, withShift, withSck, withSs, withSdo, withPulse, withSpirov, withInterrupt};
+ghost use Rattle.spi_rules.specs.Settings.{depthOf};
 ghost use Rattle.spi_rules.specs.Registers.{con1From, con2From, isFree, statSettings};
 ghost use Rattle.spi_rules.specs.Buffers.{firstWaiting, firstUnread};
 ghost use Rattle.spi_rules.specs.Loading.{isBegun};
@@ -56,6 +57,23 @@ pub fn depth_in(w: &[u16; 96]) -> Depth
         return Depth::Sixteen;
     }
     Depth::Eight
+}
+
+// How many words each buffer holds.
+pub fn room_in(w: &[u16; 96]) -> u8
+    ensures { λ r. ⌜ r ≡ depthOf (settingsIn (now (w .entry))) ⌝ }
+{
+    let con2 = con2_in(w);
+    if !con2.spiben {
+        return 1;
+    }
+    if w[6] == 4 {
+        return 4;
+    }
+    if w[6] == 16 {
+        return 16;
+    }
+    8
 }
 
 // What power-up and register writes set.

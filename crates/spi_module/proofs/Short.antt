@@ -5,7 +5,8 @@
 --                        a step by which a word goes on: alone, after another, and before another
 --     mid-stays          a step that leaves the shift register leaves the next edge within its word
 --     host-ends          an edge of a frame host at which it gives no pulse
---     steps-within       what a clock step answers there
+--     own-shortly, pin-shortly
+--                        what a clock step answers there, of a host with its own clock and of any other module
 --     ticks-within, tick-shortly, pins-shortly
 --                        what a tick and a pin call answer there
 -- Assumes nothing.
@@ -157,17 +158,30 @@ module _ {a b : List ℕ} (on : settingsIn a .spien ≡ true) where
       Answers (clockStepOf (moduleIn a) sck sdi ss) Done a b
   steps-pin sck sdi ss pin step = changed refl (answered _ step refl ∙ sym (step-pin (moduleIn a) sck sdi ss on pin))
 
-  pub steps-within : (own sck sdi ss : Bool) → own ≡ ownClock (settingsIn a) → frameClient (settingsIn a) ≡ false →
-      isBegun (engineIn a .shift) ≡ true → Steps (λ s n. if own then turned s sdi n else stepped s (levels sck sdi ss) n) a b →
-      Answers (clockStepOf (moduleIn a) sck sdi ss) Done a b
-  unfolding if_then_else_
-  steps-within true sck sdi ss own deaf begun step = steps-own sck sdi ss (sym own) deaf begun step
-  steps-within false sck sdi ss own deaf begun step = steps-pin sck sdi ss (sym own) step
-
   pub ticks-within : (sdi ss : Bool) → ownClock (settingsIn a) ≡ true → frameClient (settingsIn a) ≡ false →
       isBegun (engineIn a .shift) ≡ true → Steps (λ s. turned s sdi) a b → Answers (tickOf (moduleIn a) sdi ss) Edge a b
   ticks-within sdi ss own deaf begun step =
       likewise (edge-told (steps-own false sdi ss own deaf begun step) refl) (sym (tick-is-step (moduleIn a) sdi ss own))
+
+-- The short way of either kind is a clock step's.
+module _ {a b : List ℕ} {made : Bool} (on : settingsIn a .spien ≡ true) (sck sdi ss : Bool) where
+  pub own-shortly : ownClock (settingsIn a) ≡ true →
+      Shortens (λ s n. if true then turned s sdi n else stepped s (levels sck sdi ss) n) made a b →
+      Shortly (clockStepOf (moduleIn a) sck sdi ss) Done made a b
+  unfolding if_then_else_
+  own-shortly own h =
+      record {
+        taken = λ e. steps-own on sck sdi ss own (and-first _ _ (h .plain e)) (h .begun e) (h .steps e);
+        goes = h .goes;
+        left = h .left;
+      }
+
+  pub pin-shortly : ownClock (settingsIn a) ≡ false →
+      Shortens (λ s n. if false then turned s sdi n else stepped s (levels sck sdi ss) n) made a b →
+      Shortly (clockStepOf (moduleIn a) sck sdi ss) Done made a b
+  unfolding if_then_else_
+  pin-shortly pin h =
+      record { taken = λ e. steps-pin on sck sdi ss pin (h .steps e); goes = h .goes; left = h .left }
 
 -- A tick, and a pin call, by the clock step of their kind of module.
 module _ {a b : List ℕ} {made : Bool} where

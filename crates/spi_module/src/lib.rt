@@ -213,15 +213,7 @@ fn edge(w: &mut [u16; 96], sck: bool, sdi: bool)
     }
 }
 
-// An edge to the other level of SCK.
-pub fn turn(w: &mut [u16; 96], sdi: bool)
-    ensures { λ _. ⌜ Steps (λ s. turned s sdi) (now (w .entry)) (now (w .exit)) ⌝ }
-{
-    let pins = spi_memory::pins_in(w);
-    edge(w, !pins.sck, sdi);
-}
-
-// The same of a framed module, and of an unframed one.
+// An edge to the other level of SCK: of a framed module, and of an unframed one.
 fn framed_turn(w: &mut [u16; 96], sdi: bool)
     requires { ⌜ framed (settingsIn (now w)) ≡ true ⌝ }
     ensures { λ _. ⌜ Steps (λ s. turned s sdi) (now (w .entry)) (now (w .exit)) ⌝ }
@@ -278,7 +270,7 @@ fn see_high(w: &mut [u16; 96], sck: bool, sdi: bool)
 }
 
 // The levels SCK, SDI and SS are seen.
-pub fn see(w: &mut [u16; 96], sck: bool, sdi: bool, ss: bool)
+fn see_any(w: &mut [u16; 96], sck: bool, sdi: bool, ss: bool)
     ensures { λ _. ⌜ Steps (λ s. stepped s (levels sck sdi ss)) (now (w .entry)) (now (w .exit)) ⌝ }
 {
     if ss {
@@ -363,7 +355,28 @@ fn within(w: &mut [u16; 96], own: bool, sck: bool, sdi: bool, ss: bool) -> bool
     true
 }
 
-// A clock step by the short way: whether it was made. A tick and a pin call are that of their kind of module.
+// An edge to the other level of SCK, and the levels SCK, SDI and SS seen, by the short way where it goes.
+pub fn turn(w: &mut [u16; 96], sdi: bool)
+    ensures { λ _. ⌜ Steps (λ s. turned s sdi) (now (w .entry)) (now (w .exit)) ⌝ }
+{
+    if within(w, true, false, sdi, false) {
+        return;
+    }
+    let pins = spi_memory::pins_in(w);
+    edge(w, !pins.sck, sdi);
+}
+
+pub fn see(w: &mut [u16; 96], sck: bool, sdi: bool, ss: bool)
+    ensures { λ _. ⌜ Steps (λ s. stepped s (levels sck sdi ss)) (now (w .entry)) (now (w .exit)) ⌝ }
+{
+    if within(w, false, sck, sdi, ss) {
+        return;
+    }
+    see_any(w, sck, sdi, ss);
+}
+
+// A clock step, a tick and a pin call by the short way: whether it was made. Where the role is tested it is told, so that it is not
+// looked up again.
 pub fn step_within(w: &mut [u16; 96], sck: bool, sdi: bool, ss: bool) -> bool
     ensures { λ r. ⌜ Shortly (clockStepOf (moduleIn (now (w .entry))) sck sdi ss) Done r (now (w .entry)) (now (w .exit)) ⌝ }
 {
@@ -371,28 +384,36 @@ pub fn step_within(w: &mut [u16; 96], sck: bool, sdi: bool, ss: bool) -> bool
     if !s.spien {
         return false;
     }
-    let own = spi_settings::own_clock(s);
-    within(w, own, sck, sdi, ss)
+    if spi_settings::own_clock(s) {
+        return within(w, true, sck, sdi, ss);
+    }
+    within(w, false, sck, sdi, ss)
 }
 
 pub fn tick_within(w: &mut [u16; 96], sdi: bool, ss: bool) -> bool
     ensures { λ r. ⌜ Shortly (tickOf (moduleIn (now (w .entry))) sdi ss) Edge r (now (w .entry)) (now (w .exit)) ⌝ }
 {
     let s = spi_memory::settings_in(w);
+    if !s.spien {
+        return false;
+    }
     if !spi_settings::own_clock(s) {
         return false;
     }
-    step_within(w, false, sdi, ss)
+    within(w, true, false, sdi, ss)
 }
 
 pub fn pins_within(w: &mut [u16; 96], sck: bool, sdi: bool, ss: bool) -> bool
     ensures { λ r. ⌜ Shortly (pinsOf (moduleIn (now (w .entry))) sck sdi ss) Done r (now (w .entry)) (now (w .exit)) ⌝ }
 {
     let s = spi_memory::settings_in(w);
+    if !s.spien {
+        return false;
+    }
     if spi_settings::own_clock(s) {
         return false;
     }
-    step_within(w, sck, sdi, ss)
+    within(w, false, sck, sdi, ss)
 }
 
 // A frame host's pulse after an edge to the level `sck` at which it gives none: at the active level it ends.
@@ -447,7 +468,7 @@ pub fn clock_step(w: &mut [u16; 96], sck: bool, sdi: bool, ss: bool) -> Answer
         return Answer::Refused(Refusal::Disabled);
     }
     if !spi_settings::own_clock(s) {
-        see(w, sck, sdi, ss);
+        see_any(w, sck, sdi, ss);
         return Answer::Done;
     }
     if spi_settings::is_framed(s) {
@@ -529,8 +550,12 @@ fn read_buf(w: &mut [u16; 96]) -> Answer
 fn stat(w: &[u16; 96]) -> u16
     ensures { λ r. ⌜ r ≡ statValue (moduleIn (now (w .entry))) ⌝ }
 {
-    let m = spi_memory::module_in(w);
-    spi_registers::stat_value(m)
+    let s = spi_memory::settings_in(w);
+    let waiting = spi_memory::waiting_in(w);
+    let unread = spi_memory::unread_in(w);
+    let free = spi_memory::is_free(w);
+    let spirov = spi_memory::spirov_in(w);
+    spi_registers::stat_value(s, waiting, unread, free, spirov)
 }
 
 // A read of a register.
@@ -563,7 +588,8 @@ fn write_buf(w: &mut [u16; 96], v: u16) -> Answer
         return Answer::Refused(Refusal::Disabled);
     }
     let count = spi_memory::waiting_in(w);
-    if spi_settings::depth(s) <= count {
+    let depth = spi_memory::room_in(w);
+    if depth <= count {
         return Answer::Refused(Refusal::TransmitFull);
     }
     spi_words::accept_word(w, spi_bits::low_bits(s, v));

@@ -47,10 +47,13 @@ pub fn write(w: &mut [u16; 96], register: u32, v: u16) -> u32
     answer_number(answer)
 }
 
-// A tick of a host's own clock, with the levels SDI and SS.
+// A tick of a host's own clock, with the levels SDI and SS. A frame host goes its short way within a word.
 pub fn tick(w: &mut [u16; 96], sdi: bool, ss: bool) -> u32
     ensures { λ r. ⌜ Tells (tickOf (moduleIn (now (w .entry))) sdi ss) r (now (w .entry)) (now (w .exit)) ⌝ }
 {
+    if spi_module::frame_within(w, sdi, ss) {
+        return 1;
+    }
     let answer = spi_module::tick(w, sdi, ss);
     answer_number(answer)
 }

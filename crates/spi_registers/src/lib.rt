@@ -1,10 +1,13 @@
 // The registers by their bits: what CON1 and CON2 take from a value, and what STAT, CON1 and CON2 show.
 use spi_types::Con1;
 use spi_types::Con2;
-use spi_types::Module;
+use spi_types::Settings;
 ghost use mathlib.Core.Path.{_≡_};
 ghost use Prim.Native.Nat.{_≤_};
-ghost use Rattle.spi_rules.specs.Registers.{weighed, con1From, con1Value, con2From, con2Value, atMost7, spibec, srmpt, srxmpt, spitbf, spirbf, statValue};
+ghost use Rattle.laws.specs.Choice.{if_then_else_};
+ghost use Rattle.spi_types.specs.declared.Module.{Module};
+ghost use Rattle.spi_rules.specs.Registers.{weighed, con1From, con1Value, con2From, con2Value, atMost7, statValue};
+ghost use Rattle.spi_registers.specs.Shown.{enhancedShown, Shows};
 
 // The weight if the bit is set, else 0.
 pub fn weigh(bit: bool, weight: u16) -> u16
@@ -80,67 +83,41 @@ fn at_most_7(count: u8) -> u8
     if count < 7 { count } else { 7 }
 }
 
-// SPIBEC: the words that wait (host) or are unread (client).
-fn spibec_value(m: Module) -> u8
-    ensures value { λ r. ⌜ r ≡ spibec m ⌝ }
+// SPIBEC in enhanced operation: the words that wait (host) or are unread (client).
+fn spibec_value(s: Settings, waiting: u8, unread: u8) -> u8
+    ensures value { λ r. ⌜ r ≡ atMost7 (if s .con1 .msten then waiting else unread) ⌝ }
     ensures bound { λ r. ⌜ r ≤ 7 ⌝ }
 {
-    let s = m.settings;
-    if s.spien & s.con2.spiben {
-        if s.con1.msten {
-            at_most_7(m.engine.transmit.count)
-        } else {
-            at_most_7(m.engine.receive.count)
-        }
-    } else {
-        0
+    if s.con1.msten {
+        return at_most_7(waiting);
     }
+    at_most_7(unread)
 }
 
-// SRMPT: no word is loaded or begun.
-fn srmpt_bit(m: Module) -> bool
-    ensures { λ r. ⌜ r ≡ srmpt m ⌝ }
+// What STAT shows of enhanced operation, while enabled: SPIBEC, SRMPT (no word is loaded or begun) and SRXMPT (nothing is unread).
+fn enhanced_value(s: Settings, waiting: u8, unread: u8, free: bool) -> u16
+    ensures value { λ r. ⌜ r ≡ enhancedShown s waiting unread free ⌝ }
+    ensures bound { λ r. ⌜ r ≤ 1952 ⌝ }
 {
-    let s = m.settings;
-    let n = m.engine;
-    let shift = n.shift;
-    (s.spien & s.con2.spiben) & spi_buffers::is_free(shift)
+    if !s.con2.spiben {
+        return 0;
+    }
+    if !s.spien {
+        return 0;
+    }
+    spibec_value(s, waiting, unread) as u16 * 256 + weigh(free, 128) + weigh(unread == 0, 32)
 }
 
-// SRXMPT: nothing is unread.
-fn srxmpt_bit(m: Module) -> bool
-    ensures { λ r. ⌜ r ≡ srxmpt m ⌝ }
+// STAT as a read shows it, by the settings, the words waiting and unread, whether no word is loaded or begun, and SPIROV.
+pub fn stat_value(s: Settings, waiting: u8, unread: u8, free: bool, spirov: bool) -> u16
+    ensures { λ r. ⌜ ((m : Module) → Shows m s waiting unread free spirov → r ≡ statValue m) ⌝ }
 {
-    (m.settings.spien & m.settings.con2.spiben) & (m.engine.receive.count == 0)
-}
-
-// SPITBF: the transmit buffer is full.
-fn spitbf_bit(m: Module) -> bool
-    ensures { λ r. ⌜ r ≡ spitbf m ⌝ }
-{
-    let s = m.settings;
-    spi_settings::depth(s) <= m.engine.transmit.count
-}
-
-// SPIRBF: the receive buffer is full.
-fn spirbf_bit(m: Module) -> bool
-    ensures { λ r. ⌜ r ≡ spirbf m ⌝ }
-{
-    let s = m.settings;
-    spi_settings::depth(s) <= m.engine.receive.count
-}
-
-// STAT as a read shows it.
-pub fn stat_value(m: Module) -> u16
-    ensures { λ r. ⌜ r ≡ statValue m ⌝ }
-{
-    weigh(m.settings.spien, 32768)
-        + weigh(m.settings.spisidl, 8192)
-        + spibec_value(m) as u16 * 256
-        + weigh(srmpt_bit(m), 128)
-        + weigh(m.engine.spirov, 64)
-        + weigh(srxmpt_bit(m), 32)
-        + (m.settings.sisel % 8) as u16 * 4
-        + weigh(spitbf_bit(m), 2)
-        + weigh(spirbf_bit(m), 1)
+    let depth = spi_settings::depth(s);
+    weigh(s.spien, 32768)
+        + weigh(s.spisidl, 8192)
+        + enhanced_value(s, waiting, unread, free)
+        + weigh(spirov, 64)
+        + (s.sisel % 8) as u16 * 4
+        + weigh(depth <= waiting, 2)
+        + weigh(depth <= unread, 1)
 }

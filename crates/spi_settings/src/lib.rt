@@ -1,14 +1,11 @@
-// What the settings decide by themselves: width, depth, role, why it cannot be enabled, and which events raise the
-// interrupt flag.
+// What the settings decide by themselves: width, depth, role, and why it cannot be enabled.
 use spi_types::Depth;
-use spi_types::Event;
 use spi_types::Refusal;
 use spi_types::Settings;
 ghost use mathlib.Core.Path.{_≡_};
 ghost use Rattle.spi_rules.specs.Settings.{widthOf, wordsOf, depthOf, framed, frameHost, frameClient, ckeOf, silent, ssenClient, ownClock};
 ghost use Rattle.spi_rules.specs.Select.{deselected};
 ghost use Rattle.spi_rules.specs.Refusals.{undivided, lateSampling, unselectedCke, causes, badSettings, firstGiven};
-ghost use Rattle.spi_rules.specs.Interrupts.{enhancedRaises, standardRaises, raises};
 
 // The width in bits.
 pub fn width(s: Settings) -> u8
@@ -137,47 +134,4 @@ pub fn first_cause(s: Settings) -> Refusal
         return Refusal::LateSampling;
     }
     Refusal::UnselectedCke
-}
-
-// Whether an event raises the interrupt flag in enhanced operation.
-fn raises_enhanced(depth: u8, sisel: u8, e: Event) -> bool
-    ensures { λ r. ⌜ r ≡ enhancedRaises depth sisel e ⌝ }
-{
-    match e {
-        Event::Taken(left) => (sisel == 0) & (left == 0),
-        Event::Appended(left) => {
-            (sisel == 1)
-                | (((sisel == 2) & (3 * (depth as u16) / 4 <= left as u16))
-                    | ((sisel == 3) & (left == depth)))
-        }
-        Event::Left(left) => {
-            ((sisel == 4) & (left as u16 + 1 == depth as u16)) | ((sisel == 6) & (left == 0))
-        }
-        Event::Finished(left) => (sisel == 5) & (left == 0),
-        Event::Written(left) => (sisel == 7) & (left == depth),
-    }
-}
-
-// Whether an event raises the interrupt flag in standard operation.
-fn raises_standard(e: Event) -> bool
-    ensures { λ r. ⌜ r ≡ standardRaises e ⌝ }
-{
-    match e {
-        Event::Taken(_) => false,
-        Event::Appended(_) => false,
-        Event::Left(_) => false,
-        Event::Finished(_) => true,
-        Event::Written(_) => false,
-    }
-}
-
-// Whether an event raises the interrupt flag.
-pub fn raises_flag(s: Settings, e: Event) -> bool
-    ensures { λ r. ⌜ r ≡ raises s e ⌝ }
-{
-    if s.con2.spiben {
-        raises_enhanced(depth(s), s.sisel, e)
-    } else {
-        raises_standard(e)
-    }
 }

@@ -1,5 +1,6 @@
 -- Playing makes a file's calls one behind the other.
 --     leaves, bit-0                what the call of a record leaves, and its lowest bit
+--     read-leaves                  what a read of STAT, CON1 or CON2 leaves
 --     repeated, repeated-none      one repeat of a section, and the others
 --     section-records              the calls of a section are those of its records
 --     here, upcoming               a record of a section, and the next one that is not idle
@@ -13,14 +14,16 @@ use mathlib.Core.Bool.{true, false, not}
 use mathlib.Core.List.{List, [], _∷_, _++_}
 use mathlib.Core.Path.{_≡_, refl, sym, ap, _∙_}
 use native.Mathlib.Omega.{arith}
-use borrow.Author.Tests.{ltb-true}
-use lib.Dec.{ltb}
+use borrow.Author.Tests.{ltb-true, ltb-false, eqb-false, eq-eqb, ne-eqb}
+use lib.Dec.{ltb, eqb}
 use lib.ListN.{length, getD}
 use Rattle.laws.proofs.Choices.{so, not-so}
-use Rattle.laws.proofs.Keeps.{if-true, if-false, by-test, clash, and-left, and-right}
+use Rattle.laws.proofs.Keeps.{if-keeps, if-true, if-false, by-test, clash, and-left, and-right}
 use Rattle.spi_types.specs.declared.Module.{Module}
 use Rattle.spi_types.specs.declared.Call.{Call}
-use Rattle.spi_rules.specs.Calls.{poweredUp, performOf, afterCalls}
+use Rattle.spi_types.specs.declared.Call.the-variants.{Read}
+use Rattle.spi_types.specs.declared.Outcome.{Outcome}
+use Rattle.spi_rules.specs.Calls.{refuse, poweredUp, readOf, performOf, afterCalls}
 use Rattle.spi_trace_rules.specs.declared.Entry.{Entry}
 use Rattle.spi_trace_rules.specs.declared.Fault.{Fault}
 use Rattle.spi_trace_rules.specs.declared.Played.{Played}
@@ -39,6 +42,20 @@ use Rattle.spi_trace.specs.Playing.{entryCalls, Plays}
 pub leaves : (m : Module) {after : Module} (x : Call) (e : Entry) → after ≡ performOf m x .after → x ≡ callOf e →
     after ≡ performOf m (callOf e) .after
 leaves m x e h is = h ∙ ap (λ (y : Call). performOf m y .after) is
+
+past-two : {A : Type 0} (a : ℕ) → a ≤ 3 → (a ≡ 0 → ⊥) → (a ≡ 1 → ⊥) → (a ≡ 2 → ⊥) → (a ≡ 3 → ⊥) → A
+past-two a few x y z other = clash (eqb a 3) (eq-eqb a 3 (omega arith)) (ne-eqb a 3 other)
+
+-- A read of another register than BUF leaves the module as it was.
+pub read-leaves : (m : Module) (a : ℕ) → (a ≡ 3 → ⊥) → m ≡ performOf m (Read a) .after
+unfolding performOf readOf refuse
+read-leaves m a other =
+    let P : Outcome → Type 0 = λ o. m ≡ o .after in
+    if-keeps P (ltb 3 a) _ _ (λ _. refl)
+    (λ named. if-keeps P (eqb a 0) _ _ (λ _. refl)
+    (λ x. if-keeps P (eqb a 1) _ _ (λ _. refl)
+    (λ y. if-keeps P (eqb a 2) _ _ (λ _. refl)
+    (λ z. past-two a (ltb-false 3 a named) (eqb-false a 0 x) (eqb-false a 1 y) (eqb-false a 2 z) other))))
 
 -- Bit 0 has the weight 1.
 pub bit-0 : (n : ℕ) → n ≡ n / 1

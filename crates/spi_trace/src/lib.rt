@@ -25,7 +25,11 @@ fn make(w: &mut [u16; 96], e: Entry)
         return;
     }
     if kind == 1 {
-        spi_numbers::read(w, argument as u32);
+        // a read of BUF alone changes something
+        if argument != 3 {
+            return;
+        }
+        spi_numbers::read(w, 3);
         return;
     }
     if kind == 2 {
@@ -36,6 +40,9 @@ fn make(w: &mut [u16; 96], e: Entry)
         return;
     }
     if kind == 3 {
+        if spi_module::pins_within(w, sck, sdi, ss) {
+            return;
+        }
         spi_numbers::pins(w, sck, sdi, ss);
         return;
     }

@@ -1,2 +1,4 @@
 -- What the proofs of several functions use.
+mod Loads
+mod Raised
 mod Rings

@@ -1,30 +1,36 @@
--- A tick, or any other call between two counts.
+-- A tick within a word, where the total stays, or any call between two counts.
 use borrow.Author.Needs.{needs}
-use native.Mathlib.Omega.{arith}
+use mathlib.Core.Path.{refl}
 use Rattle.laws.specs.Choice.{if_then_else_}
-use Rattle.spi_numbers.specs.Told.{levelIn}
+use Rattle.spi_rules.specs.Calls.{performOf}
+use Rattle.spi_numbers.specs.Told.{answerNumber, levelIn}
+use Rattle.spi_numbers.proofs.Answers.{told}
 use Rattle.spi_board.specs.Boards.{askedOf}
-use Rattle.spi_board.proofs.Owing.{owed-asked, makes-owed}
+use Rattle.spi_board.proofs.Asks.{made}
+use Rattle.spi_board.proofs.Owing.{owed-asked, within-owed, makes-owed}
 use Rattle.spi_board.proofs.make_counted.Statement.{statement}
 use Rattle.spi_board.proofs.make_counted.Tie as tie
 
 returns : tie.Need-returns
-unfolding askedOf if_then_else_ levelIn
-returns c = owed-asked 3 _ _ (c .before .before .before .args .z) (c .before .before .if1 .taken) ((c .tick-counted .ensures) _)
+unfolding askedOf if_then_else_ levelIn performOf answerNumber
+returns c =
+    owed-asked 3 _ _ (c .before .before .before .before .before .args .z) (c .before .before .before .before .if1 .taken) (makes-owed (made (told ((c .before .before .tick-within .ensures .taken) (c .before .if2 .taken)) refl)) refl refl (within-owed (c .before .before .before .before .before .args .owed) ((c .before .before .tick-within .ensures .goes) (c .before .if2 .taken))) (c .both .ensures))
 
 returns-2 : tie.Need-returns-2
 returns-2 c =
-    makes-owed (c .before .before .before .before .make .ensures) (c .before .before .before .before .before .before .before .count .ensures .0) (c .before .before .count2 .ensures .0) (c .before .moved .ensures .0) (c .both .ensures)
+    owed-asked 3 _ _ (c .before .before .before .before .before .before .before .args .z) (c .before .before .before .before .before .before .if1 .taken) (rw ((c .before .before .before .before .tick-within .ensures .left) (c .before .before .before .if2 .left)) at (c .make-between .ensures))
+
+returns-3 : tie.Need-returns-3
+returns-3 c = (c .make-between2 .ensures)
 
 pub make-counted-spec : {M : Type 1} → statement M
 make-counted-spec =
     tie.close
     (tie.spec
     (λ c κs. search needs)
+    (λ c κs. search needs)
     returns
     (λ c κs. search needs)
+    returns-2
     (λ c κs. search needs)
-    (λ c κs. search needs)
-    (λ c κs. search needs)
-    (λ c κs. search needs)
-    returns-2)
+    returns-3)

@@ -24,7 +24,7 @@ returns-2 c =
     let settings-in = c .before .before .before .before .before .before .settings-in .ensures in
     let on = not-false _ (rw settings-in at (c .before .before .before .before .if1 .left)) in
     let pin = not-true _ (rw (c .before .before .before .own-clock .ensures, settings-in) at (c .before .before .if2 .taken)) in
-    changed refl (answered _ (c .see .ensures) refl ∙ sym (step-pin _ _ _ _ on pin))
+    changed refl (answered _ (c .see-any .ensures) refl ∙ sym (step-pin _ _ _ _ on pin))
 
 framed-turn-requires : tie.Need-framed-turn-requires
 framed-turn-requires c κs =

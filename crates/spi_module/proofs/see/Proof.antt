@@ -1,21 +1,15 @@
--- By the select level.
+-- By the short way, or whole.
 use borrow.Author.Needs.{needs}
-use mathlib.Core.Path.{refl}
-use mathlib.Core.Bool.{false}
-use Rattle.laws.proofs.Keeps.{and-false}
-use Rattle.spi_rules.specs.Settings.{ssenClient}
-use Rattle.spi_memory.specs.Memory.{settingsIn}
+use Rattle.laws.specs.Choice.{if_then_else_}
 use Rattle.spi_module.proofs.see.Statement.{statement}
 use Rattle.spi_module.proofs.see.Tie as tie
 
-see-selected-requires : tie.Need-see-selected-requires
-see-selected-requires c κs = and-false (ssenClient (settingsIn (c .before .before .args .w .now))) false refl
-
 returns : tie.Need-returns
-returns c = rw (c .before .before .if1 .taken) (c .see-high .ensures)
+unfolding if_then_else_
+returns c = (c .before .within .ensures .steps) (c .if1 .taken)
 
 returns-2 : tie.Need-returns-2
-returns-2 c = rw (c .before .before .if1 .left) (c .see-selected .ensures)
+returns-2 c = rw ((c .before .before .before .within .ensures .left) (c .before .before .if1 .left)) at (c .see-any .ensures)
 
 pub see-spec : {M : Type 1} → statement M
-see-spec = tie.close (tie.spec (λ c κs. search needs) see-selected-requires returns returns-2)
+see-spec = tie.close (tie.spec (λ c κs. search needs) returns (λ c κs. search needs) returns-2)

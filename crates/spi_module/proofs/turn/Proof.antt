@@ -1,15 +1,19 @@
--- The level is the other one.
+-- By the short way, or to the other level.
 use borrow.Author.Needs.{needs}
+use Rattle.laws.specs.Choice.{if_then_else_}
 use Rattle.spi_memory.proofs.Taken.{alike}
 use Rattle.spi_module.specs.Answered.{turned}
 use Rattle.spi_module.proofs.turn.Statement.{statement}
 use Rattle.spi_module.proofs.turn.Tie as tie
 
 returns : tie.Need-returns
+unfolding if_then_else_
+returns c = (c .before .within .ensures .steps) (c .if1 .taken)
+
+returns-2 : tie.Need-returns-2
 unfolding turned
-returns c =
-    let pins-in = c .before .before .before .pins-in .ensures in
-    alike (c .edge .ensures) (rw pins-in)
+returns-2 c =
+    rw ((c .before .before .before .before .before .before .within .ensures .left) (c .before .before .before .before .before .if1 .left)) at (alike {g = λ s. turned s (c .before .before .before .before .before .before .before .before .args .sdi)} (c .edge .ensures) (rw (c .before .before .before .pins-in .ensures)))
 
 pub turn-spec : {M : Type 1} → statement M
-turn-spec = tie.close (tie.spec (λ c κs. search needs) (λ c κs. search needs) returns)
+turn-spec = tie.close (tie.spec (λ c κs. search needs) returns (λ c κs. search needs) (λ c κs. search needs) returns-2)

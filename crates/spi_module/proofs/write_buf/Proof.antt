@@ -15,21 +15,12 @@ returns c = kept (so _ _ _ (rw (c .before .before .settings-in .ensures) at (c .
 returns-2 : tie.Need-returns-2
 unfolding writeBuf refuse spitbf
 returns-2 c =
-    let settings-in = c .before .before .before .before .before .before .settings-in .ensures in
-    let depth = c .before .depth .ensures in
-    let count = c .before .before .waiting-in .ensures in
-    kept (not-so _ _ _ (rw settings-in at (c .before .before .before .before .if1 .left)) (so-le _ _ _ _ (rw (depth, settings-in, count) at (c .if2 .taken)) refl))
+    kept (not-so _ _ _ (rw (c .before .before .before .before .before .before .before .settings-in .ensures) at (c .before .before .before .before .before .if1 .left)) (so-le _ _ _ _ (rw ((c .before .room-in .ensures), (c .before .before .before .waiting-in .ensures)) at (c .if2 .taken)) refl))
 
 returns-3 : tie.Need-returns-3
 unfolding writeBuf spitbf
 returns-3 c =
-    let settings-in = c .before .before .before .before .before .before .before .before .before .settings-in .ensures in
-    let depth = c .before .before .before .before .depth .ensures in
-    let count = c .before .before .before .before .before .waiting-in .ensures in
-    changed refl
-    (not-so _ _ _ (rw settings-in at (c .before .before .before .before .before .before .before .if1 .left))
-    (not-so-le _ _ _ _ (rw (depth, settings-in, count) at (c .before .before .before .if2 .left))
-    (answered _ (c .accept-word .ensures) (rw ((c .before .low-bits .ensures), settings-in)))))
+    changed refl (not-so _ _ _ (rw (c .before .before .before .before .before .before .before .before .before .before .settings-in .ensures) at (c .before .before .before .before .before .before .before .before .if1 .left)) (not-so-le _ _ _ _ (rw ((c .before .before .before .before .room-in .ensures), (c .before .before .before .before .before .before .waiting-in .ensures)) at (c .before .before .before .if2 .left)) (answered _ (c .accept-word .ensures) (rw ((c .before .low-bits .ensures), (c .before .before .before .before .before .before .before .before .before .before .settings-in .ensures))))))
 
 pub write-buf-spec : {M : Type 1} → statement M
 write-buf-spec =

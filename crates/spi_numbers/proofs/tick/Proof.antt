@@ -1,11 +1,20 @@
--- The number of the answer is told.
+-- By a short way, or the number of the answer is told.
 use borrow.Author.Needs.{needs}
+use mathlib.Core.Path.{refl}
+use Rattle.spi_numbers.specs.Told.{answerNumber}
 use Rattle.spi_numbers.proofs.Answers.{told}
 use Rattle.spi_numbers.proofs.tick.Statement.{statement}
 use Rattle.spi_numbers.proofs.tick.Tie as tie
 
 returns : tie.Need-returns
-returns c = told (c .before .tick .ensures) (c .answer-number .ensures)
+unfolding answerNumber
+returns c = told ((c .before .frame-within .ensures .taken) (c .if1 .taken)) refl
+
+returns-2 : tie.Need-returns-2
+returns-2 c =
+    rw ((c .before .before .before .before .frame-within .ensures .left) (c .before .before .before .if1 .left)) at (told (c .before .tick .ensures) (c .answer-number .ensures))
 
 pub tick-spec : {M : Type 1} → statement M
-tick-spec = tie.close (tie.spec (λ c κs. search needs) (λ c κs. search needs) returns)
+tick-spec =
+    tie.close
+    (tie.spec (λ c κs. search needs) returns (λ c κs. search needs) (λ c κs. search needs) returns-2)

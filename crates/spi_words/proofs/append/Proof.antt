@@ -6,7 +6,6 @@ use Prim.Native.Nat.{ℕ, _+_}
 use Rattle.spi_types.specs.declared.Receive.{Receive}
 use Rattle.spi_rules.specs.Changes.{withReceive}
 use Rattle.spi_rules.specs.Settings.{depthOf}
-use Rattle.ring.specs.Ring.{next}
 use Rattle.spi_memory.specs.Memory.{settingsIn, engineIn}
 use Rattle.spi_memory.proofs.Taken.{alike, stays}
 use Rattle.spi_words.proofs.Rings.{arrived-appended, full-keeps}
@@ -15,28 +14,18 @@ use Rattle.spi_words.proofs.append.Tie as tie
 
 returns : tie.Need-returns
 returns c =
-    let w = c .before .before .before .before .before .before .before .before .before .before .before .args .w .now in
-    let n = engineIn w in
-    let depth = (c .before .before .before .before .before .before .before .before .depth .ensures) ∙ ap depthOf (c .before .before .before .before .before .before .before .before .before .settings-in .ensures) in
-    let count = c .before .before .before .before .before .before .unread-in .ensures in
-    let on = (c .before .before .next-position .ensures) ∙ ap (λ (d : ℕ). next d (c .before .before .before .before .spi-write-in .result)) depth ∙ ap (next (depthOf (settingsIn w))) (c .before .before .before .before .spi-write-in .ensures) in
-    alike (c .store-appended .ensures)
-    (ap (λ (b : Receive). withReceive b n)
-    (arrived-appended (depthOf (settingsIn w)) (n .receive) (c .before .before .before .before .before .before .before .before .before .before .before .args .word) _ _ (omega arith) on (ap (λ (x : ℕ). x + 1) count)))
+    let w = (c .before .before .before .before .before .before .before .before .before .before .args .w .now) in let n = engineIn w in let depth = (c .before .before .before .before .before .before .before .before .room-in .ensures) in let count = (c .before .before .before .before .before .before .unread-in .ensures) in
+    alike (c .store-appended .ensures) (ap (λ (b : Receive). withReceive b n) (arrived-appended (depthOf (settingsIn w)) (n .receive) (c .before .before .before .before .before .before .before .before .before .before .args .word) _ _ (omega arith) (rw (depth, (c .before .before .before .before .spi-write-in .ensures)) at (c .before .before .next-position .ensures)) (ap (λ (x : ℕ). x + 1) count)))
 
 returns-2 : tie.Need-returns-2
 returns-2 c =
-    let w = c .before .before .before .before .before .before .before .before .args .w .now in
-    let n = engineIn w in
-    let depth = (c .before .before .before .before .before .depth .ensures) ∙ ap depthOf (c .before .before .before .before .before .before .settings-in .ensures) in
-    let count = c .before .before .before .unread-in .ensures in
-    stays (ap (λ (b : Receive). withReceive b n) (full-keeps (depthOf (settingsIn w)) (n .receive) (c .before .before .before .before .before .before .before .before .args .word) (omega arith)))
+    let w = (c .before .before .before .before .before .before .before .args .w .now) in let n = engineIn w in let depth = (c .before .before .before .before .before .room-in .ensures) in let count = (c .before .before .before .unread-in .ensures) in
+    stays (ap (λ (b : Receive). withReceive b n) (full-keeps (depthOf (settingsIn w)) (n .receive) (c .before .before .before .before .before .before .before .args .word) (omega arith)))
 
 pub append-spec : {M : Type 1} → statement M
 append-spec =
     tie.close
     (tie.spec
-    (λ c κs. search needs)
     (λ c κs. search needs)
     (λ c κs. search needs)
     (λ c κs. search needs)

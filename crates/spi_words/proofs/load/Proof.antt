@@ -1,31 +1,28 @@
--- The branch is the choice of the definition.
+-- Test by test.
 use borrow.Author.Needs.{needs}
-use mathlib.Core.Path.{refl}
-use Rattle.laws.proofs.Choices.{so, not-so}
-use Rattle.spi_rules.specs.Loading.{canLoad, moved, loaded}
+use borrow.Author.Tests.{not-true, not-false}
+use Rattle.spi_rules.specs.Loading.{moved, loaded}
+use mathlib.Core.Path.{ap, _∙_}
 use Rattle.spi_memory.proofs.Taken.{_then_, alike, stays}
+use Rattle.spi_words.proofs.Loads.{busy-waits, none-waits, kept-back, loads}
 use Rattle.spi_words.proofs.load.Statement.{statement}
 use Rattle.spi_words.proofs.load.Tie as tie
 
 returns : tie.Need-returns
-unfolding canLoad moved loaded
 returns c =
-    let is-free = c .before .before .before .before .before .before .before .before .is-free .ensures in
-    let ssen-client = c .before .before .before .before .before .before .before .ssen-client .ensures in
-    let settings-in = c .before .before .before .before .before .before .before .before .before .before .before .before .settings-in .ensures in
-    let count = c .before .before .before .before .before .before .before .before .before .before .waiting-in .ensures in
-    let first = c .before .before .before .before .first-waiting-in .ensures in
-    alike ((c .before .before .store-loaded .ensures) then (c .leave .ensures))
-    (so _ _ _ (rw (is-free, ssen-client, settings-in, count) at (c .before .before .before .before .before .before .if1 .taken)) (rw first))
+    stays (busy-waits _ _ (not-true _ (rw (c .before .is-free .ensures) at (c .if1 .taken))))
 
 returns-2 : tie.Need-returns-2
-unfolding canLoad loaded
-returns-2 c =
-    let is-free = c .before .before .is-free .ensures in
-    let ssen-client = c .before .ssen-client .ensures in
-    let settings-in = c .before .before .before .before .before .before .settings-in .ensures in
-    let count = c .before .before .before .before .waiting-in .ensures in
-    stays (not-so _ _ _ (rw (is-free, ssen-client, settings-in, count) at (c .if1 .left)) refl)
+returns-2 c = stays (none-waits _ _ (rw (c .before .before .before .before .waiting-in .ensures) at (c .if2 .taken)))
+
+returns-3 : tie.Need-returns-3
+returns-3 c =
+    stays (kept-back _ _ (rw ((c .before .ssen-client .ensures), (c .before .before .before .before .before .before .before .before .settings-in .ensures)) at (c .if3 .taken)))
+
+returns-4 : tie.Need-returns-4
+unfolding moved
+returns-4 c =
+    alike ((c .before .before .store-loaded .ensures) then (c .leave .ensures)) (rw (c .before .before .before .before .first-waiting-in .ensures) (loads _ _ (not-false _ (rw (c .before .before .before .before .before .before .before .before .before .before .is-free .ensures) at (c .before .before .before .before .before .before .before .before .before .if1 .left))) (rw (c .before .before .before .before .before .before .before .before .before .before .before .before .waiting-in .ensures) at (c .before .before .before .before .before .before .before .before .if2 .left)) (rw ((c .before .before .before .before .before .before .before .ssen-client .ensures), (c .before .before .before .before .before .before .before .before .before .before .before .before .before .before .settings-in .ensures)) at (c .before .before .before .before .before .before .if3 .left))))
 
 pub load-spec : {M : Type 1} → statement M
 load-spec =
@@ -34,9 +31,11 @@ load-spec =
     (λ c κs. search needs)
     (λ c κs. search needs)
     (λ c κs. search needs)
-    (λ c κs. search needs)
-    (λ c κs. search needs)
-    (λ c κs. search needs)
-    (λ c κs. search needs)
     returns
-    returns-2)
+    returns-2
+    (λ c κs. search needs)
+    returns-3
+    (λ c κs. search needs)
+    (λ c κs. search needs)
+    (λ c κs. search needs)
+    returns-4)

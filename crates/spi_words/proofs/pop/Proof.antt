@@ -6,7 +6,6 @@ use Prim.Native.Nat.{ℕ, _-_}
 use Rattle.spi_types.specs.declared.Transmit.{Transmit}
 use Rattle.spi_rules.specs.Changes.{withTransmit}
 use Rattle.spi_rules.specs.Settings.{depthOf}
-use Rattle.ring.specs.Ring.{next}
 use Rattle.spi_memory.specs.Memory.{settingsIn, engineIn}
 use Rattle.spi_memory.proofs.Taken.{alike, stays}
 use Rattle.spi_words.proofs.Rings.{popped-departed, none-departs}
@@ -15,28 +14,18 @@ use Rattle.spi_words.proofs.pop.Tie as tie
 
 returns : tie.Need-returns
 returns c =
-    let w = c .before .before .before .before .before .before .before .before .before .before .before .args .w .now in
-    let n = engineIn w in
-    let depth = (c .before .before .before .before .before .before .before .before .depth .ensures) ∙ ap depthOf (c .before .before .before .before .before .before .before .before .before .settings-in .ensures) in
-    let count = c .before .before .before .before .before .before .waiting-in .ensures in
-    let on = (c .before .before .next-position .ensures) ∙ ap (λ (d : ℕ). next d (c .before .before .before .before .spi-read-in .result)) depth ∙ ap (next (depthOf (settingsIn w))) (c .before .before .before .before .spi-read-in .ensures) in
-    alike (c .store-departed .ensures)
-    (ap (λ (b : Transmit). withTransmit b n)
-    (popped-departed (depthOf (settingsIn w)) (n .transmit) _ _ (omega arith) on (ap (λ (x : ℕ). x - 1) count)))
+    let w = (c .before .before .before .before .before .before .before .before .before .before .args .w .now) in let n = engineIn w in let depth = (c .before .before .before .before .before .before .before .before .room-in .ensures) in let count = (c .before .before .before .before .before .before .waiting-in .ensures) in
+    alike (c .store-departed .ensures) (ap (λ (b : Transmit). withTransmit b n) (popped-departed (depthOf (settingsIn w)) (n .transmit) _ _ (omega arith) (rw (depth, (c .before .before .before .before .spi-read-in .ensures)) at (c .before .before .next-position .ensures)) (ap (λ (x : ℕ). x - 1) count)))
 
 returns-2 : tie.Need-returns-2
 returns-2 c =
-    let w = c .before .before .before .before .before .before .before .before .args .w .now in
-    let n = engineIn w in
-    let depth = (c .before .before .before .before .before .depth .ensures) ∙ ap depthOf (c .before .before .before .before .before .before .settings-in .ensures) in
-    let count = c .before .before .before .waiting-in .ensures in
+    let w = (c .before .before .before .before .before .before .before .args .w .now) in let n = engineIn w in let depth = (c .before .before .before .before .before .room-in .ensures) in let count = (c .before .before .before .waiting-in .ensures) in
     stays (ap (λ (b : Transmit). withTransmit b n) (none-departs (depthOf (settingsIn w)) (n .transmit) (omega arith)))
 
 pub pop-spec : {M : Type 1} → statement M
 pop-spec =
     tie.close
     (tie.spec
-    (λ c κs. search needs)
     (λ c κs. search needs)
     (λ c κs. search needs)
     (λ c κs. search needs)

@@ -1,26 +1,23 @@
 -- SDO is set to the level that the definition chooses.
 use borrow.Author.Needs.{needs}
-use mathlib.Core.Bool.{Bool}
-use mathlib.Core.Path.{refl, ap}
-use Rattle.laws.proofs.Choices.{so, not-so}
+use borrow.Author.Tests.{not-true, not-false}
 use Rattle.spi_rules.specs.Loading.{rested, sdoAt}
-use Rattle.spi_memory.specs.Memory.{engineIn}
 use Rattle.spi_memory.proofs.Taken.{alike, stays}
+use Rattle.spi_words.proofs.Loads.{early-stays, begun-stays, rests}
 use Rattle.spi_words.proofs.rest.Statement.{statement}
 use Rattle.spi_words.proofs.rest.Tie as tie
 
 returns : tie.Need-returns
-unfolding rested sdoAt
 returns c =
-    let w = (c .before .before .before .before .before .before .before .before .before .before .args .w .now) in
-    alike (c .store-sdo .ensures)
-    (ap (λ (x : Bool). sdoAt x (engineIn w)) (so _ _ _ (rw ((c .before .before .before .before .before .before .before .cke .ensures), (c .before .before .before .before .before .before .before .before .settings-in .ensures), (c .before .before .before .before .before .is-begun .ensures)) at (c .before .before .before .before .if1 .taken)) (c .before .before .next-top .ensures)))
+    stays (early-stays _ _ (not-true _ (rw ((c .before .cke .ensures), (c .before .before .settings-in .ensures)) at (c .if1 .taken))))
 
 returns-2 : tie.Need-returns-2
-unfolding rested sdoAt
-returns-2 c =
-    let w = (c .before .before .before .before .before .before .args .w .now) in
-    stays (ap (λ (x : Bool). sdoAt x (engineIn w)) (not-so _ _ _ (rw ((c .before .before .before .cke .ensures), (c .before .before .before .before .settings-in .ensures), (c .before .is-begun .ensures)) at (c .if1 .left)) refl))
+returns-2 c = stays (begun-stays _ _ (rw (c .before .is-begun .ensures) at (c .if2 .taken)))
+
+returns-3 : tie.Need-returns-3
+unfolding sdoAt
+returns-3 c =
+    alike (c .store-sdo .ensures) (rw (c .before .before .next-top .ensures) (rests _ _ (not-false _ (rw ((c .before .before .before .before .before .before .before .before .cke .ensures), (c .before .before .before .before .before .before .before .before .before .settings-in .ensures)) at (c .before .before .before .before .before .before .before .if1 .left))) (rw (c .before .before .before .before .before .is-begun .ensures) at (c .before .before .before .before .if2 .left))))
 
 pub rest-spec : {M : Type 1} → statement M
 rest-spec =
@@ -28,8 +25,9 @@ rest-spec =
     (tie.spec
     (λ c κs. search needs)
     (λ c κs. search needs)
-    (λ c κs. search needs)
-    (λ c κs. search needs)
-    (λ c κs. search needs)
     returns
-    returns-2)
+    (λ c κs. search needs)
+    returns-2
+    (λ c κs. search needs)
+    (λ c κs. search needs)
+    returns-3)

@@ -1,22 +1,22 @@
 -- The steps of the definition.
 use borrow.Author.Needs.{needs}
-use mathlib.Core.Path.{_≡_, refl, sym, ap, _∙_}
 use Rattle.spi_rules.specs.Calls.{wordTaken}
+use Rattle.spi_rules.specs.Interrupts.{noted}
 use Rattle.spi_memory.proofs.Taken.{_then_, alike}
 use Rattle.spi_words.proofs.take_word.Statement.{statement}
 use Rattle.spi_words.proofs.take_word.Tie as tie
 
 returns : tie.Need-returns
-unfolding wordTaken
+unfolding wordTaken noted
 returns c =
-    let count = c .before .before .unread-in .ensures in
-    let fetched = c .before .before .before .before .fetch .ensures .engine in
-    alike ((c .before .before .before .before .fetch .ensures) then (c .note .ensures)) (rw (count, fetched))
+    let fetched = (c .before .before .before .before .before .before .before .before .fetch .ensures) in alike (fetched then (c .store-interrupt .ensures)) (rw ((c .before .before .interrupt-in .ensures), (c .before .before .before .before .taken-raises .ensures), (c .before .before .before .before .before .before .unread-in .ensures), (fetched .settings), (fetched .engine)))
 
 pub take-word-spec : {M : Type 1} → statement M
 take-word-spec =
     tie.close
     (tie.spec
+    (λ c κs. search needs)
+    (λ c κs. search needs)
     (λ c κs. search needs)
     (λ c κs. search needs)
     (λ c κs. search needs)

@@ -1,0 +1,2 @@
+-- What STAT is shown by.
+pub mod Shown
