@@ -120,6 +120,65 @@ static inline uint16_t thurafeqa_refusal(uint32_t answer)
     return (uint16_t)(answer >> 16);
 }
 
+/* A refusal number in words, for a log: 6 is "nothing is unread". It is never
+ * null; 0 is "not refused", and a number that is not in the list above is "no
+ * such refusal". Of a TI module 2 and 3 speak of its software reset, see below.
+ */
+static inline const char *thurafeqa_refusal_text(uint32_t number)
+{
+    switch (number) {
+    case 0:
+        return "not refused";
+    case THURAFEQA_NO_SUCH_REGISTER:
+        return "no such register";
+    case THURAFEQA_DISABLED:
+        return "the module is disabled";
+    case THURAFEQA_ENABLED:
+        return "the module is enabled";
+    case THURAFEQA_TRANSMIT_FULL:
+        return "the transmit buffer is full";
+    case THURAFEQA_RECEIVE_EMPTY:
+        return "nothing is unread";
+    case THURAFEQA_WRONG_CLOCK:
+        return "the module is clocked in another way, or is no end for a linked"
+               " run";
+    case THURAFEQA_NO_RATE:
+        return "the instruction rate is 0";
+    case THURAFEQA_UNREADABLE_LINE:
+        return "the line cannot be read";
+    case THURAFEQA_DIFFERENT_MODES:
+        return "the linked modules differ in clock mode or width";
+    case THURAFEQA_TOO_MANY_EDGES:
+        return "more than 544 edges are asked for";
+    case THURAFEQA_UNDIVIDED:
+        return "both prescalers are 1:1";
+    case THURAFEQA_LATE_SAMPLING:
+        return "late sampling is not modelled";
+    case THURAFEQA_UNSELECTED_CKE:
+        return "a client with CKE needs SSEN";
+    case THURAFEQA_OVERFLOWED:
+        return "received words were lost in enhanced operation";
+    case THURAFEQA_BAD_CONTENTS:
+        return "the trace's table of contents or length is wrong";
+    case THURAFEQA_BAD_RECORD:
+        return "a record of the trace is wrong";
+    case THURAFEQA_TOO_MANY_CALLS:
+        return "the trace would make more than 65,535 calls";
+    case THURAFEQA_NO_ROOM:
+        return "the trace does not fit";
+    case THURAFEQA_BAD_LIST:
+        return "a board has one to four modules";
+    case THURAFEQA_NO_MODULE:
+        return "the board has no such module, or it is named twice";
+    case THURAFEQA_WRONG_LENGTH:
+        return "a character has 1 to 16 bits";
+    case THURAFEQA_NO_SUCH_DEPTH:
+        return "buffers hold 4, 8 or 16 words";
+    default:
+        return "no such refusal";
+    }
+}
+
 /* What an answer tells: a register's value, or a number of edges, calls, bytes
  * or words. */
 static inline uint16_t thurafeqa_value(uint32_t answer)
@@ -248,6 +307,54 @@ uint32_t thurafeqa_levels(const thurafeqa *m);
 #define THURAFEQA_LEVELS_DRIVEN 8u /* SDO is driven */
 #define THURAFEQA_LEVELS_SS 16u    /* 0 if SS is not driven */
 #define THURAFEQA_LEVELS_SS_DRIVEN 32u /* SS is driven: an enabled frame host */
+
+/* What stands at the other end of a host's wire, for thurafeqa_run: a function
+ * of the caller's. It is shown the bits of thurafeqa_levels as they are now,
+ * with what the caller gave as `context`, and answers the level at SDI, which
+ * stands there until it is asked again. */
+typedef uint32_t (*thurafeqa_wire)(void *context, uint32_t levels);
+
+/* Clocks a host with its own clock until it has no more to send, or for `most`
+ * edges; the answer's value is the number of edges. `wire` is asked once before
+ * the first edge and once after each, so that it sees every level that the host
+ * shows, also the last. Its answer is the SDI of the edge that comes next; the
+ * last one is not used. A host whose output is joined to its input:
+ *
+ *     uint32_t joined(void *context, uint32_t levels)
+ *     {
+ *         (void)context;
+ *         return levels & THURAFEQA_LEVELS_SDO;
+ *     }
+ *
+ *     answer = thurafeqa_run(&m, joined, 0, 544);
+ *
+ * 544 edges end with an idle host if it is not framed; a framed one is never
+ * idle and makes them all. More than 65,535 count as 65,535. SS is low, which
+ * matters to a frame client alone: give it its pulses by thurafeqa_clock_step.
+ * The wire may itself read and write BUF of the module; if it disables it, the
+ * run ends.
+ * Refusals: 2, then 7 (a client, or a host under DISSCK), as of a tick; the
+ * wire is not asked then. */
+static inline uint32_t thurafeqa_run(thurafeqa *m, thurafeqa_wire wire,
+                                     void *context, uint32_t most)
+{
+    thurafeqa copy = *m; /* is it such a host? its tick would tell */
+    uint32_t answer = thurafeqa_tick(&copy, 0, 0), edges = 0, sdi;
+
+    if (thurafeqa_refusal(answer) != 0)
+        return answer;
+    if (most > 65535u)
+        most = 65535u;
+    sdi = wire(context, thurafeqa_levels(m));
+    while (edges < most) {
+        answer = thurafeqa_clock_step(m, 0, sdi, 0);
+        if (answer >= THURAFEQA_NO_EDGE)
+            break;
+        edges++;
+        sdi = wire(context, answer);
+    }
+    return edges;
+}
 
 /* Runs two modules on one wire until the host has no more to send, or for
  * `limit` edges; the answer's value is the number of edges that the host made.
@@ -401,7 +508,7 @@ static inline uint32_t thurafeqa_board_keep(thurafeqa_board *b, uint64_t both)
     return (uint32_t)(both & 0xFFFFFFFFu);
 }
 
-/* A call that is no clock report. */
+/* A call that is no look. */
 static inline uint32_t thurafeqa_board_ask(thurafeqa_board *b, uint32_t n,
                                            uint32_t kind, uint32_t x,
                                            uint32_t y, uint32_t z)
@@ -411,6 +518,18 @@ static inline uint32_t thurafeqa_board_ask(thurafeqa_board *b, uint32_t n,
                                          x, y, z, &unused);
 
     return thurafeqa_board_keep(b, both);
+}
+
+/* A look at a module, which changes neither it nor the number of words owed. */
+static inline uint32_t thurafeqa_board_look(const thurafeqa_board *b,
+                                            uint32_t n, uint32_t kind,
+                                            uint32_t x,
+                                            thurafeqa_clock_report *report)
+{
+    uint64_t both = thurafeqa_board_call(b->modules, b->count, b->owed, n, kind,
+                                         x, 0, 0, report);
+
+    return (uint32_t)(both & 0xFFFFFFFFu);
 }
 
 /* How many words does the board still owe? The answer's value is the number of
@@ -475,20 +594,19 @@ static inline uint32_t thurafeqa_board_clear(thurafeqa_board *b, uint32_t n)
     return thurafeqa_board_ask(b, n, THURAFEQA_BOARD_CLEAR, 0, 0, 0);
 }
 
-static inline uint32_t thurafeqa_board_levels(thurafeqa_board *b, uint32_t n)
+static inline uint32_t thurafeqa_board_levels(const thurafeqa_board *b,
+                                              uint32_t n)
 {
-    return thurafeqa_board_ask(b, n, THURAFEQA_BOARD_LEVELS, 0, 0, 0);
+    thurafeqa_clock_report unused;
+
+    return thurafeqa_board_look(b, n, THURAFEQA_BOARD_LEVELS, 0, &unused);
 }
 
-static inline uint32_t thurafeqa_board_clock(thurafeqa_board *b, uint32_t n,
-                                             uint32_t rate,
+static inline uint32_t thurafeqa_board_clock(const thurafeqa_board *b,
+                                             uint32_t n, uint32_t rate,
                                              thurafeqa_clock_report *report)
 {
-    uint64_t both = thurafeqa_board_call(b->modules, b->count, b->owed, n,
-                                         THURAFEQA_BOARD_CLOCK, rate, 0, 0,
-                                         report);
-
-    return thurafeqa_board_keep(b, both);
+    return thurafeqa_board_look(b, n, THURAFEQA_BOARD_CLOCK, rate, report);
 }
 
 /* A linked run of two modules of the board, which changes those two. */

@@ -64,6 +64,28 @@ static inline uint32_t thurafeqa_card_refusal(uint64_t answer)
     return (uint32_t)(answer >> 32);
 }
 
+/* A refusal number in words, for a log. It is never null; 0 is "not refused",
+ * and a number that is not in the list above is "no such refusal". */
+static inline const char *thurafeqa_card_refusal_text(uint32_t number)
+{
+    switch (number) {
+    case 0:
+        return "not refused";
+    case THURAFEQA_CARD_DISABLED:
+        return "the card is disabled";
+    case THURAFEQA_CARD_ENABLED:
+        return "the card is enabled";
+    case THURAFEQA_CARD_TRANSMIT_FULL:
+        return "eight samples wait";
+    case THURAFEQA_CARD_RECEIVE_EMPTY:
+        return "no sample is unread";
+    case THURAFEQA_CARD_NOT_NAMED:
+        return "no card has this length and frame";
+    default:
+        return "no such refusal";
+    }
+}
+
 static inline uint32_t thurafeqa_card_sample(uint64_t answer)
 {
     return (uint32_t)(answer & 0xFFFFFFFFu);
