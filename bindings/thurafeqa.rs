@@ -1,8 +1,8 @@
 //! A proved model of one dsPIC33/PIC24 SPI module, and of a board of up to four, over the library libthurafeqa.a.
 //!
-//! Take this file in by `mod thurafeqa;` or `include!`. It needs nothing but `core`, and Rust 1.82 or later. The program
-//! that uses it links the library that `./library` builds for its target: `rustc -L target/lib/x86_64-linux-gnu -l
-//! static=thurafeqa ..`, or the same from build.rs.
+//! The crate in `bindings/rust` is this file and the audio card's. Without cargo take it in by `mod thurafeqa;` or `include!`. It
+//! needs nothing but `core`, and Rust 1.82 or later. The program that uses it links the library that `./library` builds for its
+//! target: `rustc -L target/lib/x86_64-linux-gnu -l static=thurafeqa ..`, or the same from build.rs.
 //!
 //! A module is a value: a clone is a second module in the same state, and [`Module::words`] are what to save. Every call
 //! takes any module and any numbers, ends, and never panics. A refused call has changed nothing; [`Refusal`] says why, and
@@ -22,37 +22,64 @@ pub mod register {
     /// The data register.
     pub const BUF: u32 = 3;
 
+    /// Enabled.
     pub const STAT_SPIEN: u16 = 0x8000;
+    /// Kept, without effect.
     pub const STAT_SPISIDL: u16 = 0x2000;
+    /// Host: how many words wait; client: how many are unread. It shows more than 7 as 7.
     pub const STAT_SPIBEC: u16 = 0x0700;
+    /// The shift register is empty.
     pub const STAT_SRMPT: u16 = 0x0080;
+    /// A received word was lost. A 0 that is written clears it.
     pub const STAT_SPIROV: u16 = 0x0040;
+    /// The receive buffer is empty.
     pub const STAT_SRXMPT: u16 = 0x0020;
+    /// Which event sets the interrupt flag.
     pub const STAT_SISEL: u16 = 0x001C;
+    /// The transmit buffer is full.
     pub const STAT_SPITBF: u16 = 0x0002;
+    /// The receive buffer is full.
     pub const STAT_SPIRBF: u16 = 0x0001;
 
+    /// A host is clocked from its pin.
     pub const CON1_DISSCK: u16 = 0x1000;
+    /// SDO is not driven.
     pub const CON1_DISSDO: u16 = 0x0800;
+    /// Words of 16 bits, else of 8.
     pub const CON1_MODE16: u16 = 0x0400;
+    /// Late sampling. It is not modelled: the module cannot be enabled.
     pub const CON1_SMP: u16 = 0x0200;
+    /// SDO changes on the way to idle.
     pub const CON1_CKE: u16 = 0x0100;
+    /// A client heeds SS as its select.
     pub const CON1_SSEN: u16 = 0x0080;
+    /// The clock idles high.
     pub const CON1_CKP: u16 = 0x0040;
+    /// Host, else client.
     pub const CON1_MSTEN: u16 = 0x0020;
+    /// Secondary prescaler, 8 - SPRE.
     pub const CON1_SPRE: u16 = 0x001C;
+    /// Primary prescaler: 64, 16, 4, 1.
     pub const CON1_PPRE: u16 = 0x0003;
 
+    /// Framed: pulses at SS begin the words.
     pub const CON2_FRMEN: u16 = 0x8000;
+    /// Frame client, else frame host.
     pub const CON2_SPIFSD: u16 = 0x4000;
+    /// A pulse is high, else low.
     pub const CON2_FRMPOL: u16 = 0x2000;
+    /// A pulse comes with the first bit, else before it.
     pub const CON2_FRMDLY: u16 = 0x0002;
+    /// Enhanced: buffers of the depth's words, else of one.
     pub const CON2_SPIBEN: u16 = 0x0001;
 
-    // Where the fields of more than one bit begin.
+    /// Where SPIBEC begins.
     pub const STAT_SPIBEC_SHIFT: u32 = 8;
+    /// Where SISEL begins.
     pub const STAT_SISEL_SHIFT: u32 = 2;
+    /// Where SPRE begins.
     pub const CON1_SPRE_SHIFT: u32 = 2;
+    /// Where PPRE begins.
     pub const CON1_PPRE_SHIFT: u32 = 0;
 }
 
@@ -173,6 +200,7 @@ pub enum Refusal {
     NoSuchDepth = 25,
 }
 
+#[allow(dead_code)] // a program need not make every call
 impl Refusal {
     /// The refusal with this number.
     pub fn from_number(number: u32) -> Option<Refusal> {
@@ -184,7 +212,13 @@ impl Refusal {
         all.iter().copied().find(|r| *r as u32 == number)
     }
 
-    fn reason(self) -> &'static str {
+    /// The number.
+    pub fn number(self) -> u32 {
+        self as u32
+    }
+
+    /// The refusal in words, without its number: `nothing is unread`. [`Display`](fmt::Display) has both.
+    pub fn text(self) -> &'static str {
         match self {
             Refusal::NoSuchRegister => "no such register",
             Refusal::Disabled => "the module is disabled",
@@ -214,7 +248,7 @@ impl Refusal {
 
 impl fmt::Display for Refusal {
     fn fmt(&self, f: &mut fmt::Formatter<'_>) -> fmt::Result {
-        write!(f, "refusal {}: {}", *self as u32, self.reason())
+        write!(f, "refusal {}: {}", self.number(), self.text())
     }
 }
 
@@ -223,16 +257,22 @@ impl core::error::Error for Refusal {}
 /// The SDO pin.
 #[derive(Clone, Copy, Debug, PartialEq, Eq)]
 pub enum Sdo {
+    /// It is driven low.
     Low,
+    /// It is driven high.
     High,
+    /// It is not driven.
     Undriven,
 }
 
 /// The SS pin, as far as the module drives it: only an enabled frame host does.
 #[derive(Clone, Copy, Debug, PartialEq, Eq)]
 pub enum Ss {
+    /// It is driven low.
     Low,
+    /// It is driven high.
     High,
+    /// It is not driven.
     Undriven,
 }
 
@@ -257,9 +297,17 @@ pub enum Clock {
     /// The module is disabled.
     None,
     /// A host with its own clock. A bit is two ticks.
-    Internal { rate: f64, bit_time: f64 },
+    Internal {
+        /// The clock's rate.
+        rate: f64,
+        /// The time of one bit.
+        bit_time: f64,
+    },
     /// A module clocked from its pin, whose clock must stay below this rate.
-    External { below: f64 },
+    External {
+        /// That rate.
+        below: f64,
+    },
 }
 
 // What the library's numbers mean.
@@ -432,6 +480,29 @@ impl Module {
         done(thurafeqa_pins(self, sck.into(), sdi.into(), ss.into()))
     }
 
+    /// Clocks a host with its own clock until it has no more to send, or for `most` edges: how many were made? `wire` is what
+    /// stands at the other end. It is asked once before the first edge and once after each, so that it sees every level that the
+    /// host shows, also the last; [`Step::done`] tells whether an edge came before. It answers the level at SDI for the edge that
+    /// comes next; the last answer is not used.
+    ///
+    /// 544 edges end with an idle host if it is not framed; a framed one is never idle and makes them all. More than 65,535 count
+    /// as 65,535. SS is low, which matters to a frame client alone: give it its pulses by [`Module::clock_step`].
+    ///
+    /// Refused: `Disabled`, `WrongClock`, and the wire is not asked.
+    pub fn run(&mut self, most: u32, mut wire: impl FnMut(Step) -> bool) -> Result<u16, Refusal> {
+        self.clone().tick(false, false)?; // is it such a host?
+        let mut sdi = wire(Step { done: false, ..step(thurafeqa_levels(self) as u16) });
+        let mut edges = 0;
+        while u32::from(edges) < most && edges < u16::MAX {
+            match self.clock_step(false, sdi, false) {
+                Ok(seen) if seen.done => sdi = wire(seen),
+                _ => break,
+            }
+            edges += 1;
+        }
+        Ok(edges)
+    }
+
     /// Clears the interrupt flag. Never refused.
     pub fn clear(&mut self) {
         thurafeqa_clear(self)
@@ -506,15 +577,13 @@ pub struct Board<'a> {
     owed: u16,
 }
 
-// The kinds of calls on a board.
+// The kinds of calls on a board; 6 and 7 are looks.
 const POWER_UP: u32 = 0;
 const READ: u32 = 1;
 const WRITE: u32 = 2;
 const TICK: u32 = 3;
 const PINS: u32 = 4;
 const CLEAR: u32 = 5;
-const CLOCK: u32 = 6;
-const LEVELS: u32 = 7;
 const CLOCK_STEP: u32 = 8;
 const POWER_UP_WITH: u32 = 9;
 
@@ -558,19 +627,18 @@ impl<'a> Board<'a> {
         both as u32
     }
 
-    fn ask(&mut self, n: u32, kind: u32, x: u32, y: u32, z: u32, report: &mut ClockReport) -> u32 {
-        let (list, count) = (self.modules.as_mut_ptr(), self.modules.len());
-        // SAFETY: the pointer and the length are a slice's, which can be changed
-        let both = unsafe { thurafeqa_board_call(list, count, self.owed.into(), n, kind, x, y, z, report) };
-        self.keep(both)
-    }
-
     fn call(&mut self, n: u32, kind: u32, x: u32, y: u32, z: u32) -> Result<u16, Refusal> {
-        value(self.ask(n, kind, x, y, z, &mut ClockReport::default()))
+        let (list, count) = (self.modules.as_mut_ptr(), self.modules.len());
+        let mut report = ClockReport::default();
+        // SAFETY: the pointer and the length are a slice's, which can be changed
+        let both = unsafe { thurafeqa_board_call(list, count, self.owed.into(), n, kind, x, y, z, &mut report) };
+        value(self.keep(both))
     }
 
-    fn levels(&mut self, n: u32) -> Result<u32, Refusal> {
-        self.call(n, LEVELS, 0, 0, 0).map(u32::from)
+    // One module, to look at. Its call on a board takes modules that can be changed, so what that call tests first is tested here.
+    fn at(&self, n: u32) -> Result<&Module, Refusal> {
+        self.owed()?;
+        self.modules.get(n as usize).ok_or(Refusal::NoModule)
     }
 
     /// Power-up of one module: disabled, every register 0.
@@ -614,30 +682,28 @@ impl<'a> Board<'a> {
     }
 
     /// The interrupt flag of one module.
-    pub fn interrupt(&mut self, n: u32) -> Result<bool, Refusal> {
-        Ok(self.levels(n)? & 1 != 0)
+    pub fn interrupt(&self, n: u32) -> Result<bool, Refusal> {
+        self.at(n).map(Module::interrupt)
     }
 
     /// See [`Module::sck`].
-    pub fn sck(&mut self, n: u32) -> Result<bool, Refusal> {
-        Ok(self.levels(n)? & 2 != 0)
+    pub fn sck(&self, n: u32) -> Result<bool, Refusal> {
+        self.at(n).map(Module::sck)
     }
 
     /// The SDO pin of one module.
-    pub fn sdo(&mut self, n: u32) -> Result<Sdo, Refusal> {
-        self.levels(n).map(sdo)
+    pub fn sdo(&self, n: u32) -> Result<Sdo, Refusal> {
+        self.at(n).map(Module::sdo)
     }
 
     /// The SS pin of one module.
-    pub fn ss(&mut self, n: u32) -> Result<Ss, Refusal> {
-        self.levels(n).map(ss)
+    pub fn ss(&self, n: u32) -> Result<Ss, Refusal> {
+        self.at(n).map(Module::ss)
     }
 
     /// See [`Module::clock`].
-    pub fn clock(&mut self, n: u32, rate: u32) -> Result<Clock, Refusal> {
-        let mut report = ClockReport::default();
-        let answer = self.ask(n, CLOCK, rate, 0, 0, &mut report);
-        clock(answer, report)
+    pub fn clock(&self, n: u32, rate: u32) -> Result<Clock, Refusal> {
+        self.at(n)?.clock(rate)
     }
 
     /// A linked run of two modules of the board, which changes those two; see [`Module::linked`]. `NoModule` also if both are
@@ -696,7 +762,7 @@ impl Ti {
         thurafeqa_ti_enter_reset(self)
     }
 
-    /// Leaves it. Never refused.
+    /// Leaves software reset. Never refused.
     pub fn leave_reset(&mut self) {
         thurafeqa_ti_leave_reset(self)
     }
