@@ -149,7 +149,8 @@ unsafe extern "C" {
     safe fn thurafeqa_format() -> u32;
 }
 
-/// Why a call was refused, under the numbers of documents 01 and 02.
+/// Why a call was refused, under the numbers of documents 01 and 02. The next major version makes this type non-exhaustive: let a
+/// `match` on it have a default.
 #[derive(Clone, Copy, Debug, PartialEq, Eq)]
 pub enum Refusal {
     /// The register number is above 3.

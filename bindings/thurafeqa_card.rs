@@ -45,7 +45,8 @@ pub enum Protocol {
     PcmDsp = 3,
 }
 
-/// Why a call was refused, under the numbers of documents 01 and 02.
+/// Why a call was refused, under the numbers of documents 01 and 02. The next major version makes this type non-exhaustive: let a
+/// `match` on it have a default.
 #[derive(Clone, Copy, Debug, PartialEq, Eq)]
 pub enum Refusal {
     /// A sample or an edge, and the card is disabled.

@@ -296,8 +296,9 @@ class Boards(Case):
         self.assertEqual((b.owed, b.modules[1]), (0, Module()))
 
     def test_refused(self):
-        for count in (0, 5):
+        for count in (0, 5, 1 << 31):
             self.refused(21, Board, count)
+        self.refused(21, Board.of, [Module()] * 5)
         b = Board(1)
         for call, *words in ((b.read, 1, 9), (b.clock, 1, 0), (b.levels, 1), (b.linked, 0, 1)):
             self.refused(22, call, *words)

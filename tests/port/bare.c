@@ -76,6 +76,27 @@ static void loop(thurafeqa *m)
     is(thurafeqa_pins(m, 1, 0, 0), THURAFEQA_WRONG_CLOCK << 16);
 }
 
+static uint32_t joined(void *context, uint32_t levels)
+{
+    ++*(uint32_t *)context;
+    return levels & THURAFEQA_LEVELS_SDO;
+}
+
+/* The same in one run, which asks before the first edge and after each. */
+static void run(thurafeqa *m)
+{
+    uint32_t asked = 0;
+
+    thurafeqa_power_up(m);
+    is(thurafeqa_run(m, joined, &asked, 544), THURAFEQA_DISABLED << 16);
+    enable(m, THURAFEQA_CON1_MSTEN);
+    is(thurafeqa_write(m, THURAFEQA_BUF, 0xA5), 0);
+    is(thurafeqa_run(m, joined, &asked, 544), 16);
+    is(asked, 17);
+    is(thurafeqa_read(m, THURAFEQA_BUF), 0xA5);
+    is((uint8_t)thurafeqa_refusal_text(THURAFEQA_RECEIVE_EMPTY)[0], 'n');
+}
+
 /* A host with buffers of four words takes one and four more. Its SISEL is 7:
  * the write that fills raises the flag. */
 static void deep(thurafeqa *m, thurafeqa *other)
@@ -218,6 +239,7 @@ int session(void)
     is(thurafeqa_version(), THURAFEQA_VERSION);
     is(thurafeqa_format(), THURAFEQA_FORMAT);
     loop(&one);
+    run(&one);
     deep(&one, &two);
     linked(&one, &two);
     clocked(&one);

@@ -121,6 +121,8 @@ def _places() -> Iterator[str]:
 
 def _load() -> "ctypes.CDLL":
     named = os.environ.get("THURAFEQA_LIBRARY")
+    if named and os.path.exists(named):
+        named = os.path.abspath(named)
     said = []
     for place in [named] if named else _places():
         try:

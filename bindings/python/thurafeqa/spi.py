@@ -277,10 +277,10 @@ class Board:
 
     def __init__(self, count: int = 4) -> None:
         """Refused: 21 if there would be no module, or more than four."""
-        number("the count", count, 64)
+        value(library.thurafeqa_board_owed(number("the count", count), 0))
         self._list: Any = (SpiMemory * count)()
         self._owed = 0
-        for n in range(max(count, 1)):
+        for n in range(count):
             self.power_up(n)
 
     @classmethod
