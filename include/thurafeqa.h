@@ -331,8 +331,8 @@ typedef uint32_t (*thurafeqa_wire)(void *context, uint32_t levels);
  * 544 edges end with an idle host if it is not framed; a framed one is never
  * idle and makes them all. More than 65,535 count as 65,535. SS is low, which
  * matters to a frame client alone: give it its pulses by thurafeqa_clock_step.
- * The wire may itself read and write BUF of the module; if it disables it, the
- * run ends.
+ * The wire may itself read and write BUF of the module, and a word that it
+ * writes is sent too; if it disables the module, the run ends.
  * Refusals: 2, then 7 (a client, or a host under DISSCK), as of a tick; the
  * wire is not asked then. */
 static inline uint32_t thurafeqa_run(thurafeqa *m, thurafeqa_wire wire,

@@ -8,6 +8,7 @@ import copy
 import doctest
 import os
 import pickle
+import re
 import subprocess
 import sys
 import tempfile
@@ -254,6 +255,51 @@ class Traces(Case):
         m = Module()
         self.assertEqual((m.play(new.trace), m.read(STAT)), (27, 0x8020))
         self.refused(17, salvage, trace[:9])
+
+
+def answer(m, line):
+    """A line of a script, answered as ./run answers it."""
+    try:
+        if re.match("W [0-9] [0-9A-F]{4}$", line):
+            m.write(int(line[2]), int(line[4:], 16))
+            return "OK"
+        if re.match("R [0-9]$", line):
+            return "%04X" % m.read(int(line[2]))
+        if line == "C":
+            m.clear()
+            return "OK"
+        if re.match("T [01]( [01])?$", line):
+            if not m.tick(*map(int, line[2:].split())):
+                return "N"
+        elif re.match("P [01] [01] [01]$", line):
+            m.pins(*map(int, line[2:].split()))
+        else:
+            return "E 9"
+    except Refused as refused:
+        return "E %d" % refused.number
+    seen = m.levels()
+    shown = [seen.sck] if line[0] == "T" else []
+    shown += [seen.sdo, seen.interrupt] + ([] if seen.ss is None else [seen.ss])
+    return " ".join("Z" if level is None else str(int(level)) for level in shown)
+
+
+class Scripts(Case):
+    """The scripts of examples/, line by line: what examples/README.md tells of them, and the traces that they are saved as."""
+
+    def test_answers(self):
+        told = (EXAMPLES / "README.md").read_text()
+        for script in sorted(EXAMPLES.glob("*.txt")):
+            lines = script.read_text().split("\n")
+            m = Module()
+            answers = {str(n): answer(m, line) for n, line in enumerate(lines[:-1] if not lines[-1] else lines, 1)}
+            wanted = re.search("^## %s$(.*?)^## " % re.escape(script.name), told, re.M | re.S).group(1)
+            wanted = dict(re.findall("^    ([0-9]+) (.*)$", wanted, re.M))
+            self.assertGreater(len(wanted), 3)
+            self.assertEqual({n: answers[n] for n in wanted}, wanted, script.name)
+            played = Module()
+            played.play(save(script.read_bytes()))
+            self.assertEqual([played.read(n) for n in range(3)], [m.read(n) for n in range(3)])
+            self.assertEqual(played.levels(), m.levels())
 
 
 class Boards(Case):
