@@ -1,5 +1,5 @@
-//! Links libthurafeqa.a. It is the one in the folder that THURAFEQA_LIB_DIR names; else that of target/lib in the repository, which
-//! `./library` proves and builds if it is missing or not built from the crates as they are.
+//! Links libthurafeqa.a. It is the one in the folder that THURAFEQA_LIB_DIR names, from here if the name is relative; else that of
+//! target/lib in the repository, which `./library` proves and builds if it is missing or not built from the crates as they are.
 
 use std::env;
 use std::path::{absolute, Path, PathBuf};

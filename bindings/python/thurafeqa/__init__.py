@@ -26,7 +26,8 @@ package, in target/lib of the repository, and where the system's loader looks.
 
 from typing import Tuple
 
-from ._native import CARD_FORMAT, FORMAT, VERSION, NoLibrary, library
+from ._native import CARD_FORMAT, FORMAT, VERSION, NoLibrary
+from ._native import library as _library
 from .card import *
 from .refusals import *
 from .registers import *
@@ -36,5 +37,5 @@ from .ti import *
 
 def version() -> Tuple[int, int, int]:
     """The version of the library: major, minor and patch numbers."""
-    number = library.thurafeqa_version()
+    number = _library.thurafeqa_version()
     return number >> 16, number >> 8 & 0xFF, number & 0xFF

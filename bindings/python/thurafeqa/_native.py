@@ -7,7 +7,7 @@ import platform
 import sys
 from ctypes import POINTER, Structure, c_double, c_size_t, c_uint16, c_uint32, c_uint64
 from pathlib import Path
-from typing import Any, Iterator, Tuple, Type, TypeVar
+from typing import Any, Iterator, Sequence, Tuple, Type, TypeVar
 
 from .refusals import Refused
 
@@ -178,7 +178,7 @@ def number(what: str, value: int, most: int = 0xFFFFFFFF) -> int:
 
 
 def level(value: object) -> int:
-    """A level: 0 or False is low, anything else is high."""
+    """A level: 0, False and None, as of a pin that is not driven, are low; anything else is high."""
     return 1 if value else 0
 
 
@@ -208,7 +208,7 @@ class Kept:
         return tuple(self._memory.memory)
 
     @classmethod
-    def from_words(cls: Type[Self], words: Any) -> Self:
+    def from_words(cls: Type[Self], words: Sequence[int]) -> Self:
         """From the numbers of :attr:`words`. Any numbers are safe; those of another format stand for something else."""
         kept = cls.__new__(cls)
         kept._memory = cls._layout()

@@ -70,7 +70,8 @@ class Module(Kept):
     Every call takes any module and ends. A refused call raises
     :class:`Refused` and has changed nothing; each method names the numbers of
     its refusals, in the order in which they are tested. Levels are bools, or
-    numbers of which 0 is low. A number that does not fit raises ValueError.
+    numbers of which 0 is low; None, which is told of a pin that is not driven,
+    is low where it is given. A number that does not fit raises ValueError.
     """
 
     _layout = SpiMemory
