@@ -20,6 +20,8 @@ static const struct {
     {"busy host, 16 bits, depth 16", "edge", 2000},
     {"tick and levels at every edge", "edge", 2000},
     {"clock steps, all levels looked at", "edge", 2000},
+    {"words of 16 bits, read and written", "edge", 2000},
+    {"words of 16 bits, the clock alone", "edge", 250},
     {"frame host, 16 bits", "edge", 2000},
     {"SSEN client, 8 bits", "edge", 4000},
     {"SSEN client, 16 bits, CKE 1", "edge", 2000},

@@ -63,6 +63,74 @@ static struct outcome stepped_host(uint32_t times)
     return busy(STEPS, times);
 }
 
+/* All 32 edges of a word, with SDI from a word: by the library in one call, in
+ * plain C by ticks, which do not look at SDO. */
+static inline uint32_t word_made(module *m, uint32_t word)
+{
+#ifdef LIBRARY
+    (void)thurafeqa_word(*m, 0, word);
+    return 32;
+#else
+    uint32_t made = 0;
+    int i;
+
+    for (i = 0; i < 16; i++) {
+        uint32_t level = word >> (15 - i) & 1;
+        made += tick(m, level, 0);
+        made += tick(m, level, 0);
+    }
+    return made;
+#endif
+}
+
+/* The busy host by words at a time. */
+static struct outcome host_words(uint32_t times)
+{
+    struct outcome o = {0, 0};
+    uint32_t seed = 1;
+    module m;
+    int i;
+
+    START(m, MSTEN | MODE16);
+    for (i = 0; i < 5; i++)
+        o.sum = mixed(o.sum, write_register(OF(m), BUF, seed = next(seed)));
+    while (times-- > 0) {
+        seed = next(seed);
+        o.units += word_made(&m, seed & 0xFFFF);
+        o.sum = mixed(o.sum, read_register(OF(m), BUF));
+        o.sum = mixed(o.sum, write_register(OF(m), BUF, seed >> 7));
+    }
+    o.sum = SEEN(m, o.sum);
+    return o;
+}
+
+/* The eight words that wait in a host and the one that is loaded, one behind the
+ * other, again and again: the host is copied before them. */
+static struct outcome words_alone(uint32_t times)
+{
+    struct outcome o = {0, 0};
+    uint32_t seed = 1;
+    struct kept {
+        module m;
+    } host, now;
+    int i;
+
+    START(host.m, MSTEN | MODE16);
+    for (i = 0; i < 9; i++)
+        o.sum = mixed(o.sum, write_register(OF(host.m), BUF, seed = next(seed)));
+    now = host;
+    while (times-- > 0) {
+        now = host;
+        for (i = 0; i < 9; i++) {
+            seed = next(seed);
+            o.units += word_made(&now.m, seed & 0xFFFF);
+        }
+    }
+    o.sum = mixed(o.sum, read_register(OF(now.m), BUF));
+    o.sum = SEEN(now.m, o.sum);
+    return o;
+}
+
 /* A busy host whose buffers hold 16 words, with twelve waiting throughout. */
 static struct outcome deep_host(uint32_t times)
 {
@@ -362,6 +430,7 @@ static struct outcome trace_salvaged(uint32_t times)
 
 const struct side EITHER(library_side, plain_side) = {
     EITHER("library", "plain C"),
-    {busy_host, deep_host, watched_host, stepped_host, frame_host, client_8,
+    {busy_host, deep_host, watched_host, stepped_host,
+     host_words, words_alone, frame_host, client_8,
      client_16, linked_pair, registers, trace_played, trace_long,
      trace_salvaged}};

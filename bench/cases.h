@@ -16,6 +16,8 @@ enum {
     DEEP_HOST,
     WATCHED_HOST,
     STEPPED_HOST,
+    HOST_WORDS,
+    WORDS_ALONE,
     FRAME_HOST,
     CLIENT_8,
     CLIENT_16,

@@ -16,6 +16,7 @@ uint32_t thurafeqa_tick(uint16_t *m, uint32_t sdi, uint32_t ss);
 uint32_t thurafeqa_pins(uint16_t *m, uint32_t sck, uint32_t sdi, uint32_t ss);
 uint32_t thurafeqa_clock_step(uint16_t *m, uint32_t sck, uint32_t sdi,
                               uint32_t ss);
+uint32_t thurafeqa_word(uint16_t *m, uint32_t ss, uint32_t word);
 void thurafeqa_clear(uint16_t *m);
 uint32_t thurafeqa_levels(const uint16_t *m);
 uint32_t thurafeqa_linked(uint16_t *host, uint16_t *client, uint32_t limit);

@@ -85,7 +85,7 @@ pub mod register {
 
 /// The version of this file: major, minor and patch numbers. [`version`] tells the library's.
 #[allow(dead_code)]
-pub const VERSION: (u8, u8, u8) = (6, 1, 1);
+pub const VERSION: (u8, u8, u8) = (6, 2, 0);
 
 /// The format of a module's words. It rises wherever their meaning changes, so save it beside them.
 #[allow(dead_code)]
@@ -116,6 +116,8 @@ unsafe extern "C" {
     safe fn thurafeqa_clock_step(m: &mut Module, sck: u32, sdi: u32, ss: u32) -> u32;
     safe fn thurafeqa_tick(m: &mut Module, sdi: u32, ss: u32) -> u32;
     safe fn thurafeqa_pins(m: &mut Module, sck: u32, sdi: u32, ss: u32) -> u32;
+    safe fn thurafeqa_word(m: &mut Module, ss: u32, word: u32) -> u32;
+    safe fn thurafeqa_next(m: &Module) -> u32;
     safe fn thurafeqa_clear(m: &mut Module);
     safe fn thurafeqa_levels(m: &Module) -> u32;
     safe fn thurafeqa_linked(host: &mut Module, client: &mut Module, limit: u32) -> u32;
@@ -275,6 +277,17 @@ pub enum Ss {
     High,
     /// It is not driven.
     Undriven,
+}
+
+/// What a word at a time tells.
+#[derive(Clone, Copy, Debug, PartialEq, Eq)]
+pub struct Word {
+    /// Whether anything was done. It is not where a host's own clock stands still, unframed and with nothing to send.
+    pub done: bool,
+    /// The levels that SDO has, or would have if it were driven, at the edges that sample: the first is the highest bit.
+    pub levels: u16,
+    /// How many levels there are: 0 where nothing was clocked.
+    pub count: u8,
 }
 
 /// What a clock step tells, of every module alike: done or no edge, and what is seen after it.
@@ -479,6 +492,25 @@ impl Module {
     /// Refused: `Disabled`, `WrongClock`.
     pub fn pins(&mut self, sck: bool, sdi: bool, ss: bool) -> Result<(), Refusal> {
         done(thurafeqa_pins(self, sck.into(), sdi.into(), ss.into()))
+    }
+
+    /// A word at a time: all clock steps that the word under way still takes, or else the next word. At the edges that sample, SDI has the low
+    /// bits of `word`, as many as are still to come. A module that is clocked from its pin sees SCK go to its other level for each
+    /// edge; one that is not selected, or has nothing to send and sends no zeros, sees its levels once. A framed module makes one edge,
+    /// with the lowest bit.
+    ///
+    /// Refused: `Disabled`.
+    pub fn word(&mut self, ss: bool, word: u16) -> Result<Word, Refusal> {
+        let answer = thurafeqa_word(self, ss.into(), word.into());
+        value(answer & 0xFF_0000)?;
+        Ok(Word { done: answer >> 29 & 1 == 0, levels: answer as u16, count: (answer >> 24 & 31) as u8 })
+    }
+
+    /// The word that would go out next: the one under way, the one loaded, or the first that waits in a client with SSEN. Never
+    /// refused.
+    pub fn next_word(&self) -> Option<u16> {
+        let next = thurafeqa_next(self);
+        (next & 0x1_0000 != 0).then_some(next as u16)
     }
 
     /// Clocks a host with its own clock until it has no more to send, or for `most` edges: how many were made? `wire` is what

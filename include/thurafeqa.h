@@ -69,8 +69,8 @@ extern "C" {
  * must have the same major number, and the library's minor number must not be
  * lower. */
 #define THURAFEQA_VERSION_MAJOR 6u
-#define THURAFEQA_VERSION_MINOR 1u
-#define THURAFEQA_VERSION_PATCH 1u
+#define THURAFEQA_VERSION_MINOR 2u
+#define THURAFEQA_VERSION_PATCH 0u
 #define THURAFEQA_VERSION                                                      \
     (THURAFEQA_VERSION_MAJOR << 16 | THURAFEQA_VERSION_MINOR << 8 |            \
      THURAFEQA_VERSION_PATCH)
@@ -292,6 +292,35 @@ uint32_t thurafeqa_tick(thurafeqa *m, uint32_t sdi, uint32_t ss);
  * and for a frame client. The answer's value is 0.
  * Refusals: 2, then 7 (a host with its own clock). */
 uint32_t thurafeqa_pins(thurafeqa *m, uint32_t sck, uint32_t sdi, uint32_t ss);
+
+/* A word at a time, for a port that has no use for single edges: all clock
+ * steps that the word under way still takes, or else the next word, in one
+ * call. The module is then as those steps leave it: the word has finished, and
+ * the next one is loaded. At the edges that sample, SDI has the low bits of
+ * `word`, as many as are still to come, the highest first; and the answer has
+ * the levels that SDO has there, or would have if it were driven.
+ * A module that is clocked from its pin sees SCK go to its other level for each
+ * edge, and SS as given, with an edge to the idle level first where SCK stands
+ * active and nothing is begun; under SSEN with SS high, and as a host under
+ * DISSCK with nothing to send, it sees its levels once, with SCK as it was. A
+ * framed module makes one edge, with bit 0 of `word`, and tells one level. An
+ * unframed host with its own clock and nothing to send has no edge to make.
+ * The answer is read by the names below. Refusal: 2. */
+uint32_t thurafeqa_word(thurafeqa *m, uint32_t ss, uint32_t word);
+
+#define THURAFEQA_WORD_LEVELS(answer) ((answer) & 0xFFFFu)
+#define THURAFEQA_WORD_COUNT(answer) ((answer) >> 24 & 31u) /* how many levels */
+#define THURAFEQA_WORD_NO_EDGE(answer) ((answer) >> 29 & 1u)
+#define THURAFEQA_WORD_REFUSAL(answer) ((answer) >> 16 & 0xFFu) /* 0 or 2 */
+
+/* The word that would go out next: the one under way, the one loaded, or the
+ * first that waits in a client under SSEN. With THURAFEQA_NEXT_WORD set there
+ * is one, and it is the lower 16 bits; a module that would send zeros for want
+ * of a word, or nothing, answers 0. So a device can look at a word before its
+ * bits are clocked. Never refused. */
+uint32_t thurafeqa_next(const thurafeqa *m);
+
+#define THURAFEQA_NEXT_WORD 0x10000u
 
 /* Clears the interrupt flag, which nothing else does but power-up. Never
  * refused. */

@@ -61,6 +61,20 @@ class OneModule(Case):
         m.clear()
         self.assertFalse(m.interrupt)
 
+    def test_a_word_at_a_time(self):
+        m = Module()
+        self.assertRaises(Refused, m.word, 0)
+        m.write(CON1, CON1_MSTEN)
+        m.write(STAT, STAT_SPIEN)
+        self.assertEqual((m.next_word, m.word(0x3C)), (None, (False, 0, 0)))
+        m.write(BUF, 0xA5)
+        m.write(BUF, 0x40)
+        for _ in range(3):
+            m.clock_step(sdi=True)
+        self.assertEqual((m.next_word, m.word(0xFF95)), (0xA5, (True, 0x25, 7)))
+        self.assertEqual((m.interrupt, m.next_word, m.read(BUF)), (True, 0x40, 0x95))
+        self.assertEqual((m.word(0x3C), m.read(BUF), m.next_word), ((True, 0x40, 8), 0x3C, None))
+
     def test_refusals_of_each_call(self):
         m = Module()
         self.refused(1, m.read, 4)

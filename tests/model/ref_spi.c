@@ -728,6 +728,58 @@ int ref_step(struct ref_spi *m, int sck, int sdi, int ss)
     return ref_pins(m, sck, sdi, ss);
 }
 
+/* ---- A word at a time ------------------------------------------------- */
+
+/* One step after the other, as a bench with a clock and a switch at each pin
+ * would make them, until the word is through. Where nothing is to be clocked,
+ * one step with the clock as it stands; with frames, one edge. */
+int ref_word(struct ref_spi *m, int ss, unsigned word, unsigned *levels,
+             int *count)
+{
+    int to_come, edges;
+
+    *levels = 0;
+    *count = 0;
+    if (m->spien && m->frmen) {
+        *levels = (unsigned)m->sdo;
+        *count = 1;
+        return ref_step(m, !m->sck, (int)(word & 1u), ss);
+    }
+    if ((!m->msten && m->ssen && ss) || (m->msten && !m->loaded && !m->begun))
+        return ref_step(m, m->sck, (int)(word & 1u), ss);
+    if (!m->spien)
+        return ref_step(m, !m->sck, (int)(word & 1u), ss);
+
+    if (!m->begun && m->sck != m->ckp)
+        (void)ref_step(m, !m->sck, 0, ss);
+    to_come = width(m) - (m->begun ? m->in_count : 0);
+    for (edges = m->begun ? m->edges : 0; edges < 2 * width(m); edges++) {
+        /* edge 1 is odd; without CKE the even ones sample, with it the odd */
+        int samples = edges % 2 == (m->cke ? 0 : 1);
+        int level = 0;
+
+        if (samples) {
+            level = (int)(word >> --to_come & 1u);
+            *levels = *levels << 1 | (unsigned)m->sdo;
+            ++*count;
+        }
+        (void)ref_step(m, !m->sck, level, ss);
+    }
+    return 0;
+}
+
+/* The word that goes out next; -1 if none would. */
+int ref_next(const struct ref_spi *m)
+{
+    if (!m->spien || (m->begun && m->filler))
+        return -1;
+    if (m->loaded)
+        return (int)m->loaded_word;
+    if (!m->frmen && !m->msten && m->ssen && m->tx.n > 0)
+        return (int)m->tx.word[0];
+    return -1;
+}
+
 /* ---- Two modules on one wire ----------------------------------------- */
 
 /* What the other end reads: a pin that is let go counts as low. */

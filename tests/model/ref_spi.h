@@ -74,6 +74,12 @@ int ref_pins(struct ref_spi *m, int sck, int sdi, int ss);
 int ref_step(struct ref_spi *m, int sck, int sdi, int ss);
 void ref_clear(struct ref_spi *m);
 
+/* All steps of a word, with SDI from `word`: the levels of SDO where it is
+ * sampled, the first highest, and how many. Answers as its first step does. */
+int ref_word(struct ref_spi *m, int ss, unsigned word, unsigned *levels,
+             int *count);
+int ref_next(const struct ref_spi *m); /* the word that goes out next, or -1 */
+
 /* What can be seen from outside without changing anything. */
 int ref_flag(const struct ref_spi *m);
 int ref_sck(const struct ref_spi *m);

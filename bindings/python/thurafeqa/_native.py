@@ -11,7 +11,7 @@ from typing import Any, Iterator, Sequence, Tuple, Type, TypeVar
 
 from .refusals import Refused
 
-VERSION = (6, 1, 1)  # of this package; version() tells the library's
+VERSION = (6, 2, 0)  # of this package; version() tells the library's
 FORMAT = 4  # of a module's memory
 CARD_FORMAT = 1  # of a card's
 
@@ -57,6 +57,8 @@ CALLS = {
     "thurafeqa_clock_step": (c_uint32, _spi, c_uint32, c_uint32, c_uint32),
     "thurafeqa_tick": (c_uint32, _spi, c_uint32, c_uint32),
     "thurafeqa_pins": (c_uint32, _spi, c_uint32, c_uint32, c_uint32),
+    "thurafeqa_word": (c_uint32, _spi, c_uint32, c_uint32),
+    "thurafeqa_next": (c_uint32, _spi),
     "thurafeqa_clear": (None, _spi),
     "thurafeqa_levels": (c_uint32, _spi),
     "thurafeqa_linked": (c_uint32, _spi, _spi, c_uint32),

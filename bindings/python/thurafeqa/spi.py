@@ -5,7 +5,7 @@ from typing import Any, Callable, List, NamedTuple, Optional, Tuple, Union
 
 from ._native import FORMAT, ClockReport, Kept, SpiMemory, level, library, number, value
 
-__all__ = ["Board", "Clock", "Levels", "Module", "Salvaged", "Step", "salvage", "save"]
+__all__ = ["Board", "Clock", "Levels", "Module", "Salvaged", "Step", "Word", "salvage", "save"]
 
 Bytes = Union[bytes, bytearray, memoryview]
 
@@ -31,6 +31,17 @@ class Step(NamedTuple):
     sck: bool
     sdo: Optional[bool]
     ss: Optional[bool]
+
+
+class Word(NamedTuple):
+    """What a word at a time tells."""
+
+    done: bool
+    """False where a host's own clock stands still, unframed and with nothing to send."""
+    levels: int
+    """The levels that SDO has, or would have, at the edges that sample: the first is the highest bit."""
+    count: int
+    """How many levels there are: 0 where nothing was clocked."""
 
 
 class Clock(NamedTuple):
@@ -138,6 +149,26 @@ class Module(Kept):
         Refused: 2, 7.
         """
         value(library.thurafeqa_pins(self._memory, level(sck), level(sdi), level(ss)))
+
+    def word(self, word: int, ss: object = False) -> Word:
+        """A word at a time: all clock steps that the word under way still takes, or else the next word.
+
+        At the edges that sample, SDI has the low bits of `word`, as many as
+        are still to come. A module that is clocked from its pin sees SCK go to
+        its other level for each edge. A framed module makes one edge, with the
+        lowest bit.
+
+        Refused: 2.
+        """
+        answer = library.thurafeqa_word(self._memory, level(ss), number("the word", word, 0xFFFF))
+        value(answer & 0xFF0000)
+        return Word(not answer >> 29 & 1, answer & 0xFFFF, answer >> 24 & 31)
+
+    @property
+    def next_word(self) -> Optional[int]:
+        """The word that would go out next, or None: the one under way, the one loaded, or the first that waits in a client with SSEN."""
+        answer = library.thurafeqa_next(self._memory)
+        return answer & 0xFFFF if answer & 0x10000 else None
 
     def run(self, wire: Callable[[Levels], object], most: int = 544) -> int:
         """Clocks a host with its own clock until it has no more to send, or for `most` edges: how many were made?

@@ -2,7 +2,7 @@
 
 use thurafeqa::card::{self, Card, Protocol};
 use thurafeqa::register::*;
-use thurafeqa::{salvage, save, Board, Clock, Module, Refusal, Salvaged, Sdo, Ss, Step, Ti, TiMode};
+use thurafeqa::{salvage, save, Board, Clock, Module, Refusal, Salvaged, Sdo, Ss, Step, Ti, TiMode, Word};
 
 fn enabled(con1: u16) -> Module {
     let mut m = Module::new();
@@ -28,6 +28,23 @@ fn the_file_and_the_library_fit() {
     assert_eq!(thurafeqa::FORMAT, thurafeqa::format());
     let [major, minor, patch] = [ours.0, ours.1, ours.2];
     assert_eq!(env!("CARGO_PKG_VERSION"), format!("{major}.{minor}.{patch}"));
+}
+
+#[test]
+fn a_word_at_a_time_is_its_clock_steps() {
+    let mut m = enabled(CON1_MSTEN);
+    assert_eq!((m.next_word(), m.word(false, 0x3C)), (None, Ok(Word { done: false, levels: 0, count: 0 })));
+    m.write(BUF, 0xA5).unwrap();
+    m.write(BUF, 0x40).unwrap();
+    for _ in 0..3 {
+        m.clock_step(false, true, false).unwrap();
+    }
+    assert_eq!(m.next_word(), Some(0xA5));
+    assert_eq!(m.word(false, 0xFF95), Ok(Word { done: true, levels: 0x25, count: 7 }));
+    assert_eq!((m.interrupt(), m.next_word(), m.read(BUF)), (true, Some(0x40), Ok(0x95)));
+    assert_eq!(m.word(false, 0x3C), Ok(Word { done: true, levels: 0x40, count: 8 }));
+    assert_eq!((m.read(BUF), m.next_word()), (Ok(0x3C), None));
+    assert_eq!(Module::new().word(false, 0), Err(Refusal::Disabled));
 }
 
 #[test]

@@ -7,6 +7,8 @@ use spi_trace_rules::Played;
 ghost use Prim.Native.Nat.{_%_};
 ghost use mathlib.Core.Path.{_≡_};
 ghost use Rattle.spi_rules.specs.Calls.{poweredUp, powerUpOf, readOf, writeOf, tickOf, pinsOf, clockStepOf, clearOf};
+ghost use Rattle.spi_word_rules.specs.Word.{wordOf};
+ghost use Rattle.spi_word.specs.Speaking.{WordTells, nextNumber};
 ghost use Rattle.spi_link_rules.specs.Link.{linkedOf};
 ghost use Rattle.spi_clock_rules.specs.Clock.{reportOf, saidClock};
 ghost use Rattle.spi_memory.specs.Memory.{moduleIn};
@@ -79,6 +81,23 @@ pub extern "C" fn thurafeqa_pins(w: &mut [u16; 96], sck: u32, sdi: u32, ss: u32)
         return 0;
     }
     spi_numbers::pins(w, sck != 0, sdi != 0, ss != 0)
+}
+
+// A word at a time: all clock steps that the word under way, or the next one, still takes, with SDI from the low 16 bits of `word`, and the
+// levels of SDO where it is sampled. A module with no word, and a framed one, makes one step.
+#[no_mangle]
+pub extern "C" fn thurafeqa_word(w: &mut [u16; 96], ss: u32, word: u32) -> u32
+    ensures { λ r. ⌜ WordTells (wordOf (moduleIn (now (w .entry))) (levelIn ss) (word % 65536)) r (now (w .entry)) (now (w .exit)) ⌝ }
+{
+    spi_word::told(w, ss != 0, (word % 65536) as u16)
+}
+
+// The word that would go out next, with bit 16 set; 0 if there is none.
+#[no_mangle]
+pub extern "C" fn thurafeqa_next(w: &[u16; 96]) -> u32
+    ensures { λ r. ⌜ r ≡ nextNumber (moduleIn (now (w .entry))) ⌝ }
+{
+    spi_word::next(w)
 }
 
 // Clears the interrupt flag.
@@ -232,7 +251,7 @@ pub extern "C" fn thurafeqa_salvage(file: &[u8], salvaged: &mut [u8]) -> u64
 pub extern "C" fn thurafeqa_version() -> u32
     ensures { λ r. ⌜ r ≡ versionNumber ⌝ }
 {
-    393473
+    393728
 }
 
 // The number of the memory's format: it rises wherever the meaning of the 96 numbers changes.

@@ -1,0 +1,2 @@
+-- A word call in memory.
+pub mod Speaking

@@ -1,0 +1,3 @@
+-- A word at a time.
+pub mod Word
+pub mod WordExamples
