@@ -118,6 +118,8 @@ unsafe extern "C" {
     safe fn thurafeqa_pins(m: &mut Module, sck: u32, sdi: u32, ss: u32) -> u32;
     safe fn thurafeqa_word(m: &mut Module, ss: u32, word: u32) -> u32;
     safe fn thurafeqa_next(m: &Module) -> u32;
+    safe fn thurafeqa_edges_owed(m: &Module) -> u32;
+    safe fn thurafeqa_words_owed(m: &Module) -> u32;
     safe fn thurafeqa_clear(m: &mut Module);
     safe fn thurafeqa_levels(m: &Module) -> u32;
     safe fn thurafeqa_linked(host: &mut Module, client: &mut Module, limit: u32) -> u32;
@@ -511,6 +513,17 @@ impl Module {
     pub fn next_word(&self) -> Option<u16> {
         let next = thurafeqa_next(self);
         (next & 0x1_0000 != 0).then_some(next as u16)
+    }
+
+    /// The edges that an unframed host with its own clock still makes until it is idle, so that a scheduler can skip so many half
+    /// bit times: 0 where it is idle, and of any other module. Never refused.
+    pub fn edges_owed(&self) -> u32 {
+        thurafeqa_edges_owed(self)
+    }
+
+    /// The words that were accepted and are not finished, as a board counts them. Never refused.
+    pub fn words_owed(&self) -> u32 {
+        thurafeqa_words_owed(self)
     }
 
     /// Clocks a host with its own clock until it has no more to send, or for `most` edges: how many were made? `wire` is what

@@ -322,6 +322,13 @@ uint32_t thurafeqa_next(const thurafeqa *m);
 
 #define THURAFEQA_NEXT_WORD 0x10000u
 
+/* The edges that an unframed host with its own clock still makes until it is
+ * idle, so that a scheduler can skip so many half bit times: 0 where it is
+ * idle, and of any other module. And the words that were accepted and are not
+ * finished, of any module, as a board counts them. Never refused. */
+uint32_t thurafeqa_edges_owed(const thurafeqa *m);
+uint32_t thurafeqa_words_owed(const thurafeqa *m);
+
 /* Clears the interrupt flag, which nothing else does but power-up. Never
  * refused. */
 void thurafeqa_clear(thurafeqa *m);

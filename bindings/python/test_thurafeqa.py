@@ -71,7 +71,9 @@ class OneModule(Case):
         m.write(BUF, 0x40)
         for _ in range(3):
             m.clock_step(sdi=True)
+        self.assertEqual((m.edges_owed, m.words_owed), (29, 2))
         self.assertEqual((m.next_word, m.word(0xFF95)), (0xA5, (True, 0x25, 7)))
+        self.assertEqual((m.edges_owed, m.words_owed), (16, 1))
         self.assertEqual((m.interrupt, m.next_word, m.read(BUF)), (True, 0x40, 0x95))
         self.assertEqual((m.word(0x3C), m.read(BUF), m.next_word), ((True, 0x40, 8), 0x3C, None))
 

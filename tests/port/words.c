@@ -6,7 +6,7 @@
  * Each module is set up at random (depth, width, mode, role, frames), gets words
  * to send, and is clocked by single steps between the word calls, so that these
  * come at every edge of a word. After each call both must tell the same, show
- * the same registers and levels, and have the same word next. It fails too if a
+ * the same registers and levels, have the same word next, and owe the same. It fails too if a
  * role, a width, a depth or an edge was never met.
  * Exit 0: no difference, and all met. Exit 1: a difference, or something was
  * not met; it is printed. Exit 2: bad usage. */
@@ -34,6 +34,24 @@ struct side {
     struct ref_spi model;
 };
 
+/* The words that the model has accepted and not finished: those queued, and
+ * one that has left the queue. */
+static uint32_t words_owed(const struct ref_spi *m)
+{
+    return (uint32_t)(m->tx.n + m->loaded);
+}
+
+/* The edges that it makes until it is idle, as an unframed host with a clock of
+ * its own. */
+static uint32_t edges_owed(const struct ref_spi *m)
+{
+    uint32_t each = m->mode16 ? 32 : 16;
+
+    if (!m->spien || m->frmen || !m->msten || m->dissck)
+        return 0;
+    return each * words_owed(m) - (m->begun ? (uint32_t)m->edges : 0u);
+}
+
 /* What is seen of both without changing them: all registers, by copies, the
  * levels, and the word that goes next. */
 static int alike(const struct side *s)
@@ -53,6 +71,9 @@ static int alike(const struct side *s)
         return 0;
     }
     if (next != (out < 0 ? 0u : THURAFEQA_NEXT_WORD | (uint32_t)out))
+        return 0;
+    if (thurafeqa_edges_owed(&a) != edges_owed(&b) ||
+        thurafeqa_words_owed(&a) != words_owed(&b))
         return 0;
     for (r = 0; r < 4; r++) {
         unsigned value = 0;

@@ -59,6 +59,8 @@ CALLS = {
     "thurafeqa_pins": (c_uint32, _spi, c_uint32, c_uint32, c_uint32),
     "thurafeqa_word": (c_uint32, _spi, c_uint32, c_uint32),
     "thurafeqa_next": (c_uint32, _spi),
+    "thurafeqa_edges_owed": (c_uint32, _spi),
+    "thurafeqa_words_owed": (c_uint32, _spi),
     "thurafeqa_clear": (None, _spi),
     "thurafeqa_levels": (c_uint32, _spi),
     "thurafeqa_linked": (c_uint32, _spi, _spi, c_uint32),

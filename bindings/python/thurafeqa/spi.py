@@ -170,6 +170,16 @@ class Module(Kept):
         answer = library.thurafeqa_next(self._memory)
         return answer & 0xFFFF if answer & 0x10000 else None
 
+    @property
+    def edges_owed(self) -> int:
+        """The edges that an unframed host with its own clock still makes until it is idle; 0 of any other module."""
+        return library.thurafeqa_edges_owed(self._memory)
+
+    @property
+    def words_owed(self) -> int:
+        """The words that were accepted and are not finished, as a board counts them."""
+        return library.thurafeqa_words_owed(self._memory)
+
     def run(self, wire: Callable[[Levels], object], most: int = 544) -> int:
         """Clocks a host with its own clock until it has no more to send, or for `most` edges: how many were made?
 

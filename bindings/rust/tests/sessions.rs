@@ -39,7 +39,7 @@ fn a_word_at_a_time_is_its_clock_steps() {
     for _ in 0..3 {
         m.clock_step(false, true, false).unwrap();
     }
-    assert_eq!(m.next_word(), Some(0xA5));
+    assert_eq!((m.next_word(), m.edges_owed(), m.words_owed()), (Some(0xA5), 29, 2));
     assert_eq!(m.word(false, 0xFF95), Ok(Word { done: true, levels: 0x25, count: 7 }));
     assert_eq!((m.interrupt(), m.next_word(), m.read(BUF)), (true, Some(0x40), Ok(0x95)));
     assert_eq!(m.word(false, 0x3C), Ok(Word { done: true, levels: 0x40, count: 8 }));

@@ -1,17 +1,20 @@
 -- A word call in memory, by what its code has looked up and stored.
 --     left-least                a bit is left where the next edge samples
 --     taken-level, kept-level   the levels of SDO, if that edge samples and if not
+--     sampled-sum               the bits that are sampled
 --     word-made                 the values stored are those of the closed form
 --     speaks, speaks-as         what is told then
 --     off-none, framed-none, rests-none, by-edges, short-here   whether there is a word
 --     stepped-so                one step
 --     told-so                   the number that is told
 --     next-off, next-none, next-filler, next-word   the word that would go out next
+--     owes-none, owes-some, owed-fits   the edges owed
 -- Assumes nothing.
-use Prim.Native.Nat.{ℕ, suc, _+_, _*_, _-_, _%_, _^_, _<_, _≤_}
+use Prim.Native.Nat.{ℕ, suc, _+_, _*_, _-_, _/_, _%_, _^_, _<_, _≤_}
 use mathlib.Core.Bool.{Bool, true, false, not, _&&_}
 use mathlib.Core.List.{List}
 use mathlib.Core.Path.{_≡_, refl, sym, ap, subst, _∙_}
+use native.Mathlib.Nat.{mul-le-mul}
 use native.Mathlib.Omega.{arith}
 use mir.Val.{boolByte}
 use lib.Dec.{ltb}
@@ -27,14 +30,15 @@ use Rattle.spi_types.specs.declared.Answer.the-variants.{Done}
 use Rattle.spi_rules.specs.Changes.{withSck, withSdo}
 use Rattle.word_order.specs.Bits.{bitOf}
 use Rattle.spi_types.specs.declared.Outcome.{Outcome}
-use Rattle.spi_rules.specs.Settings.{framed, silent, ckeOf}
+use Rattle.spi_rules.specs.Settings.{widthOf, framed, silent, ckeOf, ownClock}
 use Rattle.spi_rules.specs.Registers.{isFree}
 use Rattle.spi_rules.specs.Bits.{samples}
+use Rattle.spi_rules.specs.Invariant.{sampled}
 use Rattle.spi_rules.specs.Finish.{finished}
 use Rattle.spi_rules.specs.Edge.{wordEdges, clocked}
 use Rattle.spi_word_rules.specs.declared.Worded.{Worded}
 use Rattle.spi_rules.specs.Calls.{clockStepOf, performOf}
-use Rattle.spi_word_rules.specs.Word.{current, resting, hasWord, idleFirst, bitsLeft, levelOn, stepLevel, oneStep, wordOf, sendsNext}
+use Rattle.spi_word_rules.specs.Word.{current, resting, hasWord, idleFirst, bitsLeft, levelOn, stepLevel, oneStep, wordOf, sendsNext, wordsIn, edgesIn, edgesOwed}
 use Rattle.spi_word_rules.proofs.Closed.{behind, lastSck, lastSdo, allLevels, wordMade, remembered, readied}
 use Rattle.spi_word_rules.proofs.Values.{fewer, as-many}
 use Rattle.spi_word_rules.proofs.WordHolds.{started, whole-word}
@@ -62,6 +66,12 @@ module _ (s : Settings) (p : Progress) (left : ℕ) (is : left ≡ bitsLeft s (p
       ap (λ (j : ℕ). 0 * 2 ^ j + p .word % 2 ^ j) (is ∙ sym (as-many s (p .edges) short e))
       ∙ ap (λ (x : ℕ). x * 2 ^ bitsLeft s (p .edges + 1) + p .word % 2 ^ bitsLeft s (p .edges + 1))
       (sym (if-false (samples (ckeOf s) (p .edges + 1)) _ _ e))
+
+-- How many bits are sampled, without a choice.
+pub sampled-sum : (cke : Bool) (k : ℕ) → (k + boolByte cke) / 2 ≡ sampled cke k
+unfolding sampled if_then_else_
+sampled-sum true k = refl
+sampled-sum false k = omega arith
 
 -- SDO stands where the word begins.
 sdo-stands : (s : Settings) (ss : Bool) (n : Engine) → readied s ss n .pins .sdo ≡ n .pins .sdo
@@ -213,3 +223,18 @@ module _ (s : Settings) (n : Engine) where
       65536 + current s n .word ≡ nextNumber here
   unfolding nextNumber sendsNext
   next-word on goes word = so _ _ _ (and-both _ _ on (and-both _ _ (ap not goes) (ap not word))) refl
+
+-- The edges owed.
+module _ (s : Settings) (n : Engine) where
+  pub owes-none : (s .spien && (ownClock s && not (framed s))) ≡ false → 0 ≡ edgesOwed (record { settings = s; engine = n })
+  unfolding edgesOwed
+  owes-none other = not-so _ _ _ other refl
+
+  pub owes-some : {width words given : ℕ} → (s .spien && (ownClock s && not (framed s))) ≡ true → width ≡ widthOf s →
+      words ≡ wordsIn (n .shift) + n .transmit .count → given ≡ edgesIn (n .shift) →
+      2 * width * words - given ≡ edgesOwed (record { settings = s; engine = n })
+  unfolding edgesOwed
+  owes-some host bits all gone = so _ _ _ host (rw (bits, all, gone))
+
+pub owed-fits : (width words : ℕ) → width ≤ 16 → words ≤ 256 → 2 * width * words ≤ 8192
+owed-fits width words few some = mul-le-mul {n₂ = 32} {m₂ = 256} (omega arith) some

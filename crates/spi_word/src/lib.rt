@@ -9,9 +9,8 @@ ghost use mathlib.Core.Bool.{true, false};
 ghost use mathlib.Core.Path.{_≡_};
 ghost use Rattle.spi_types.specs.declared.Shift.the-variants.{Free};
 ghost use Rattle.spi_rules.specs.Edge.{wordEdges};
-ghost use Rattle.spi_rules.specs.Invariant.{sampled};
 ghost use Rattle.spi_memory.specs.Memory.{settingsIn, engineIn, moduleIn, Steps};
-ghost use Rattle.spi_word_rules.specs.Word.{current, resting, hasWord, idleFirst, bitsLeft, stepLevel, oneStep, wordOf};
+ghost use Rattle.spi_word_rules.specs.Word.{current, resting, hasWord, idleFirst, bitsLeft, stepLevel, oneStep, wordOf, wordsIn, edgesIn, edgesOwed};
 ghost use Rattle.spi_word_rules.proofs.Closed.{lastSdo, allLevels, remembered, readied};
 ghost use Rattle.spi_word.specs.Speaking.{Speaks, wordNumber, WordTells, nextNumber};
 
@@ -22,21 +21,12 @@ pub struct Spoken {
     pub levels: u32,
 }
 
-// The bits of a word that are sampled after so many edges, and those that are not.
-fn sampled_by(cke: bool, edges: u8) -> u16
-    ensures { λ r. ⌜ r ≡ sampled cke edges ⌝ }
-{
-    if cke {
-        return (edges as u16 + 1) / 2;
-    }
-    edges as u16 / 2
-}
-
+// The bits of a word that are not sampled after so many edges.
 fn bits_left(s: Settings, edges: u8) -> u8
     ensures { λ r. ⌜ (r ≡ bitsLeft s edges) × (r ≤ 16) ⌝ }
 {
     let w = spi_settings::width(s);
-    let gone = sampled_by(spi_settings::cke(s), edges);
+    let gone = (edges as u16 + spi_settings::cke(s) as u16) / 2;
     if gone < w as u16 {
         return w - gone as u8;
     }
@@ -285,4 +275,47 @@ pub fn next(w: &[u16; 96]) -> u32
         return 0;
     }
     65536 + p.word as u32
+}
+
+// The edges that an unframed host with its own clock still makes until it is idle.
+fn words_in(shift: Shift) -> u32
+    ensures { λ r. ⌜ (r ≡ wordsIn shift) × (r ≤ 1) ⌝ }
+{
+    match shift {
+        Shift::Free => 0,
+        Shift::Loaded(_) => 1,
+        Shift::Begun(p) => {
+            if p.filler {
+                return 0;
+            }
+            1
+        }
+    }
+}
+
+fn edges_in(shift: Shift) -> u32
+    ensures { λ r. ⌜ (r ≡ edgesIn shift) × (r ≤ 255) ⌝ }
+{
+    match shift {
+        Shift::Free => 0,
+        Shift::Loaded(_) => 0,
+        Shift::Begun(p) => p.edges as u32,
+    }
+}
+
+pub fn edges_owed(w: &[u16; 96]) -> u32
+    ensures { λ r. ⌜ r ≡ edgesOwed (moduleIn (now (w .entry))) ⌝ }
+{
+    let s = spi_memory::settings_in(w);
+    let shift = spi_memory::shift_in(w);
+    if !(s.spien & (spi_settings::own_clock(s) & !spi_settings::is_framed(s))) {
+        return 0;
+    }
+    let words = words_in(shift) + spi_memory::waiting_in(w) as u32;
+    let all = 2 * spi_settings::width(s) as u32 * words;
+    let given = edges_in(shift);
+    if all < given {
+        return 0;
+    }
+    all - given
 }

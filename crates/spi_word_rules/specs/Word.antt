@@ -17,7 +17,7 @@ use Rattle.spi_types.specs.declared.Shift.the-variants.{Free, Loaded, Begun}
 use Rattle.spi_types.specs.declared.Answer.the-variants.{Done}
 use Rattle.spi_types.specs.declared.Call.{Call}
 use Rattle.spi_types.specs.declared.Call.the-variants.{ClockStep}
-use Rattle.spi_rules.specs.Settings.{widthOf, framed, silent, ckeOf}
+use Rattle.spi_rules.specs.Settings.{widthOf, framed, silent, ckeOf, unframedHost}
 use Rattle.spi_rules.specs.Registers.{isFree}
 use Rattle.spi_rules.specs.Bits.{samples}
 use Rattle.spi_rules.specs.Loading.{isBegun}
@@ -125,3 +125,21 @@ unfoldable pub sendsNext : Module → Bool
 sendsNext m =
     m .settings .spien
     && (not (silent (m .settings) && isFree (m .engine .shift)) && not (current (m .settings) (m .engine) .filler))
+
+-- A look: the edges that an unframed host with its own clock still makes until it is idle, 2w for each word that waits and for the one in the shift register, less
+-- those given (document 01, demand 3). Any other module owes none.
+abbrev pub wordsIn : Shift → ℕ
+wordsIn Free = 0
+wordsIn (Loaded word) = 1
+wordsIn (Begun p) = if p .filler then 0 else 1
+
+abbrev pub edgesIn : Shift → ℕ
+edgesIn Free = 0
+edgesIn (Loaded word) = 0
+edgesIn (Begun p) = p .edges
+
+unfoldable pub edgesOwed : Module → ℕ
+edgesOwed m =
+    if m .settings .spien && unframedHost (m .settings)
+    then wordEdges (m .settings) * (wordsIn (m .engine .shift) + m .engine .transmit .count) - edgesIn (m .engine .shift)
+    else 0

@@ -7,7 +7,8 @@ use spi_trace_rules::Played;
 ghost use Prim.Native.Nat.{_%_};
 ghost use mathlib.Core.Path.{_≡_};
 ghost use Rattle.spi_rules.specs.Calls.{poweredUp, powerUpOf, readOf, writeOf, tickOf, pinsOf, clockStepOf, clearOf};
-ghost use Rattle.spi_word_rules.specs.Word.{wordOf};
+ghost use Rattle.spi_word_rules.specs.Word.{wordOf, edgesOwed};
+ghost use Rattle.spi_board_rules.specs.Owed.{countOf};
 ghost use Rattle.spi_word.specs.Speaking.{WordTells, nextNumber};
 ghost use Rattle.spi_link_rules.specs.Link.{linkedOf};
 ghost use Rattle.spi_clock_rules.specs.Clock.{reportOf, saidClock};
@@ -98,6 +99,21 @@ pub extern "C" fn thurafeqa_next(w: &[u16; 96]) -> u32
     ensures { λ r. ⌜ r ≡ nextNumber (moduleIn (now (w .entry))) ⌝ }
 {
     spi_word::next(w)
+}
+
+// The edges that an unframed host with its own clock still makes until it is idle, and the accepted words that a module has not finished.
+#[no_mangle]
+pub extern "C" fn thurafeqa_edges_owed(w: &[u16; 96]) -> u32
+    ensures { λ r. ⌜ r ≡ edgesOwed (moduleIn (now (w .entry))) ⌝ }
+{
+    spi_word::edges_owed(w)
+}
+
+#[no_mangle]
+pub extern "C" fn thurafeqa_words_owed(w: &[u16; 96]) -> u32
+    ensures { λ r. ⌜ r ≡ countOf (moduleIn (now (w .entry))) ⌝ }
+{
+    spi_board::count(w)
 }
 
 // Clears the interrupt flag.

@@ -1,0 +1,1 @@
+// The edges that a look tells are those of the page: a theorem alone, in proofs/.
