@@ -1,6 +1,6 @@
 # shellcheck shell=bash
-# What ./run and ./library share: how they find the Rattle kit, sum the sources, walk the crates, and call rt and tell how far it
-# is. It is sourced by a command that has set root, the folder of this repository, and that has say WORD..., which prints a line,
+# What ./run and ./library share: how they find the Rattle kit, sum the sources, walk the crates, wait for each other, and call rt
+# and tell how far it is. It is sourced by a command that has set root, the folder of this repository, and that has say WORD..., which prints a line,
 # and fail STATUS WORD..., which prints one and ends.
 # shellcheck disable=SC2154 # root is the command's
 
@@ -55,12 +55,32 @@ crates_of() {
         END { n = split(names, top, " "); for (i = 1; i <= n; i++) visit(top[i]) }' "$root/crates.txt"
 }
 
+# ---- one at a time
+
+# lock_target SO: the folder target/ is for one rt. rt and what it starts hold this lock too, so it outlasts a command that is
+# killed. The file may go while it is waited for, with all of target/; then the next one is taken.
+lock_target() {
+    local lock=$root/target/run.lock
+    { mkdir -p "$root/target" && touch "$lock"; } 2>/dev/null || fail 1 \
+        "the proof comes first, and nothing can be written to $root/target; copy this folder to a place where you may write, and start there"
+    while exec 9>>"$lock"; do
+        flock -n 9 || {
+            say "another ./run or ./library is proving here; waiting for it to end"
+            flock 9
+        } || break
+        [ ! -e /dev/fd/9 ] || [ "$lock" -ef /dev/fd/9 ] && return
+    done
+    fail 1 "$lock cannot be locked, $1"
+}
+
+unlock_target() { exec 9>&-; }
+
 # ---- rt, and how far it is
 
 job=''   # the process group of an rt that runs
 sizes='' # the crates to be proved, each with the bytes of its code
 done_before=''
-told_of=-1
+told_of=-1 ends_at=0
 began=$SECONDS
 
 # to_prove NAME...: what is to be proved, by one call of rt or several: these crates and all below
@@ -71,13 +91,14 @@ to_prove() {
     done < <(crates_of "$@")
 }
 
-# how_far LOG: how many crates are proved, of how many, and the seconds that the others may still take. That goes by the bytes of
-# their code, which take the time, and at first by a fresh machine with two cores; a crate that needs no proof tells nothing.
+# how_far LOG: how many crates are proved, of how many, and the seconds that the others may still take. A crate's time grows with the
+# root of its code's bytes, as measured; how fast this machine is, is learnt from the crates that it has proved now, and at first
+# it counts as two cores with nothing else to do.
 how_far() {
     awk -v sizes="$sizes" -v before="$done_before" -v seconds=$((SECONDS - began)) '
         BEGIN {
             n = split(sizes, part, " ")
-            for (i = 1; i < n; i += 2) { size[part[i]] = part[i + 1]; left += part[i + 1]; all++ }
+            for (i = 1; i < n; i += 2) { size[part[i]] = 5 + sqrt(part[i + 1]); left += size[part[i]]; all++ }
             n = split(before, part, " ")
             for (i = 1; i <= n; i++) proved(part[i], 1)
         }
@@ -89,7 +110,7 @@ how_far() {
             if (!known) taken += size[name]
         }
         /^rt: [a-z_0-9]+ proved/ { proved($2, /unchanged/) }
-        END { print count + 0, all + 0, int(left * (seconds + 30) / (taken + 15000)) }' "$1"
+        END { print count + 0, all + 0, int(left * (seconds + 30) / (taken + 200)) }' "$1"
 }
 
 # span SECONDS: in words
@@ -99,8 +120,11 @@ span() { if [ "$1" -lt 100 ]; then echo "$1 s"; else echo "$((($1 + 30) / 60)) m
 tell() {
     local count all left more=''
     read -r count all left < <(how_far "$1")
-    [ "$count" -ne "$told_of" ] || [ $((SECONDS - quiet)) -ge 15 ] || return
+    if [ "$count" -ne "$told_of" ]; then ends_at=$((SECONDS + left)); elif [ $((SECONDS - quiet)) -lt 15 ]; then return; fi
     told_of=$count quiet=$SECONDS
+    # what takes longer than was thought may take longer yet
+    left=$((ends_at - SECONDS > left / 4 ? ends_at - SECONDS : left / 4))
+    [ "$left" -ge 5 ] || left=5
     [ "$count" -eq "$all" ] || more=", about $(span "$left") more"
     say "$count of $all crates proved, $((SECONDS - began)) s so far$more"
 }
