@@ -77,9 +77,9 @@ unlock_target() { exec 9>&-; }
 
 # ---- rt, and how far it is
 
-job=''   # the process group of an rt that runs
+job='' # the process group of an rt that runs
 sizes='' # the crates to be proved, each with the bytes of its code
-done_before=''
+proved_before='' # what rt said of proved crates, when it was called before
 told_of=-1 ends_at=0
 began=$SECONDS
 
@@ -91,16 +91,14 @@ to_prove() {
     done < <(crates_of "$@")
 }
 
-# how_far LOG: how many crates are proved, of how many, and the seconds that the others may still take. A crate's time grows with the
-# root of its code's bytes, as measured; how fast this machine is, is learnt from the crates that it has proved now, and at first
-# it counts as two cores with nothing else to do.
+# how_far LOG: how many crates are proved, of how many, and the seconds that the others may still take. A crate takes as long as a
+# thousand bytes of code and its own, as measured; how fast this machine is, is learnt from the crates that it has proved now, and
+# at first it counts as two cores: 40 seconds for 20,000 bytes.
 how_far() {
-    awk -v sizes="$sizes" -v before="$done_before" -v seconds=$((SECONDS - began)) '
+    awk -v sizes="$sizes" -v seconds=$((SECONDS - began)) '
         BEGIN {
             n = split(sizes, part, " ")
-            for (i = 1; i < n; i += 2) { size[part[i]] = 5 + sqrt(part[i + 1]); left += size[part[i]]; all++ }
-            n = split(before, part, " ")
-            for (i = 1; i <= n; i++) proved(part[i], 1)
+            for (i = 1; i < n; i += 2) { size[part[i]] = 1000 + part[i + 1]; left += size[part[i]]; all++ }
         }
         function proved(name, known) {
             if (!(name in size) || name in seen) return
@@ -110,7 +108,7 @@ how_far() {
             if (!known) taken += size[name]
         }
         /^rt: [a-z_0-9]+ proved/ { proved($2, /unchanged/) }
-        END { print count + 0, all + 0, int(left * (seconds + 30) / (taken + 200)) }' "$1"
+        END { print count + 0, all + 0, int(left * (seconds + 40) / (taken + 20000)) }' - "$1" <<<"$proved_before"
 }
 
 # span SECONDS: in words
@@ -145,7 +143,7 @@ call_rt() {
     status=$?
     job=''
     tell "$1"
-    done_before+=" $(sed -nE 's/^rt: ([a-z_0-9]+) proved.*/\1/p' "$1" | tr '\n' ' ')"
+    proved_before+=$(grep -E '^rt: [a-z_0-9]+ proved' "$1")$'\n'
     return "$status"
 }
 
