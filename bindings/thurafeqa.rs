@@ -124,6 +124,7 @@ unsafe extern "C" {
     safe fn thurafeqa_levels(m: &Module) -> u32;
     safe fn thurafeqa_linked(host: &mut Module, client: &mut Module, limit: u32) -> u32;
     safe fn thurafeqa_clock(m: &Module, rate: u32, report: &mut ClockReport) -> u32;
+    safe fn thurafeqa_prescalers(rate: u32, wanted: u32) -> u32;
     unsafe fn thurafeqa_play(m: &mut Module, file: *const u8, length: usize) -> u32;
     unsafe fn thurafeqa_save(script: *const u8, length: usize, file: *mut u8, room: usize) -> u32;
     unsafe fn thurafeqa_salvage(file: *const u8, length: usize, salvaged: *mut u8, room: usize) -> u64;
@@ -379,6 +380,15 @@ fn clock(answer: u32, report: ClockReport) -> Result<Clock, Refusal> {
 pub fn version() -> (u8, u8, u8) {
     let v = thurafeqa_version();
     ((v >> 16) as u8, (v >> 8) as u8, v as u8)
+}
+
+/// The prescalers, as bits of CON1, with which a host at the instruction rate `rate` has the highest clock rate that does not
+/// pass `wanted`; `None` if even 512:1 passes it. Never both at 1:1, which cannot be enabled; of two settings that divide alike
+/// the one with the smaller PPRE.
+#[allow(dead_code)]
+pub fn prescalers(rate: u32, wanted: u32) -> Option<u16> {
+    let bits = thurafeqa_prescalers(rate, wanted);
+    (bits != 32).then_some(bits as u16)
 }
 
 /// The number of the format that the library reads and writes. Words that were saved with another must not be restored.

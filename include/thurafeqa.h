@@ -422,6 +422,15 @@ typedef struct {
 uint32_t thurafeqa_clock(const thurafeqa *m, uint32_t rate,
                          thurafeqa_clock_report *report);
 
+/* The prescalers, as bits of CON1, with which a host at the instruction rate
+ * F, `rate`, has the highest clock rate that does not pass `wanted`: F is at most
+ * `wanted` times D. Never both at 1:1, which cannot be enabled; of two settings
+ * that divide alike the one with the smaller PPRE. THURAFEQA_NO_PRESCALERS if
+ * even 512:1 passes it. Never refused, and no module is asked. */
+uint32_t thurafeqa_prescalers(uint32_t rate, uint32_t wanted);
+
+#define THURAFEQA_NO_PRESCALERS 32u
+
 /* Plays a trace file: a list of register calls, ticks, pin calls and clears in
  * sections, which can play each other; docs/PORTING.md has its form. `file`
  * points to its `length` bytes, and is not null even if there are none. The

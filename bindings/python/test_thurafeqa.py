@@ -157,6 +157,10 @@ class OneModule(Case):
         self.assertEqual(enabled(0x003A).clock(40000000), Clock("internal", 5e6, 2e-7, 0))
         self.assertEqual(enabled(0).clock(100), Clock("external", 0, 0, 100))
 
+    def test_prescalers(self):
+        self.assertEqual([prescalers(40000000, rate) for rate in (10000000, 20000000, 78125, 78124)], [30, 27, 0, None])
+        self.assertEqual(enabled(0x0020 | prescalers(40000000, 5000000)).clock(40000000).rate, 5e6)
+
     def test_numbers_that_do_not_fit(self):
         m = Module()
         for call, *words in ((m.read, -1), (m.read, 1 << 32), (m.write, 0, 0x10000), (m.write, 0, -1), (m.clock, 1 << 32)):

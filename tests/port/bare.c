@@ -154,6 +154,8 @@ static void clocked(thurafeqa *m)
     is(rate.bits, rate_of.bits);
     is(bittime.bits, time_of.bits);
     is(report.rate * eight.number == 40000000.0, 1);
+    is(thurafeqa_prescalers(40000000, 5000000), 0x1A);
+    is(thurafeqa_prescalers(40000000, 78124), THURAFEQA_NO_PRESCALERS);
 }
 
 /* That trace of five records, cut within the last of them: four are left. */

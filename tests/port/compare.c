@@ -2438,6 +2438,45 @@ static void compare_power_ups(void)
     }
 }
 
+/* The prescalers for a wanted rate, by trying every setting: PPRE and SPRE of
+ * the least divider with which the rate is not passed, but both 1:1. */
+static uint32_t best_prescalers(uint64_t rate, uint64_t wanted_rate)
+{
+    static const uint32_t primary[] = {64, 16, 4, 1};
+    uint32_t ppre, spre, least = 1000, best = THURAFEQA_NO_PRESCALERS;
+
+    for (ppre = 0; ppre < 4; ppre++)
+        for (spre = 0; spre < 8; spre++) {
+            uint32_t divider = primary[ppre] * (8 - spre);
+
+            if (divider > 1 && divider < least && rate <= wanted_rate * divider) {
+                least = divider;
+                best = spre << 2 | ppre;
+            }
+        }
+    return best;
+}
+
+/* Every setting's rate, with one to either side, and any rates. */
+static void compare_prescalers(void)
+{
+    int i;
+
+    for (i = 0; i < 100000; i++) {
+        uint32_t rate = any_number() >> below(32);
+        uint32_t at = one_in(8) ? any_number() >> below(32)
+                                : rate / (1 + below(520)) + below(3) - 1;
+
+        if (thurafeqa_prescalers(rate, at) != best_prescalers(rate, at)) {
+            printf("prescalers of %lu for %lu: %lu, not %lu\n",
+                   (unsigned long)rate, (unsigned long)at,
+                   (unsigned long)thurafeqa_prescalers(rate, at),
+                   (unsigned long)best_prescalers(rate, at));
+            exit(1);
+        }
+    }
+}
+
 int main(int argc, char **argv)
 {
     if (argc != 3) {
@@ -2449,6 +2488,7 @@ int main(int argc, char **argv)
     printf("seed %lu\n", seed);
     start_numbers(seed);
     compare_power_ups();
+    compare_prescalers();
     while (made < wanted)
         run_sequence();
     play_costly();

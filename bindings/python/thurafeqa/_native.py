@@ -65,6 +65,7 @@ CALLS = {
     "thurafeqa_levels": (c_uint32, _spi),
     "thurafeqa_linked": (c_uint32, _spi, _spi, c_uint32),
     "thurafeqa_clock": (c_uint32, _spi, c_uint32, _report),
+    "thurafeqa_prescalers": (c_uint32, c_uint32, c_uint32),
     "thurafeqa_play": (c_uint32, _spi, _bytes, c_size_t),
     "thurafeqa_save": (c_uint32, _bytes, c_size_t, _lent, c_size_t),
     "thurafeqa_salvage": (c_uint64, _bytes, c_size_t, _lent, c_size_t),

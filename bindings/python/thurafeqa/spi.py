@@ -5,7 +5,7 @@ from typing import Any, Callable, List, NamedTuple, Optional, Tuple, Union
 
 from ._native import FORMAT, ClockReport, Kept, SpiMemory, level, library, number, value
 
-__all__ = ["Board", "Clock", "Levels", "Module", "Salvaged", "Step", "Word", "salvage", "save"]
+__all__ = ["Board", "Clock", "Levels", "Module", "Salvaged", "Step", "Word", "prescalers", "salvage", "save"]
 
 Bytes = Union[bytes, bytearray, memoryview]
 
@@ -264,6 +264,16 @@ class Module(Kept):
 
 
 # ---- traces
+
+
+def prescalers(rate: int, wanted: int) -> Optional[int]:
+    """The prescalers, as bits of CON1, for the highest clock rate that does not pass `wanted` at the instruction rate `rate`.
+
+    None if even 512:1 passes it. Never both at 1:1, which cannot be enabled;
+    of two settings that divide alike the one with the smaller PPRE.
+    """
+    bits = library.thurafeqa_prescalers(number("the rate", rate), number("the wanted rate", wanted))
+    return None if bits == 32 else bits
 
 
 def save(script: Union[str, Bytes]) -> bytes:

@@ -2,7 +2,7 @@
 
 use thurafeqa::card::{self, Card, Protocol};
 use thurafeqa::register::*;
-use thurafeqa::{salvage, save, Board, Clock, Module, Refusal, Salvaged, Sdo, Ss, Step, Ti, TiMode, Word};
+use thurafeqa::{prescalers, salvage, save, Board, Clock, Module, Refusal, Salvaged, Sdo, Ss, Step, Ti, TiMode, Word};
 
 fn enabled(con1: u16) -> Module {
     let mut m = Module::new();
@@ -28,6 +28,13 @@ fn the_file_and_the_library_fit() {
     assert_eq!(thurafeqa::FORMAT, thurafeqa::format());
     let [major, minor, patch] = [ours.0, ours.1, ours.2];
     assert_eq!(env!("CARGO_PKG_VERSION"), format!("{major}.{minor}.{patch}"));
+}
+
+#[test]
+fn prescalers_for_a_wanted_rate() {
+    assert_eq!([10_000_000, 20_000_000, 78_125, 78_124].map(|rate| prescalers(40_000_000, rate)), [Some(30), Some(27), Some(0), None]);
+    let m = enabled(CON1_MSTEN | prescalers(40_000_000, 5_000_000).unwrap());
+    assert_eq!(m.clock(40_000_000), Ok(Clock::Internal { rate: 5e6, bit_time: 2e-7 }));
 }
 
 #[test]

@@ -21,14 +21,14 @@ fn quarter(steps: u8, n: u8) -> u8
 }
 
 // The primary prescaler: from 64, each step of PPRE divides by four.
-fn primary(ppre: u8) -> u8
+pub fn primary(ppre: u8) -> u8
     ensures { λ r. ⌜ r ≡ primaryOf ppre ⌝ }
 {
     quarter(ppre % 4, 64)
 }
 
 // The secondary prescaler.
-fn secondary(spre: u8) -> u8
+pub fn secondary(spre: u8) -> u8
     ensures { λ r. ⌜ r ≡ secondaryOf spre ⌝ }
 {
     8 - spre % 8

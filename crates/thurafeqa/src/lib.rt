@@ -12,6 +12,7 @@ ghost use Rattle.spi_board_rules.specs.Owed.{countOf};
 ghost use Rattle.spi_word.specs.Speaking.{WordTells, nextNumber};
 ghost use Rattle.spi_link_rules.specs.Link.{linkedOf};
 ghost use Rattle.spi_clock_rules.specs.Clock.{reportOf, saidClock};
+ghost use Rattle.spi_rate_rules.specs.Rate.{prescalersFor};
 ghost use Rattle.spi_memory.specs.Memory.{moduleIn};
 ghost use Rattle.spi_numbers.specs.Told.{Tells, levelIn, levelsNumber, StepTells, ClockTells, LinkTells};
 ghost use Rattle.spi_board.specs.Boards.{askedOf};
@@ -147,6 +148,14 @@ pub extern "C" fn thurafeqa_clock(w: &[u16; 96], rate: u32, report: &mut [f64; 3
     ensures { λ r. ⌜ ClockTells (saidClock (reportOf (moduleIn (now (w .entry))) rate)) r (now (report .entry)) (now (report .exit)) ⌝ }
 {
     spi_numbers::clock(w, rate, report)
+}
+
+// The prescalers for a wanted rate, as CON1 has them; 32 if there are none.
+#[no_mangle]
+pub extern "C" fn thurafeqa_prescalers(rate: u32, wanted: u32) -> u32
+    ensures { λ r. ⌜ r ≡ prescalersFor rate wanted ⌝ }
+{
+    spi_rate::prescalers(rate, wanted) as u32
 }
 
 // A call of module `n` of a board, by its kind: 0 power-up, 1 a read of register `x`, 2 a write of `y` to register `x`, 3 a tick with
