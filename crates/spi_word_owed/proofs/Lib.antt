@@ -1,2 +1,3 @@
--- The look at the edges owed, held to the page.
+-- A word at a time, held to the page: the look at the edges owed, and what the ledger enters of its edges.
 pub mod EdgesOwed
+pub mod Noted

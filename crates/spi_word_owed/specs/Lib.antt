@@ -1,0 +1,2 @@
+-- What the ledger enters of a word call.
+pub mod Entered
