@@ -63,7 +63,7 @@ under-noted t true sdo sdi w l e = rw e refl
 under-noted t false sdo sdi w l e = ap (λ (q : Wire). given t sdo sdi q l) e
 
 -- An edge short of the last, and the last.
-edge-on : (t : Terms) (sdo sdi : Bool) (w : OnWire) (l : Ledger) → w .edges + 1 < t .last →
+pub edge-on : (t : Terms) (sdo sdi : Bool) (w : OnWire) (l : Ledger) → w .edges + 1 < t .last →
     given t sdo sdi (busy w) l ≡ withWire (busy (counted t sdo sdi w)) l
 unfolding given
 edge-on t sdo sdi w l h = if-true (ltb (w .edges + 1) (t .last)) _ _ (lt-ltb _ _ h)
@@ -78,7 +78,7 @@ landed-over : (o : Policy) (lost : Bool) (word : ℕ) (q : Wire) (l : Ledger) �
 landed-over (dropsNew e) lost word q l = refl
 landed-over replacesOld lost word q l = refl
 
-closed-over : (t : Terms) (u : OnWire) (q : Wire) (l : Ledger) → closed t u (withWire q l) ≡ closed t u l
+pub closed-over : (t : Terms) (u : OnWire) (q : Wire) (l : Ledger) → closed t u (withWire q l) ≡ closed t u l
 unfolding closed loses
 closed-over t u q l =
     ap (λ (into : List Passed). withWire quiet (withPassed (l .departures ++ (record { word = spelled 0 (u .shown); marked = u .filler } ∷ [])) into l))
@@ -99,7 +99,7 @@ module _ (s : Settings) (sdo sdi : Bool) (w : OnWire) where
   unfolding counted
   counted-edges = if-keeps (λ (u : OnWire). u .edges ≡ w .edges + 1) (samples (ckeOf s) (w .edges + 1)) _ _ (λ e. refl) (λ e. refl)
 
-  counted-filler : next .filler ≡ w .filler
+  pub counted-filler : next .filler ≡ w .filler
   unfolding counted
   counted-filler = if-keeps (λ (u : OnWire). u .filler ≡ w .filler) (samples (ckeOf s) (w .edges + 1)) _ _ (λ e. refl) (λ e. refl)
 
@@ -141,18 +141,27 @@ module _ (s : Settings) (on : s .spien ≡ true) (plain : framed s ≡ false) (s
       (if-keeps (λ (a : Bool). Bool·beq a (x .sck) ≡ false) (ownClock (v .settings)) _ _ (λ e. not-unlike (x .sck))
       (λ e. ap (λ (a : Bool). Bool·beq (not a) (x .sck)) (sym same) ∙ not-unlike (x .sck)))
 
-  -- With a word on the wire, the ledger gives it that edge.
-  step-ledger : (x : Watched) (n : Engine) (w : OnWire) (sdi : Bool) → x .now ≡ at s n → x .memory .sck ≡ n .pins .sck → x .ledger .wire ≡ busy w →
+  -- What the ledger enters of it, and with a word on the wire: that word is given the edge.
+  pub step-noted : (x : Watched) (n : Engine) (sdi : Bool) → x .now ≡ at s n → x .memory .sck ≡ n .pins .sck →
       (ownClock s && isFree (n .shift)) ≡ false →
-      watchedCall x (ClockStep (not (n .pins .sck)) sdi ss) .ledger ≡ given (terms s) (n .pins .sdo) sdi (busy w) (x .ledger)
-  step-ledger x n w sdi e same wire moves =
+      let c : Call = ClockStep (not (n .pins .sck)) sdi ss in
+      let v : Sight = sightOf (at s n) c in
+      watchedCall x c .ledger ≡ notedAll (terms s) (edgeOps v (x .memory) (sckOfStep v (x .memory) (not (n .pins .sck))) sdi) (x .ledger)
+  step-noted x n sdi e same moves =
       let c : Call = ClockStep (not (n .pins .sck)) sdi ss in
       let l : Ledger = x .ledger in
       let v : Sight = sightOf (at s n) c in
       ap (λ (m : Module). watchedCall (record { now = m; memory = x .memory; ledger = l }) c .ledger) e
       ∙ ap (λ (q : Entry). entered (terms s) q l) (if-true (isDone (v .answer)) _ _ (step-done n sdi moves))
       ∙ ap (λ (os : List Op). notedAll (terms s) os l) (sees-edge v (x .memory) (n .pins .sck) sdi (hears (ssOfTick v (x .memory) ss)) same)
-      ∙ under-noted (terms s) (mayBegin s (x .memory) (v .shown) (sckOfStep v (x .memory) (not (n .pins .sck)))) (n .pins .sdo) sdi w l wire
+
+  step-ledger : (x : Watched) (n : Engine) (w : OnWire) (sdi : Bool) → x .now ≡ at s n → x .memory .sck ≡ n .pins .sck → x .ledger .wire ≡ busy w →
+      (ownClock s && isFree (n .shift)) ≡ false →
+      watchedCall x (ClockStep (not (n .pins .sck)) sdi ss) .ledger ≡ given (terms s) (n .pins .sdo) sdi (busy w) (x .ledger)
+  step-ledger x n w sdi e same wire moves =
+      let v : Sight = sightOf (at s n) (ClockStep (not (n .pins .sck)) sdi ss) in
+      step-noted x n sdi e same moves
+      ∙ under-noted (terms s) (mayBegin s (x .memory) (v .shown) (sckOfStep v (x .memory) (not (n .pins .sck)))) (n .pins .sdo) sdi w (x .ledger) wire
 
 -- ---- all edges of a word
 
@@ -171,7 +180,7 @@ pub record Closes (t : Terms) (l after : Ledger) (w : OnWire) (levels taken : �
 
 module _ (s : Settings) (on : s .spien ≡ true) (plain : framed s ≡ false) (ss : Bool) (chosen : deselected s ss ≡ false) (word : ℕ) where
   -- The watcher remembers the clock.
-  recalled : (x : Watched) (n : Engine) → x .now ≡ at s n → Lives x → x .memory .sck ≡ n .pins .sck
+  pub recalled : (x : Watched) (n : Engine) → x .now ≡ at s n → Lives x → x .memory .sck ≡ n .pins .sck
   recalled x n e h =
       h .tied (ap (λ (m : Module). m .settings .spien) e ∙ on) .recalls .sck ∙ ap (λ (m : Module). m .engine .pins .sck) e
 
@@ -187,7 +196,7 @@ module _ (s : Settings) (on : s .spien ≡ true) (plain : framed s ≡ false) (s
       ≡ at s (advanced s (sdiAt s (p .edges) word) p (clocked (not (n .pins .sck)) (withSs level n)))
 
   -- An edge short of the last leaves the word begun, and so the next edge is its own.
-  edge-short : (i : ℕ) (n : Engine) (level : Bool) (p : Progress) → Advances n level p → p .edges + suc (suc i) ≡ wordEdges s →
+  pub edge-short : (i : ℕ) (n : Engine) (level : Bool) (p : Progress) → Advances n level p → p .edges + suc (suc i) ≡ wordEdges s →
       performOf (at s n) (ClockStep (not (n .pins .sck)) (sdiAt s (p .edges) word) ss) .after
       ≡ at s (shifted s (sdiAt s (p .edges) word) p (clocked (not (n .pins .sck)) (withSs level n)))
   unfolding advanced
@@ -257,7 +266,7 @@ module _ (s : Settings) (on : s .spien ≡ true) (plain : framed s ≡ false) (s
 -- ---- in closed form
 
 -- All that is taken.
-taken-behind : (s : Settings) (i k word x : ℕ) → k + i ≡ wordEdges s → takenBy s k i word x ≡ behind s word k x
+pub taken-behind : (s : Settings) (i k word x : ℕ) → k + i ≡ wordEdges s → takenBy s k i word x ≡ behind s word k x
 unfolding takenBy sdiAt
 taken-behind s zero k word x e = sym (none-behind s word k x (omega arith))
 taken-behind s (suc i) k word x e =
@@ -267,7 +276,7 @@ taken-behind s (suc i) k word x e =
 weighed : (x b p l : ℕ) → (x * 2 + b) * p + l ≡ x * (2 * p) + ((0 * 2 + b) * p + l)
 weighed x b p l = omega (arith, add-mul (x * 2) b p, add-mul (0 * 2) b p, mul-assoc x 2 p)
 
-levels-behind : (s : Settings) (ss : Bool) (word i : ℕ) (sck : Bool) (k x : ℕ) (m : Module) → k + i ≡ wordEdges s →
+pub levels-behind : (s : Settings) (ss : Bool) (word i : ℕ) (sck : Bool) (k x : ℕ) (m : Module) → k + i ≡ wordEdges s →
     levelsBy s ss sck k i word x m ≡ x * 2 ^ bitsLeft s k + levelsBy s ss sck k i word 0 m
 unfolding levelOn bitsLeft
 levels-behind s ss word zero sck k x m e =
@@ -300,7 +309,7 @@ levels-behind s ss word (suc i) sck k x m e =
 -- ---- the word call
 
 -- What a ledger enters that so closes.
-closes-entered : (s : Settings) (l after : Ledger) (w : OnWire) (levels taken : ℕ) → Closes (terms s) l after w levels taken →
+pub closes-entered : (s : Settings) (l after : Ledger) (w : OnWire) (levels taken : ℕ) → Closes (terms s) l after w levels taken →
     Entered l after (record { word = levels; marked = w .filler }) (record { word = taken; marked = loses (terms s) l })
 unfolding closed
 closes-entered s l after w levels taken c =
@@ -316,18 +325,18 @@ closes-entered s l after w levels taken c =
     }
 
 -- The word on the wire is the module's.
-record Carried (t : Terms) (owed : List ℕ) (sh : Shift) (w : OnWire) : Type 0 where
-  p : Progress
-  is : sh ≡ Begun p
-  same : SameWord t owed (record { filler = p .filler; word = p .word; edges = p .edges; received = p .received }) w
+pub record Carried (t : Terms) (owed : List ℕ) (sh : Shift) (w : OnWire) : Type 0 where
+  pub p : Progress
+  pub is : sh ≡ Begun p
+  pub same : SameWord t owed (record { filler = p .filler; word = p .word; edges = p .edges; received = p .received }) w
 
-carried : (t : Terms) (owed : List ℕ) (sh : Shift) (w : OnWire) → Carries t owed (wayOf sh) (busy w) → Carried t owed sh w
+pub carried : (t : Terms) (owed : List ℕ) (sh : Shift) (w : OnWire) → Carries t owed (wayOf sh) (busy w) → Carried t owed sh w
 carried t owed Free w c = absurd c
 carried t owed (Loaded word) w c = absurd c
 carried t owed (Begun p) w c = record { p = p; is = refl; same = c }
 
 -- A level that is remembered stays so.
-once : (own a b : Bool) → (if own then (if own then a else b) else b) ≡ (if own then a else b)
+pub once : (own a b : Bool) → (if own then (if own then a else b) else b) ≡ (if own then a else b)
 unfolding if_then_else_
 once true a b = refl
 once false a b = refl
