@@ -99,13 +99,14 @@ begins-fresh s n Free none loud =
 begins-fresh s n (Loaded word) none loud = record { filler = false; word = word; is = refl }
 begins-fresh s n (Begun p) none loud = clash true refl none
 
-begun-told : (s : Settings) (n : Engine) (ss : Bool) (sh : Shift) → begun s (remembered s ss n) sh ≡ begun s n sh
-unfolding begun remembered
-begun-told s n ss Free = refl
-begun-told s n ss (Loaded word) = refl
-begun-told s n ss (Begun p) = refl
+-- What begins does not go by the pins.
+begun-moved : (s : Settings) (n : Engine) (sck ss : Bool) (sh : Shift) → begun s (clocked sck (remembered s ss n)) sh ≡ begun s n sh
+unfolding begun remembered clocked
+begun-moved s n sck ss Free = refl
+begun-moved s n sck ss (Loaded word) = refl
+begun-moved s n sck ss (Begun p) = refl
 
-pub is-quiet : (q : Wire) → not (isQuiet q) ≡ false → q ≡ quiet
+is-quiet : (q : Wire) → not (isQuiet q) ≡ false → q ≡ quiet
 is-quiet quiet e = refl
 is-quiet (busy w) e = clash true refl e
 
@@ -149,14 +150,14 @@ module _ (s : Settings) (on : s .spien ≡ true) (plain : framed s ≡ false) (s
   advances : (sdi : Bool) →
       performOf (at s n) (ClockStep (not (n .pins .sck)) sdi ss) .after
       ≡ at s (advanced s sdi p (clocked (not (n .pins .sck)) (remembered s ss n)))
-  unfolding underWay remembered advancedIfBegun
+  unfolding underWay remembered advancedIfBegun clocked
   advances sdi =
       let r : Engine = remembered s ss n in
       step-edge s on plain ss chosen n sdi next
       ∙ ap (λ (a : Shift). at s (advancedIfBegun s sdi a (clocked (not (n .pins .sck)) r)))
       (if-false (Bool·beq (not (n .pins .sck)) (s .con1 .ckp)) _ _ turns
       ∙ if-false (awaitsPulse s r) _ _ (unframed-begins s r plain)
-      ∙ begun-told s n ss (n .shift)
+      ∙ begun-moved s n (n .pins .sck) ss (n .shift)
       ∙ fresh-is .is)
 
   abbrev sdi : Bool
@@ -362,12 +363,6 @@ other-level true true e = clash true refl e
 other-level true false e = refl
 other-level false true e = refl
 other-level false false e = clash true refl e
-
-begun-moved : (s : Settings) (n : Engine) (sck ss : Bool) (sh : Shift) → begun s (clocked sck (remembered s ss n)) sh ≡ begun s n sh
-unfolding begun remembered clocked
-begun-moved s n sck ss Free = refl
-begun-moved s n sck ss (Loaded word) = refl
-begun-moved s n sck ss (Begun p) = refl
 
 same-current : (s : Settings) (n : Engine) (sck ss : Bool) → current s (clocked sck (remembered s ss n)) ≡ current s n
 unfolding current remembered clocked
