@@ -657,7 +657,7 @@ static struct {
     unsigned long carried[LOOK + 1], carried_refused, rose, fell[LOOK + 1];
     unsigned long fell_more, fell_disabled, fell_to_none, kept_abort;
     unsigned long kept_filler, kept_filler_end;
-    uint32_t highest;
+    unsigned long highest;
     unsigned long total_right, total_wrong, total_high, at_none, at_most;
     unsigned long total_refused;
     /* power-ups with a depth, on a module alone and on a board: by depth, of
@@ -1296,6 +1296,23 @@ static void print_numbered(const char *what, int i, unsigned long n)
     print_count(name, n);
 }
 
+/* A row of what is printed: a heading, or a case and how often it was reached. */
+struct row {
+    const char *text;
+    const unsigned long *n; /* 0: a heading */
+};
+#define PRINT(table) print_rows(table, sizeof(table) / sizeof(table)[0])
+
+static void print_rows(const struct row *row, size_t n)
+{
+    for (; n > 0; n--, row++) {
+        if (row->n == 0)
+            printf("%s", row->text);
+        else
+            print_count(row->text, *row->n);
+    }
+}
+
 /* One line of finished words, by CKE and CKP. */
 static void print_words(enum role role, int mode16, int spiben)
 {
@@ -1333,33 +1350,41 @@ static void print_framed_words(enum role role, int spifsd, int mode16)
     printf("\n");
 }
 
+static const struct row pulse_rows[] = {
+    {"\npulses given:", 0},
+    {"FRMDLY 0, between words", &reached.pulse_between},
+    {"on a last bit", &reached.pulse_last_bit},
+    {"FRMDLY 1", &reached.pulse_with},
+    {"lost by disabling", &reached.given_lost},
+    {"\npulses sampled:", 0},
+    {"between words", &reached.sampled_between},
+    {"at a last edge", &reached.sampled_last_edge},
+    {"kept as SS goes", &reached.sampled_gone},
+    {"lost by disabling", &reached.sampled_lost},
+};
+
+static const struct row framed_rows[] = {
+    {"\nframed:", 0},
+    {"clock edges alone", &reached.clock_alone},
+    {"words with CKE 1", &reached.framed_by[0]},
+    {"SSEN 1", &reached.framed_by[1]},
+    {"CKP 1", &reached.framed_by[2]},
+    {"SPIBEN 1", &reached.framed_by[3]},
+    {"\nlinked runs refused as framed:", 0},
+    {"host", &reached.linked_framed[0]},
+    {"client", &reached.linked_framed[1]},
+    {"both", &reached.linked_framed[2]},
+};
+
 static void print_framed(void)
 {
     int i;
 
-    printf("\npulses given:");
-    print_count("FRMDLY 0, between words", reached.pulse_between);
-    print_count("on a last bit", reached.pulse_last_bit);
-    print_count("FRMDLY 1", reached.pulse_with);
-    print_count("lost by disabling", reached.given_lost);
-    printf("\npulses sampled:");
-    print_count("between words", reached.sampled_between);
-    print_count("at a last edge", reached.sampled_last_edge);
-    print_count("kept as SS goes", reached.sampled_gone);
-    print_count("lost by disabling", reached.sampled_lost);
+    PRINT(pulse_rows);
     printf("\nframed fillers:");
     for (i = 0; i < SSEN_CLIENT; i++)
         print_count(role_name[i], reached.framed_filler[i]);
-    printf("\nframed:");
-    print_count("clock edges alone", reached.clock_alone);
-    print_count("words with CKE 1", reached.framed_by[0]);
-    print_count("SSEN 1", reached.framed_by[1]);
-    print_count("CKP 1", reached.framed_by[2]);
-    print_count("SPIBEN 1", reached.framed_by[3]);
-    printf("\nlinked runs refused as framed:");
-    print_count("host", reached.linked_framed[0]);
-    print_count("client", reached.linked_framed[1]);
-    print_count("both", reached.linked_framed[2]);
+    PRINT(framed_rows);
 }
 
 /* What enabling was refused for, and what it was not. */
@@ -1396,6 +1421,24 @@ static void print_enabling(void)
                    reached.undivided_cke);
 }
 
+static const struct row mark_rows[] = {
+    {"framed", &reached.marked_framed},
+    {"in linked runs, host", &reached.marked_linked[0]},
+    {"client", &reached.marked_linked[1]},
+    {"\nmarked:", 0},
+    {"words lost", &reached.lost_marked},
+    {"SPIROV cleared", &reached.rov_cleared},
+    {"and set again", &reached.rov_again},
+    {"disabled with SPIROV cleared", &reached.unmarked[0]},
+    {"and left", &reached.unmarked[1]},
+    {"power-up", &reached.unmarked_power_up},
+    {"\nnot marked:", 0},
+    {"words lost in standard operation", &reached.lost_standard},
+    {"read there with SPIROV", &reached.read_lost},
+    {"enhanced, read with SPIROV", &reached.read_rov},
+    {"from a full buffer", &reached.read_full},
+};
+
 static void print_marks(void)
 {
     int i;
@@ -1403,22 +1446,20 @@ static void print_marks(void)
     printf("\nmark set:");
     for (i = 0; i < ROLES; i++)
         print_count(role_name[i], reached.marked[i]);
-    print_count("framed", reached.marked_framed);
-    print_count("in linked runs, host", reached.marked_linked[0]);
-    print_count("client", reached.marked_linked[1]);
-    printf("\nmarked:");
-    print_count("words lost", reached.lost_marked);
-    print_count("SPIROV cleared", reached.rov_cleared);
-    print_count("and set again", reached.rov_again);
-    print_count("disabled with SPIROV cleared", reached.unmarked[0]);
-    print_count("and left", reached.unmarked[1]);
-    print_count("power-up", reached.unmarked_power_up);
-    printf("\nnot marked:");
-    print_count("words lost in standard operation", reached.lost_standard);
-    print_count("read there with SPIROV", reached.read_lost);
-    print_count("enhanced, read with SPIROV", reached.read_rov);
-    print_count("from a full buffer", reached.read_full);
+    PRINT(mark_rows);
 }
+
+static const struct row played_rows[] = {
+    {"\nof these:", 0},
+    {"no call", &reached.no_call},
+    {"65,535 calls", &reached.all_calls},
+    {"repeats", &reached.repeats},
+    {"plays that lead to no call", &reached.idle_plays},
+    {"left enabled", &reached.left_enabled},
+    {"words unread", &reached.left_unread},
+    {"marked", &reached.left_marked},
+    {"flag up", &reached.left_flag},
+};
 
 static void print_traces(void)
 {
@@ -1434,18 +1475,40 @@ static void print_traces(void)
     printf("\ntraces played, by levels:");
     for (i = 1; i <= TRACE_LEVELS; i++)
         print_numbered("", i, reached.levels[i]);
-    printf("\nof these:");
-    print_count("no call", reached.no_call);
-    print_count("65,535 calls", reached.all_calls);
-    print_count("repeats", reached.repeats);
-    print_count("plays that lead to no call", reached.idle_plays);
-    print_count("left enabled", reached.left_enabled);
-    print_count("words unread", reached.left_unread);
-    print_count("marked", reached.left_marked);
-    print_count("flag up", reached.left_flag);
+    PRINT(played_rows);
     printf("\ncostly traces: the slowest took %.0f ms",
            reached.costliest * 1000);
 }
+
+static const struct row saved_rows[] = {
+    {"T with SS 0", &reached.kept_ss[0]},
+    {"with SS 1", &reached.kept_ss[1]},
+    {"refused by the module", &reached.kept_refused},
+    {"\nlines left out:", 0},
+    {"unreadable", &reached.unreadable},
+    {"empty", &reached.empty_line},
+    {"with CR", &reached.cr_line},
+    {"of more than 16 bytes", &reached.long_line},
+    {"no register, W", &reached.no_register[0]},
+    {"R", &reached.no_register[1]},
+    {"\nscripts:", 0},
+    {"last line without LF", &reached.no_lf},
+    {"cut at 65,535 bytes", &reached.cut},
+    {"saved with no record", &reached.empty_file},
+    {"with 16,381", &reached.full_file},
+    {"\nbytes lent:", 0},
+    {"just enough", &reached.exact},
+    {"more", &reached.more},
+    {"more than 65,535", &reached.wide},
+    {"one short", &reached.one_short},
+    {"none", &reached.none_lent},
+    {"enough, but no file is so long", &reached.past_limit},
+    {"\nsaved to a module that is:", 0},
+    {"enabled", &reached.end_enabled},
+    {"with words unread", &reached.end_unread},
+    {"marked", &reached.end_marked},
+    {"with its flag up", &reached.end_flag},
+};
 
 static void print_saves(void)
 {
@@ -1455,34 +1518,23 @@ static void print_saves(void)
     printf("\nscripts saved, lines kept:");
     for (i = SCRIPT_WRITE; i <= SCRIPT_CLEAR; i++)
         print_count(letter[i], reached.kept[i]);
-    print_count("T with SS 0", reached.kept_ss[0]);
-    print_count("with SS 1", reached.kept_ss[1]);
-    print_count("refused by the module", reached.kept_refused);
-    printf("\nlines left out:");
-    print_count("unreadable", reached.unreadable);
-    print_count("empty", reached.empty_line);
-    print_count("with CR", reached.cr_line);
-    print_count("of more than 16 bytes", reached.long_line);
-    print_count("no register, W", reached.no_register[0]);
-    print_count("R", reached.no_register[1]);
-    printf("\nscripts:");
-    print_count("last line without LF", reached.no_lf);
-    print_count("cut at 65,535 bytes", reached.cut);
-    print_count("saved with no record", reached.empty_file);
-    print_count("with 16,381", reached.full_file);
-    printf("\nbytes lent:");
-    print_count("just enough", reached.exact);
-    print_count("more", reached.more);
-    print_count("more than 65,535", reached.wide);
-    print_count("one short", reached.one_short);
-    print_count("none", reached.none_lent);
-    print_count("enough, but no file is so long", reached.past_limit);
-    printf("\nsaved to a module that is:");
-    print_count("enabled", reached.end_enabled);
-    print_count("with words unread", reached.end_unread);
-    print_count("marked", reached.end_marked);
-    print_count("with its flag up", reached.end_flag);
+    PRINT(saved_rows);
 }
+
+static const struct row board_call_rows[] = {
+    {"\ncalls on boards:", 0},
+    {"through the header", &reached.direct[0]},
+    {"direct", &reached.direct[1]},
+    {"levels by a kind above 9", &reached.far_kind},
+};
+
+static const struct row no_module_rows[] = {
+    {"\nno such module:", 0},
+    {"named, or the host", &reached.no_module[0]},
+    {"the client", &reached.no_module[1]},
+    {"both", &reached.no_module[2]},
+    {"the same one twice", &reached.twice},
+};
 
 static void print_boards(void)
 {
@@ -1507,10 +1559,7 @@ static void print_boards(void)
                 print_count("", reached.board_linked[n][o]);
         }
     }
-    printf("\ncalls on boards:");
-    print_count("through the header", reached.direct[0]);
-    print_count("direct", reached.direct[1]);
-    print_count("levels by a kind above 9", reached.far_kind);
+    PRINT(board_call_rows);
     for (o = 0; o < 2; o++) {
         printf("\nrefused with %d:", (int)THURAFEQA_BAD_LIST + o);
         for (k = 0; k <= LOOK; k++)
@@ -1526,12 +1575,32 @@ static void print_boards(void)
         if (n < 1 || n > 4)
             print_numbered("", n, reached.bad_list[n]);
     }
-    printf("\nno such module:");
-    print_count("named, or the host", reached.no_module[0]);
-    print_count("the client", reached.no_module[1]);
-    print_count("both", reached.no_module[2]);
-    print_count("the same one twice", reached.twice);
+    PRINT(no_module_rows);
 }
+
+static const struct row carried_rows[] = {
+    {"refused", &reached.carried_refused},
+    {"\n ", 0},
+    {"rose", &reached.rose},
+};
+
+static const struct row totals_rows[] = {
+    {"by several", &reached.fell_more},
+    {"by disabling", &reached.fell_disabled},
+    {"to none", &reached.fell_to_none},
+    {"\n ", 0},
+    {"kept as a word is aborted", &reached.kept_abort},
+    {"as a filler begins", &reached.kept_filler},
+    {"as it ends", &reached.kept_filler_end},
+    {"the highest", &reached.highest},
+    {"\nother totals:", 0},
+    {"right", &reached.total_right},
+    {"wrong", &reached.total_wrong},
+    {"with bits above", &reached.total_high},
+    {"refused", &reached.total_refused},
+    {"stopped at 0", &reached.at_none},
+    {"at 65,535", &reached.at_most},
+};
 
 static void print_totals(void)
 {
@@ -1542,27 +1611,11 @@ static void print_totals(void)
     printf("\nwords owed, handed from call to call:");
     for (k = 0; k <= LOOK; k++)
         print_count(kind_name[k], reached.carried[k]);
-    print_count("refused", reached.carried_refused);
-    printf("\n ");
-    print_count("rose", reached.rose);
+    PRINT(carried_rows);
     printf(" fell by");
     for (k = 0; k < 7; k++)
         print_count(kind_name[falls[k]], reached.fell[falls[k]]);
-    print_count("by several", reached.fell_more);
-    print_count("by disabling", reached.fell_disabled);
-    print_count("to none", reached.fell_to_none);
-    printf("\n ");
-    print_count("kept as a word is aborted", reached.kept_abort);
-    print_count("as a filler begins", reached.kept_filler);
-    print_count("as it ends", reached.kept_filler_end);
-    print_count("the highest", reached.highest);
-    printf("\nother totals:");
-    print_count("right", reached.total_right);
-    print_count("wrong", reached.total_wrong);
-    print_count("with bits above", reached.total_high);
-    print_count("refused", reached.total_refused);
-    print_count("stopped at 0", reached.at_none);
-    print_count("at 65,535", reached.at_most);
+    PRINT(totals_rows);
 }
 
 static void print_steps(void)
@@ -1601,6 +1654,16 @@ static void print_depth(int d)
         print_numbered("", (int)depths[i], reached.linked_depths[d][i]);
 }
 
+static const struct row depth_rows[] = {
+    {"\nlinked runs:", 0},
+    {"with the limit 544", &reached.limit_most},
+    {"of 544 edges", &reached.run_most},
+    {"refused with 545", &reached.limit_past},
+    {"\nmodules:", 0},
+    {"that a play made ones of depth 8", &reached.deep_played},
+    {"seen with other numbers for 8", &reached.other_eight},
+};
+
 static void print_depths(void)
 {
     int i, o;
@@ -1622,14 +1685,30 @@ static void print_depths(void)
                        reached.above_7[i][0]);
         print_count("client", reached.above_7[i][1]);
     }
-    printf("\nlinked runs:");
-    print_count("with the limit 544", reached.limit_most);
-    print_count("of 544 edges", reached.run_most);
-    print_count("refused with 545", reached.limit_past);
-    printf("\nmodules:");
-    print_count("that a play made ones of depth 8", reached.deep_played);
-    print_count("seen with other numbers for 8", reached.other_eight);
+    PRINT(depth_rows);
 }
+
+static const struct row seen_rows[] = {
+    {"\nseen:", 0},
+    {"overflow", &reached.overflow},
+    {"filler", &reached.filler},
+    {"abort of a word", &reached.aborted_word},
+    {"of a filler", &reached.aborted_filler},
+};
+
+static const struct row tick_rows[] = {
+    {"\nticks:", 0},
+    {"an edge", &reached.edge},
+    {"no edge", &reached.no_edge},
+    {"edges in linked runs", &reached.linked_edges},
+};
+
+static const struct row clock_rows[] = {
+    {"\nclock reports:", 0},
+    {"none", &reached.clock[THURAFEQA_CLOCK_NONE]},
+    {"internal", &reached.clock[THURAFEQA_CLOCK_INTERNAL]},
+    {"external", &reached.clock[THURAFEQA_CLOCK_EXTERNAL]},
+};
 
 static void print_reached(void)
 {
@@ -1647,21 +1726,11 @@ static void print_reached(void)
            reached.refused[12]);
     print_enabling();
     print_depths();
-    printf("\nseen:");
-    print_count("overflow", reached.overflow);
-    print_count("filler", reached.filler);
-    print_count("abort of a word", reached.aborted_word);
-    print_count("of a filler", reached.aborted_filler);
+    PRINT(seen_rows);
     print_marks();
-    printf("\nticks:");
-    print_count("an edge", reached.edge);
-    print_count("no edge", reached.no_edge);
-    print_count("edges in linked runs", reached.linked_edges);
+    PRINT(tick_rows);
     print_steps();
-    printf("\nclock reports:");
-    print_count("none", reached.clock[THURAFEQA_CLOCK_NONE]);
-    print_count("internal", reached.clock[THURAFEQA_CLOCK_INTERNAL]);
-    print_count("external", reached.clock[THURAFEQA_CLOCK_EXTERNAL]);
+    PRINT(clock_rows);
     print_framed();
     print_traces();
     print_saves();

@@ -6,13 +6,16 @@
 --     here, upcoming               a record of a section, and the next one that is not idle
 --     played-on                    the calls from a record on: its own, and those of the records behind it
 --     passed-on, played-out        from an idle record on: those from the next one on that is not idle, or none
---     made-right                   a file that is played is right
+--     none-made                    records that count nothing make no call
+--     made-right, made-count       a file that is played is right, and what it counts
+--     nothing-made                 a file that counts nothing makes no call
 --     plays-refused, plays-made    what a refused play comes to, and one that is made
 -- Assumes nothing.
 use Prim.Native.Nat.{ℕ, zero, suc, _+_, _*_, _-_, _/_, _%_, _<_, _≤_}
 use mathlib.Core.Bool.{true, false, not}
 use mathlib.Core.List.{List, [], _∷_, _++_}
-use mathlib.Core.Path.{_≡_, refl, sym, ap, _∙_}
+use mathlib.Core.Path.{_≡_, refl, sym, ap, ap₂, _∙_}
+use native.Mathlib.Nat.{suc-mul}
 use native.Mathlib.Omega.{arith}
 use borrow.Author.Tests.{ltb-true, ltb-false, eqb-false, eq-eqb, ne-eqb}
 use lib.Dec.{ltb, eqb}
@@ -28,8 +31,7 @@ use Rattle.spi_trace_rules.specs.declared.Entry.{Entry}
 use Rattle.spi_trace_rules.specs.declared.Fault.{Fault}
 use Rattle.spi_trace_rules.specs.declared.Played.{Played}
 use Rattle.spi_trace_rules.specs.declared.Played.the-variants.{Refused, Made}
-use Rattle.spi_trace_rules.specs.Trace.{contentsRight, sectionCount, tableEnd, startOf, sizeOf, recordsOf, isPlay, levelOf, rightOf, recordsRight, callOf, times, callsBy, callsOf, fileCalls, playedOf, isMade, playedModule}
-use Rattle.spi_trace_rules.proofs.TraceContents.{place-below}
+use Rattle.spi_trace_rules.specs.Trace.{contentsRight, sectionCount, startOf, sizeOf, recordsOf, isPlay, levelOf, rightOf, recordsRight, callOf, times, callsBy, callsOf, countBy, countOf, fileCalls, fileCount, playedOf, isMade, playedModule}
 use Rattle.spi_trace_rules.proofs.TraceLevels.{play-right}
 use Rattle.spi_trace_files.specs.Places.{entryAt, entriesAt}
 use Rattle.spi_trace_files.specs.Idle.{idle, landingOf, PassedFrom}
@@ -141,13 +143,13 @@ module _ (f : List ℕ) (contents : contentsRight f ≡ true) (records : records
               ∙ record-right f contents records k h (sizeOf f k / 4 % 65536 - n) (omega arith);
         }
 
-    pub upcoming : (next : List ℕ) → PassedFrom f (tableEnd f) next → 0 < n → idle (entryAt f at) ≡ true →
+    pub upcoming : (next : List ℕ) → PassedFrom f 0 next → 0 < n → idle (entryAt f at) ≡ true →
         Next f at (getD next (at / 4) 0)
     upcoming next passed some idles =
         let p = section-places f contents k h in
         let inside : at + 4 ≤ length f = omega (arith, p .inside) in
         let is : getD next (at / 4) 0 ≡ landingOf f at =
-        passed .each at (omega (arith, p .first, place-below f k 0 (omega arith))) inside (omega (arith, p .aligned, p .inside)) idles in
+        passed .each at (omega arith) inside (omega (arith, p .aligned, p .inside)) idles in
         let step : landingOf f at ≡ landingOf f (at + 4) = landing-step f at inside ∙ if-true (idle (entryAt f at)) _ _ idles in
         let l : Lands f (at + 4) (landingOf f (at + 4)) = lands f (at + 4) inside in
         record { is = is; further = omega (arith, l .least); whole = omega (arith, l .whole, l .least) }
@@ -178,6 +180,24 @@ pub none-left : (f : List ℕ) (left n at : ℕ) (m : Module) → n ≤ 0 → af
 unfolding callsBy
 none-left f left n at m h = ap (λ (es : List Entry). afterCalls m (callsBy (callsOf f left) es)) (entries-none f n at h)
 
+-- Records that count nothing make no call: each plays a section zero times.
+idles : (v n : ℕ) (cs : List Call) → v * (1 + n) ≡ 0 → times v cs ≡ []
+unfolding times
+idles zero n cs none = refl
+idles (suc v) n cs none = absurd (omega (arith, suc-mul v (1 + n)))
+
+none-made : (sub : ℕ → ℕ) (calls : ℕ → List Call) (es : List Entry) → countBy sub es ≡ 0 → callsBy calls es ≡ []
+unfolding countBy callsBy
+none-made sub calls [] none = refl
+none-made sub calls (e ∷ es) none =
+    by-test (isPlay e)
+    (λ play.
+    let first = if-true (isPlay e) (e .value * (1 + sub (e .argument))) 1 play in
+    ap₂ (λ (x y : List Call). x ++ y)
+    (if-true (isPlay e) _ _ play ∙ idles (e .value) (sub (e .argument)) _ (omega (arith, first)))
+    (none-made sub calls es (omega (arith, first))))
+    (λ call. absurd (omega (arith, if-false (isPlay e) (e .value * (1 + sub (e .argument))) 1 call)))
+
 -- A file that is played is right.
 pub made-right : (f : List ℕ) (count : ℕ) → playedOf f ≡ Made count → (contentsRight f ≡ true) × (recordsRight f ≡ true)
 unfolding playedOf
@@ -191,6 +211,25 @@ made-right f count made =
     (ap isMade
     (if-false (not (contentsRight f)) _ _ (ap not contents) ∙ if-true (not (recordsRight f)) _ _ (ap not wrong)))))
     (λ wrong. clash (isMade (playedOf f)) (ap isMade made) (ap isMade (if-true (not (contentsRight f)) _ _ (ap not wrong))))
+
+-- Its count is what it made.
+calls-made : Played → ℕ
+calls-made (Refused w) = 0
+calls-made (Made n) = n
+
+made-count : (f : List ℕ) (count : ℕ) → playedOf f ≡ Made count → fileCount f ≡ count
+unfolding playedOf calls-made
+made-count f count made =
+    let right = made-right f count made in
+    let is = if-false (not (contentsRight f)) _ _ (ap not (right .0)) ∙ if-false (not (recordsRight f)) _ _ (ap not (right .1)) in
+    by-test (ltb 65535 (fileCount f))
+    (λ many. clash (isMade (playedOf f)) (ap isMade made) (ap isMade (is ∙ if-true (ltb 65535 (fileCount f)) _ _ many)))
+    (λ few. sym (ap calls-made (is ∙ if-false (ltb 65535 (fileCount f)) _ _ few)) ∙ ap calls-made made)
+
+pub nothing-made : (f : List ℕ) (count : ℕ) → playedOf f ≡ Made count → count ≡ 0 → fileCalls f ≡ []
+unfolding fileCount fileCalls countOf callsOf
+nothing-made f count made none =
+    none-made (countOf f 7) (callsOf f 7) (recordsOf f 0) (made-count f count made ∙ none)
 
 -- What a play comes to.
 pub plays-refused : (f : List ℕ) (r : Played) (fault : Fault) (w : List ℕ) → r ≡ playedOf f → r ≡ Refused fault →

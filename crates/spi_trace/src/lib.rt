@@ -6,7 +6,7 @@ ghost use Prim.Native.Nat.{_<_};
 ghost use mathlib.Core.Bool.{true};
 ghost use mathlib.Core.Path.{_≡_};
 ghost use Rattle.spi_rules.specs.Calls.{performOf, afterCalls};
-ghost use Rattle.spi_trace_rules.specs.Trace.{sectionCount, tableEnd, contentsRight, recordsRight, isPlay, callOf, callsOf, faultNumberOf};
+ghost use Rattle.spi_trace_rules.specs.Trace.{sectionCount, contentsRight, recordsRight, isPlay, callOf, callsOf, fileCalls, faultNumberOf};
 ghost use Rattle.spi_trace_files.specs.Idle.{PassedFrom};
 ghost use Rattle.spi_memory.specs.Memory.{moduleIn};
 ghost use Rattle.spi_trace.specs.Playing.{entryCalls, Plays};
@@ -51,7 +51,7 @@ fn make(w: &mut [u16; 96], e: Entry)
 
 // Plays a record: makes its call, or plays the section that it names as often as it says.
 fn play_entry(f: &[u8], next: &[u16; 16384], w: &mut [u16; 96], left: u8, e: Entry)
-    requires { ⌜ (contentsRight (now f) ≡ true) × (recordsRight (now f) ≡ true) × PassedFrom (now f) (tableEnd (now f)) (now next) ⌝ }
+    requires { ⌜ (contentsRight (now f) ≡ true) × (recordsRight (now f) ≡ true) × PassedFrom (now f) 0 (now next) ⌝ }
     requires { ⌜ (isPlay e ≡ true → e .argument < sectionCount (now f)) ⌝ }
     ensures { λ _. ⌜ moduleIn (now (w .exit)) ≡ afterCalls (moduleIn (now (w .entry))) (entryCalls (now (f .entry)) left e) ⌝ }
 {
@@ -70,7 +70,7 @@ fn play_entry(f: &[u8], next: &[u16; 16384], w: &mut [u16; 96], left: u8, e: Ent
 
 // Plays a section with so many levels left, one fewer for the sections that it plays. Idle records are passed.
 fn play_section(f: &[u8], next: &[u16; 16384], w: &mut [u16; 96], k: u16, left: u8)
-    requires { ⌜ (contentsRight (now f) ≡ true) × (recordsRight (now f) ≡ true) × PassedFrom (now f) (tableEnd (now f)) (now next) ⌝ }
+    requires { ⌜ (contentsRight (now f) ≡ true) × (recordsRight (now f) ≡ true) × PassedFrom (now f) 0 (now next) ⌝ }
     requires { ⌜ k < sectionCount (now f) ⌝ }
     ensures { λ _. ⌜ moduleIn (now (w .exit)) ≡ afterCalls (moduleIn (now (w .entry))) (callsOf (now (f .entry)) left k) ⌝ }
 {
@@ -98,17 +98,29 @@ fn play_section(f: &[u8], next: &[u16; 16384], w: &mut [u16; 96], k: u16, left: 
     }
 }
 
-// Plays a file: the answer is why it is not played, or the calls made.
+// Makes the calls of a file that is right, by the table of its idle records.
+fn play_calls(f: &[u8], w: &mut [u16; 96])
+    requires { ⌜ (contentsRight (now f) ≡ true) × (recordsRight (now f) ≡ true) ⌝ }
+    ensures { λ _. ⌜ moduleIn (now (w .exit)) ≡ afterCalls (moduleIn (now (w .entry))) (fileCalls (now (f .entry))) ⌝ }
+{
+    let mut next = [0u16; 16384];
+    spi_trace_files::pass_over(f, &mut next);
+    play_section(f, &next, w, 0, 8);
+}
+
+// Plays a file: the answer is why it is not played, or the calls made. The table of 32 kB is made where there are any.
 pub fn play(f: &[u8], w: &mut [u16; 96]) -> Played
     ensures { λ r. ⌜ Plays (now (f .entry)) r (now (w .entry)) (now (w .exit)) ⌝ }
 {
-    let mut next = [0u16; 16384];
-    let answer = spi_trace_files::look_over(f, &mut next);
+    let answer = spi_trace_files::look_over(f);
     match answer {
         Played::Refused(fault) => Played::Refused(fault),
         Played::Made(count) => {
             spi_memory::power_up(w);
-            play_section(f, &next, w, 0, 8);
+            if count == 0 {
+                return Played::Made(count);
+            }
+            play_calls(f, w);
             Played::Made(count)
         }
     }

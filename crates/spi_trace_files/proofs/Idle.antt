@@ -2,6 +2,7 @@
 --     landing-step, landing-end   one record more, and none
 --     lands                       where the next record that is not idle may lie
 --     passed-first, passed-next   the table, before any record and with one more
+--     passed-all                  the table of all records
 --     passing                     records that are passed make no call
 -- Assumes nothing.
 use Prim.Native.Nat.{ℕ, zero, suc, _+_, _*_, _-_, _/_, _%_, _≤_}
@@ -77,6 +78,11 @@ module _ (f : List ℕ) where
         subst (PassedFrom f at) (sym (if-true (idle (entryAt f at)) _ _ is))
         (passed-set to (lands ∙ sym (landing-step at inside ∙ if-true (idle (entryAt f at)) _ _ is))))
         (λ not. subst (PassedFrom f at) (sym (if-false (idle (entryAt f at)) _ _ not)) (passed-kept not))
+
+  -- From the first place on that lies in fours before the end, the table has all records.
+  pub passed-all : (at : ℕ) (next : List ℕ) → at ≤ 3 → at ≤ length f → (length f - at) % 4 ≡ 0 → PassedFrom f at next → PassedFrom f 0 next
+  passed-all at next low inside aligned from =
+      record { all = from .all; each = λ i reached below whole is. from .each i (omega arith) below whole is }
 
   lands-some : (n at : ℕ) → (at ≤ landing f n at) × (landing f n at ≤ at + 4 * n) × ((landing f n at - at) % 4 ≡ 0)
   unfolding landing

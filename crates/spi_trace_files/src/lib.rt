@@ -7,10 +7,10 @@ ghost use mathlib.Core.Bool.{true};
 ghost use mathlib.Core.Path.{_≡_};
 ghost use lib.ListN.{length, getD, set};
 ghost use Rattle.laws.specs.Choice.{if_then_else_};
-ghost use Rattle.spi_trace_rules.specs.Trace.{tableEnd, byteAt, halfAt, wordAt, sectionCount, startOf, sizeOf, placeOf, inFours, contentsRight, bodyOf, recordsOf, isPlay, levelOf, rightRecord, allOf, recordsRight, countBy, fileCount, playedOf, isMade};
+ghost use Rattle.spi_trace_rules.specs.Trace.{byteAt, halfAt, wordAt, sectionCount, startOf, sizeOf, inFours, contentsRight, bodyOf, recordsOf, isPlay, levelOf, rightRecord, allOf, recordsRight, countBy, fileCount, playedOf};
 ghost use Rattle.spi_trace_files.specs.Places.{entryAt, gaplessEnd, statedEnd};
 ghost use Rattle.spi_trace_files.specs.Passes.{raisedOne, raisedBy, capped, weightBy};
-ghost use Rattle.spi_trace_files.specs.Idle.{idle, landingOf, PassedFrom};
+ghost use Rattle.spi_trace_files.specs.Idle.{idle, PassedFrom};
 
 // The byte at a place, and 0 beyond the end.
 fn byte_at(f: &[u8], i: usize) -> u8
@@ -347,75 +347,54 @@ pub fn is_idle(e: Entry) -> bool
     (kind == 5) & (value == 0)
 }
 
-// Where the first record from one on lies that is not idle: at its own place, or further behind. Of an idle one the table says it.
-fn land(next: &mut [u16; 16384], e: Entry, at: u16, behind: u16) -> u16
-    requires { ⌜ length (now next) ≡ 16384 ⌝ }
-    ensures { λ r. ⌜ r ≡ (if idle e then behind else at) ⌝ }
-    ensures { λ _. ⌜ now (next .exit) ≡ (if idle e then set (now (next .entry)) (at / 4) behind else now (next .entry)) ⌝ }
-{
-    if is_idle(e) {
-        let slot = (at / 4) as usize;
-        next[slot] = behind;
-        return behind;
-    }
-    at
-}
-
-// What is known of a section: where the first record from its start on lies that is not idle, and what its records count.
-struct Passed {
-    to: u16,
-    count: u32,
-}
-
-// Goes through a section from its end, record by record.
-fn pass_section(
-    f: &[u8],
-    k: u16,
-    counts: &[u32; 256],
-    next: &mut [u16; 16384],
-    behind: u16,
-) -> Passed
+// What the records of a section count, up to 65,536.
+fn count_section(f: &[u8], k: u16, counts: &[u32; 256]) -> u32
     requires { ⌜ (contentsRight (now f) ≡ true) × (k < sectionCount (now f)) ⌝ }
-    requires { ⌜ PassedFrom (now f) (placeOf (now f) (k + 1)) (now next) ⌝ }
-    requires { ⌜ behind ≡ landingOf (now f) (placeOf (now f) (k + 1)) ⌝ }
-    ensures { λ r. ⌜ r .to ≡ landingOf (now (f .entry)) (placeOf (now (f .entry)) k) ⌝ }
-    ensures { λ r. ⌜ r .count ≡ capped (countBy (λ j. getD (now (counts .entry)) j 0) (recordsOf (now (f .entry)) k)) ⌝ }
-    ensures { λ _. ⌜ PassedFrom (now (f .entry)) (placeOf (now (f .entry)) k) (now (next .exit)) ⌝ }
+    ensures { λ r. ⌜ r ≡ capped (countBy (λ j. getD (now (counts .entry)) j 0) (recordsOf (now (f .entry)) k)) ⌝ }
 {
     let mut left = record_count(f, k);
     let mut at = first_record(f, k) + 4 * left;
-    let mut to = behind;
     let mut total: u64 = 0;
     while 0 < left {
         left -= 1;
         at -= 4;
         let e = whole_entry(f, at as usize);
         total += weight(counts, e);
-        to = land(next, e, at, to);
     }
-    Passed {
-        to: to,
-        count: cap(total),
-    }
+    cap(total)
 }
 
-// Goes through all sections, each after those that it may play: the table for playing, and what playing counts, up to 65,536.
-fn pass_sections(f: &[u8], next: &mut [u16; 16384]) -> u32
-    requires { ⌜ (contentsRight (now f) ≡ true) × (recordsRight (now f) ≡ true) × (length (now next) ≡ 16384) ⌝ }
+// What playing counts, up to 65,536: all sections, each after those that it may play.
+fn count_sections(f: &[u8]) -> u32
+    requires { ⌜ (contentsRight (now f) ≡ true) × (recordsRight (now f) ≡ true) ⌝ }
     ensures { λ r. ⌜ r ≡ capped (fileCount (now (f .entry))) ⌝ }
-    ensures { λ _. ⌜ PassedFrom (now (f .entry)) (tableEnd (now (f .entry))) (now (next .exit)) ⌝ }
 {
     let mut counts = [0u32; 256];
-    let mut to = (f.len() % 65536) as u16;
     let mut k = count(f);
     while 0 < k {
         k -= 1;
-        let p = pass_section(f, k, &counts, next, to);
-        to = p.to;
+        let total = count_section(f, k, &counts);
         let own = k as usize;
-        counts[own] = p.count;
+        counts[own] = total;
     }
     counts[0]
+}
+
+// Looks a file over: what playing it answers.
+pub fn look_over(f: &[u8]) -> Played
+    ensures { λ r. ⌜ r ≡ playedOf (now (f .entry)) ⌝ }
+{
+    if !contents_right(f) {
+        return Played::Refused(Fault::BadContents);
+    }
+    if !records_right(f) {
+        return Played::Refused(Fault::BadRecord);
+    }
+    let total = count_sections(f);
+    if 65535 < total {
+        return Played::Refused(Fault::TooManyCalls);
+    }
+    Played::Made(total as u16)
 }
 
 // The table has 16,384 places. Nothing is done at run time: this is for proofs.
@@ -431,23 +410,36 @@ fn is_whole(next: &[u16; 16384]) -> bool
     counted(*next)
 }
 
-// Looks a file over: what playing it answers, and for each idle record, if it is played, where the first one behind lies that is not.
-pub fn look_over(f: &[u8], next: &mut [u16; 16384]) -> Played
-    ensures { λ r. ⌜ r ≡ playedOf (now (f .entry)) ⌝ }
-    ensures { λ r. ⌜ (isMade r ≡ true → PassedFrom (now (f .entry)) (tableEnd (now (f .entry))) (now (next .exit))) ⌝ }
+// Where the first record from one on lies that is not idle: at its own place, or further behind. Of an idle one the table says it.
+fn land(next: &mut [u16; 16384], e: Entry, at: u16, behind: u16) -> u16
+    requires { ⌜ length (now next) ≡ 16384 ⌝ }
+    ensures { λ r. ⌜ r ≡ (if idle e then behind else at) ⌝ }
+    ensures { λ _. ⌜ now (next .exit) ≡ (if idle e then set (now (next .entry)) (at / 4) behind else now (next .entry)) ⌝ }
 {
-    if !contents_right(f) {
-        return Played::Refused(Fault::BadContents);
+    if is_idle(e) {
+        let slot = (at / 4) as usize;
+        next[slot] = behind;
+        return behind;
     }
-    if !records_right(f) {
-        return Played::Refused(Fault::BadRecord);
+    at
+}
+
+// The table for playing: for each idle record, where the first one behind it lies that is not idle. Records lie in fours up to the file's
+// end, whatever section they are of.
+pub fn pass_over(f: &[u8], next: &mut [u16; 16384])
+    ensures { λ _. ⌜ (length (now (f .entry)) ≤ 65535 → PassedFrom (now (f .entry)) 0 (now (next .exit))) ⌝ }
+{
+    if 65535 < f.len() {
+        return;
     }
     is_whole(next);
-    let total = pass_sections(f, next);
-    if 65535 < total {
-        return Played::Refused(Fault::TooManyCalls);
+    let mut at = f.len() as u16;
+    let mut to = at;
+    while 4 <= at {
+        at -= 4;
+        let e = whole_entry(f, at as usize);
+        to = land(next, e, at, to);
     }
-    Played::Made(total as u16)
 }
 
 // The lesser of two numbers.

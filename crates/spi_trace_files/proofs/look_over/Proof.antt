@@ -1,5 +1,4 @@
--- `spi_trace_files::look_over` meets its contract, test by test in the order of the definition. Of a refused file nothing is promised of
--- the table. Assumes nothing.
+-- `spi_trace_files::look_over` meets its contract, test by test in the order of the definition. Assumes nothing.
 use Prim.Native.Nat.{ℕ, _<_, _≤_}
 use mathlib.Core.Bool.{true, false, not}
 use mathlib.Core.List.{List}
@@ -10,7 +9,6 @@ use borrow.Author.Tests.{not-true, not-false}
 use lib.Dec.{ltb}
 use Rattle.laws.specs.Choice.{if_then_else_}
 use Rattle.laws.proofs.Choices.{so, not-so, so-lt, not-so-lt}
-use Rattle.laws.proofs.Keeps.{clash}
 use Rattle.spi_trace_rules.specs.declared.Fault.the-variants.{BadContents, BadRecord, TooManyCalls}
 use Rattle.spi_trace_rules.specs.declared.Played.{Played}
 use Rattle.spi_trace_rules.specs.declared.Played.the-variants.{Refused, Made}
@@ -44,10 +42,7 @@ module _ (f : List ℕ) (contents : contentsRight f ≡ true) where
         by-count _ (not-so-lt 65535 (fileCount f) _ _ (omega arith) (ap Made whole))
 
 returns : tie.Need-returns
-returns c = (
-  bad-contents _ (sym (c .before .contents-right .ensures) ∙ not-true (c .before .contents-right .result) (c .if1 .taken)),
-  λ e. clash false e refl,
-)
+returns c = bad-contents _ (sym (c .before .contents-right .ensures) ∙ not-true (c .before .contents-right .result) (c .if1 .taken))
 
 -- The tests that a file has passed.
 contents-are : (c : tie.Else1) → contentsRight (c .before .before .before .args .f .now) ≡ true
@@ -60,30 +55,22 @@ records-right-requires : tie.Need-records-right-requires
 records-right-requires c κs = contents-are c
 
 returns-2 : tie.Need-returns-2
-returns-2 c = (
-  bad-record _ (contents-are (c .before .before))
-      (sym (c .before .records-right .ensures) ∙ not-true (c .before .records-right .result) (c .if2 .taken)),
-  λ e. clash false e refl,
-)
+returns-2 c =
+    bad-record _ (contents-are (c .before .before))
+    (sym (c .before .records-right .ensures) ∙ not-true (c .before .records-right .result) (c .if2 .taken))
 
-pass-sections-requires : tie.Need-pass-sections-requires
-pass-sections-requires c κs =
-    let passed = c .before .before .before in
-    (contents-are (passed .before .before), records-are passed, c .before .is-whole .ensures .1)
+count-sections-requires : tie.Need-count-sections-requires
+count-sections-requires c κs = (contents-are (c .before .before), records-are c)
 
 returns-3 : tie.Need-returns-3
 returns-3 c =
-    let passed = c .before .before .before .before .before in (
-      too-many _ (contents-are (passed .before .before)) (records-are passed) _ (c .before .pass-sections .ensures .0) (c .if3 .taken),
-      λ e. clash false e refl,
-    )
+    let passed = c .before .before in
+    too-many _ (contents-are (passed .before .before)) (records-are passed) _ (c .before .count-sections .ensures) (c .if3 .taken)
 
 returns-4 : tie.Need-returns-4
 returns-4 c =
-    let passed = c .before .before .before .before .before in (
-      made _ (contents-are (passed .before .before)) (records-are passed) _ (c .before .pass-sections .ensures .0) (c .if3 .left),
-      λ e. c .before .pass-sections .ensures .1,
-    )
+    let passed = c .before .before in
+    made _ (contents-are (passed .before .before)) (records-are passed) _ (c .before .count-sections .ensures) (c .if3 .left)
 
 pub look-over-spec : {M : Type 1} → statement M
 look-over-spec =
@@ -93,8 +80,7 @@ look-over-spec =
     returns
     records-right-requires
     returns-2
-    (λ c κs. search needs)
-    pass-sections-requires
+    count-sections-requires
     returns-3
     (λ c. search needs)
     returns-4)
