@@ -11,7 +11,7 @@ use native.Mathlib.Omega.{arith}
 use borrow.Author.Tests.{not-true, not-false}
 use lib.Dec.{ltb, lit<}
 use Rattle.laws.specs.Choice.{if_then_else_}
-use Rattle.laws.proofs.Keeps.{if-keeps, if-both, if-true, if-false, by-test, clash, and-left, and-both, and-right, and-rest, and-first, like}
+use Rattle.laws.proofs.Keeps.{if-keeps, if-both, if-true, if-false, by-test, clash, and-both, and-right, and-rest, and-first, like}
 use Rattle.word_order.specs.Ledger.{Terms, begins, clocks, OnWire, Wire, quiet, busy, isQuiet, fresh, Ledger, withWire, counted, given, notedAll, loses, leftToSend, firstOnWire}
 use Rattle.word_order.specs.Port.{isUnder}
 use Rattle.word_order.proofs.Order.{tied-agrees}
@@ -39,7 +39,7 @@ use Rattle.spi_invariant.proofs.CallsWhen.{not-unlike, unframed-begins}
 use Rattle.spi_invariant.proofs.FinishWords.{begun-under}
 use Rattle.spi_word_rules.specs.Word.{inProgress, current, hasWord, idleFirst, sdiAt, edgesFrom, levelsBy, idled, edgesOf, levelsOf, wholeWord, wordOf}
 use Rattle.spi_word_rules.specs.declared.Worded.{Worded}
-use Rattle.spi_word_rules.proofs.WordHolds.{Started, started}
+use Rattle.spi_word_rules.proofs.WordHolds.{own-silent, unmoved, other-level, Started, started}
 use Rattle.spi_word_rules.proofs.Closed.{behind, remembered}
 use Rattle.spi_word_owed.specs.Entered.{Entered, wordWatched}
 use Rattle.spi_word_rules.proofs.WordMade.{at, step-edge}
@@ -122,15 +122,6 @@ fillerIn Free = false
 fillerIn (Loaded word) = false
 fillerIn (Begun p) = p .filler
 
--- A host that does not rest has a next edge.
-has-next : (s : Settings) (free : Bool) → framed s ≡ false → (silent s && free) ≡ false → (ownClock s && free) ≡ false
-has-next s free plain loud =
-    by-test (ownClock s)
-    (λ own.
-    let still : silent s ≡ true = if-false (framed s) _ _ plain ∙ and-left (s .con1 .msten) _ own in
-    ap (λ (b : Bool). b && free) own ∙ (sym (ap (λ (b : Bool). b && free) still) ∙ loud))
-    (λ pin. and-first _ _ pin)
-
 module _ (s : Settings) (on : s .spien ≡ true) (plain : framed s ≡ false) (ss : Bool) (chosen : deselected s ss ≡ false) (word : ℕ)
     (x : Watched) (n : Engine) (here : x .now ≡ at s n) (h : Lives x) (none : isBegun (n .shift) ≡ false)
     (loud : (silent s && isFree (n .shift)) ≡ false) (idle : n .pins .sck ≡ s .con1 .ckp) where
@@ -141,7 +132,7 @@ module _ (s : Settings) (on : s .spien ≡ true) (plain : framed s ≡ false) (s
   p = edge.fresh (fresh-is .filler) (fresh-is .word)
 
   next : (ownClock s && isFree (n .shift)) ≡ false
-  next = has-next s (isFree (n .shift)) plain loud
+  next = own-silent s (isFree (n .shift)) plain loud
 
   turns : Bool·beq (not (n .pins .sck)) (s .con1 .ckp) ≡ false
   turns = ap (Bool·beq (not (n .pins .sck))) (sym idle) ∙ not-unlike (n .pins .sck)
@@ -299,12 +290,6 @@ module _ (s : Settings) (on : s .spien ≡ true) (plain : framed s ≡ false) (s
       fresh-entered)
 
 -- An edge to the idle level with nothing begun: the module's clock moves, and the ledger enters nothing.
-unmoved : (s : Settings) (sdi : Bool) (sh : Shift) (n : Engine) → isBegun sh ≡ false → advancedIfBegun s sdi sh n ≡ n
-unfolding advancedIfBegun
-unmoved s sdi Free n e = refl
-unmoved s sdi (Loaded word) n e = refl
-unmoved s sdi (Begun p) n e = clash true refl e
-
 idle-noted : (t : Terms) (b sdo sdi : Bool) (l : Ledger) → l .wire ≡ quiet → b ≡ false →
     notedAll t ((if b then begins ∷ [] else []) ++ (clocks sdo sdi ∷ [])) l ≡ l
 unfolding if_then_else_ given
@@ -323,13 +308,13 @@ module _ (s : Settings) (on : s .spien ≡ true) (plain : framed s ≡ false) (s
   pub moved : performOf (at s n) idler .after ≡ at s r
   unfolding underWay remembered
   moved =
-      step-edge s on plain ss chosen n (sdiAt s 0 word) (has-next s (isFree (n .shift)) plain loud)
+      step-edge s on plain ss chosen n (sdiAt s 0 word) (own-silent s (isFree (n .shift)) plain loud)
       ∙ ap (λ (a : Shift). at s (advancedIfBegun s (sdiAt s 0 word) a r)) (if-true (Bool·beq (not (n .pins .sck)) (s .con1 .ckp)) _ _ turned)
       ∙ ap (at s) (unmoved s (sdiAt s 0 word) (n .shift) r none)
 
   enters-none : watchedCall x idler .ledger ≡ x .ledger
   enters-none =
-      step-noted s on plain ss chosen x n (sdiAt s 0 word) here (recalled s on plain ss chosen word x n here h) (has-next s (isFree (n .shift)) plain loud)
+      step-noted s on plain ss chosen x n (sdiAt s 0 word) here (recalled s on plain ss chosen word x n here h) (own-silent s (isFree (n .shift)) plain loud)
       ∙ idle-noted (terms s) _ (n .pins .sdo) (sdiAt s 0 word) (x .ledger)
       (is-quiet (x .ledger .wire)
       (tied-agrees _ _ _ (h .tied (ap (λ (m : Module). m .settings .spien) here ∙ on) .words) .under
@@ -357,12 +342,6 @@ module _ (s : Settings) (on : s .spien ≡ true) (plain : framed s ≡ false) (s
       (like _ _ turned))
 
 -- ---- the word call
-
-other-level : (a b : Bool) → Bool·beq a b ≡ false → Bool·beq (not a) b ≡ true
-other-level true true e = clash true refl e
-other-level true false e = refl
-other-level false true e = refl
-other-level false false e = clash true refl e
 
 same-current : (s : Settings) (n : Engine) (sck ss : Bool) → current s (clocked sck (remembered s ss n)) ≡ current s n
 unfolding current remembered clocked

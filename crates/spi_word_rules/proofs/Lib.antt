@@ -6,3 +6,5 @@ pub mod Closed
 pub mod Values
 pub mod WordMade
 pub mod WordHolds
+-- What it tells fits the fields of its number:
+pub mod Fits

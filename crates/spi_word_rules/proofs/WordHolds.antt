@@ -59,7 +59,7 @@ goes-on s n (Loaded word) e = clash false e refl
 goes-on s n (Begun p) e = refl
 
 -- An unframed module with no word under way that its own clock could move is silent.
-own-silent : (s : Settings) (free : Bool) → framed s ≡ false → (silent s && free) ≡ false → (ownClock s && free) ≡ false
+pub own-silent : (s : Settings) (free : Bool) → framed s ≡ false → (silent s && free) ≡ false → (ownClock s && free) ≡ false
 own-silent s free plain loud =
     by-test (ownClock s)
     (λ own.
@@ -98,13 +98,13 @@ remembered-once true a b = refl
 remembered-once false a b = refl
 
 -- An edge with no word under way only moves the clock.
-unmoved : (s : Settings) (sdi : Bool) (x : Shift) (n : Engine) → isBegun x ≡ false → advancedIfBegun s sdi x n ≡ n
+pub unmoved : (s : Settings) (sdi : Bool) (x : Shift) (n : Engine) → isBegun x ≡ false → advancedIfBegun s sdi x n ≡ n
 unfolding advancedIfBegun
 unmoved s sdi Free n e = refl
 unmoved s sdi (Loaded word) n e = refl
 unmoved s sdi (Begun p) n e = clash true refl e
 
-other-level : (a b : Bool) → Bool·beq a b ≡ false → Bool·beq (not a) b ≡ true
+pub other-level : (a b : Bool) → Bool·beq a b ≡ false → Bool·beq (not a) b ≡ true
 other-level true true e = clash true refl e
 other-level true false e = refl
 other-level false true e = refl

@@ -1,6 +1,6 @@
 -- `spi_trace_files::pass_over` meets its contract. The loop's invariant: from the place reached on, `to` is where the next record lies
 -- that is not idle, and the table is right. The measure is the bytes left. Assumes nothing.
-use Prim.Native.Nat.{ℕ, _+_, _-_, _/_, _%_, _<_, _≤_}
+use Prim.Native.Nat.{ℕ, _+_, _-_, _/_, _%_, _≤_}
 use mathlib.Core.Path.{_≡_, ap, ap₂, subst, sym, _∙_}
 use native.Mathlib.Omega.{arith}
 use borrow.Author.Needs.{needs}
