@@ -1,12 +1,14 @@
--- What the buyer signs for, all of it: the demands on one module, on two modules on one wire and what it delivers, on the clock report, on the
--- script program, on trace files, on saved sessions, on salvaged traces, on the board and on its total of words owed, on the audio card and on the
+-- What the buyer signs for, all of it: the demands on one module, on two modules on one wire and what it delivers, on a word at a time, on the clock
+-- report and the prescalers for a wanted rate, on the script program, on trace files, on saved sessions, on salvaged traces, on the board and on its total of words owed, on the audio card and on the
 -- TI module. Each page says its part in the crate of its rules.
 use Rattle.card_rules.specs.CardDemands.{CardDemands}
 use Rattle.ti_rules.specs.Demands.{TiDemands}
 use Rattle.spi_rules.specs.Demands.{OneModule}
 use Rattle.spi_link_rules.specs.LinkDemands.{LinkedRuns}
 use Rattle.spi_link_rules.specs.WireDemands.{WireDelivers}
+use Rattle.spi_word_rules.specs.WordDemands.{WordCalls}
 use Rattle.spi_clock_rules.specs.ClockDemands.{ClockReports}
+use Rattle.spi_rate_rules.specs.RateDemands.{RateDemands}
 use Rattle.spi_script_rules.specs.ScriptDemands.{Scripts}
 use Rattle.spi_trace_rules.specs.TraceDemands.{Traces}
 use Rattle.spi_save_rules.specs.SaveDemands.{Saves}
@@ -18,7 +20,9 @@ pub record Demands : Type 0 where
   pub oneModule : OneModule
   pub linkedRuns : LinkedRuns
   pub wireDelivers : WireDelivers
+  pub wordCalls : WordCalls
   pub clockReports : ClockReports
+  pub prescalers : RateDemands
   pub scripts : Scripts
   pub traces : Traces
   pub saves : Saves

@@ -33,12 +33,11 @@ use Rattle.spi_types.specs.declared.Outcome.{Outcome}
 use Rattle.spi_rules.specs.Settings.{widthOf, framed, silent, ckeOf, ownClock}
 use Rattle.spi_rules.specs.Registers.{isFree}
 use Rattle.spi_rules.specs.Bits.{samples}
-use Rattle.spi_rules.specs.Invariant.{sampled}
 use Rattle.spi_rules.specs.Finish.{finished}
 use Rattle.spi_rules.specs.Edge.{wordEdges, clocked}
 use Rattle.spi_word_rules.specs.declared.Worded.{Worded}
 use Rattle.spi_rules.specs.Calls.{clockStepOf, performOf}
-use Rattle.spi_word_rules.specs.Word.{current, resting, hasWord, idleFirst, bitsLeft, levelOn, stepLevel, oneStep, wordOf, sendsNext, wordsIn, edgesIn, edgesOwed}
+use Rattle.spi_word_rules.specs.Word.{bitsSampled, current, resting, hasWord, idleFirst, bitsLeft, levelOn, stepLevel, oneStep, wordOf, sendsNext, wordsIn, edgesIn, edgesOwed}
 use Rattle.spi_word_rules.proofs.Closed.{behind, lastSck, lastSdo, allLevels, wordMade, remembered, readied}
 use Rattle.spi_word_rules.proofs.Values.{fewer, as-many}
 use Rattle.spi_word_rules.proofs.WordHolds.{started, whole-word}
@@ -68,8 +67,8 @@ module _ (s : Settings) (p : Progress) (left : ℕ) (is : left ≡ bitsLeft s (p
       (sym (if-false (samples (ckeOf s) (p .edges + 1)) _ _ e))
 
 -- How many bits are sampled, without a choice.
-pub sampled-sum : (cke : Bool) (k : ℕ) → (k + boolByte cke) / 2 ≡ sampled cke k
-unfolding sampled if_then_else_
+pub sampled-sum : (cke : Bool) (k : ℕ) → (k + boolByte cke) / 2 ≡ bitsSampled cke k
+unfolding bitsSampled if_then_else_
 sampled-sum true k = refl
 sampled-sum false k = omega arith
 

@@ -1,6 +1,5 @@
 -- What the ledger enters of a word call that begins its word (demand 3): one word goes out and one comes in, at the last edge, and none
 -- is begun behind it; an edge to the idle level before it enters nothing.
---     word-begins-now       the call is its clock steps
 --     word-begins-entered   what goes out is what the call tells, and what comes in is the bits that it brought
 -- Assumes nothing.
 use Prim.Native.Nat.{ℕ, suc, _+_, _*_, _-_, _%_, _^_, _<_}
@@ -15,7 +14,6 @@ use Rattle.laws.proofs.Keeps.{if-keeps, if-both, if-true, if-false, by-test, cl
 use Rattle.word_order.specs.Ledger.{Terms, begins, clocks, OnWire, Wire, quiet, busy, isQuiet, fresh, Ledger, withWire, counted, given, notedAll, loses, leftToSend, firstOnWire}
 use Rattle.word_order.specs.Port.{isUnder}
 use Rattle.word_order.proofs.Order.{tied-agrees}
-use Rattle.word_order.proofs.Tied.{Carries}
 use Rattle.spi_types.specs.declared.Settings.{Settings}
 use Rattle.spi_types.specs.declared.Engine.{Engine}
 use Rattle.spi_types.specs.declared.Module.{Module}
@@ -29,22 +27,20 @@ use Rattle.spi_rules.specs.Registers.{isFree}
 use Rattle.spi_rules.specs.Buffers.{empty}
 use Rattle.spi_rules.specs.Loading.{isBegun}
 use Rattle.spi_rules.specs.Select.{deselected}
-use Rattle.spi_rules.specs.Bits.{progressed}
 use Rattle.spi_rules.specs.Edge.{wordEdges, begun, awaitsPulse, underWay, shifted, advanced, advancedIfBegun, clocked}
 use Rattle.spi_rules.specs.Edge as edge
 use Rattle.spi_rules.specs.Calls.{performOf, afterCalls}
-use Rattle.spi_rules.specs.Watch.{terms, sightOf, mayBegin, sckOfStep, wayOf, portIn, Watched, watchedCall, watchedCalls}
-use Rattle.spi_rules.proofs.LivesReach.{watched-reaches}
+use Rattle.spi_rules.specs.Watch.{terms, sightOf, mayBegin, sckOfStep, wayOf, Watched, watchedCall, watchedCalls}
 use Rattle.spi_invariant.proofs.CallsWhen.{not-unlike, unframed-begins}
 use Rattle.spi_invariant.proofs.FinishWords.{begun-under}
 use Rattle.spi_word_rules.specs.Word.{inProgress, current, hasWord, idleFirst, sdiAt, edgesFrom, levelsBy, idled, edgesOf, levelsOf, wholeWord, wordOf}
 use Rattle.spi_word_rules.specs.declared.Worded.{Worded}
 use Rattle.spi_word_rules.proofs.WordHolds.{own-silent, unmoved, other-level, Started, started}
 use Rattle.spi_word_rules.proofs.Closed.{behind, remembered}
-use Rattle.spi_word_owed.specs.Entered.{Entered, wordWatched}
+use Rattle.spi_word_owed.proofs.Entered.{Entered}
 use Rattle.spi_word_rules.proofs.WordMade.{at, step-edge}
 use Rattle.spi_order.proofs.Order.{Lives, lives-on}
-use Rattle.spi_word_owed.proofs.Noted.{closed-over, step-noted, edge-on, takenBy, taken-behind, Closes, recalled, edge-short, closes, once, counted-filler, closes-entered, carried}
+use Rattle.spi_word_owed.proofs.Noted.{closed-over, step-noted, takenBy, taken-behind, Closes, recalled, edge-short, closes, once, closes-entered}
 
 -- ---- the ledger alone
 
@@ -58,6 +54,7 @@ given-over t sdo sdi w q l =
 -- With nothing on the wire a word or filler begins, if any does, and is given the edge.
 pub record BeginsAs (t : Terms) (sdo sdi : Bool) (l after : Ledger) : Type 0 where
   pub filler : Bool
+  pub marks : filler ≡ not (leftToSend l)
   pub to-it : after ≡ given t sdo sdi (busy (fresh filler)) l
 
 stays-quiet : (t : Terms) (sdo sdi : Bool) (l : Ledger) {A : Type 0} → isQuiet (given t sdo sdi quiet (withWire quiet l) .wire) ≡ false → A
@@ -69,9 +66,10 @@ begins-so : (t : Terms) (sdo sdi : Bool) (l : Ledger) → isQuiet (given t sdo s
 unfolding firstOnWire
 begins-so t sdo sdi l =
     let so : Wire → Type 0 = λ q. isQuiet (given t sdo sdi q (withWire q l) .wire) ≡ false → BeginsAs t sdo sdi l (given t sdo sdi q (withWire q l)) in
-    let with-one : (filler : Bool) → so (busy (fresh filler)) = λ filler h. record { filler = filler; to-it = given-over t sdo sdi (fresh filler) _ l } in
-    if-keeps so (leftToSend l) _ _ (λ e. with-one false)
-    (λ e. if-keeps so (t .silent) _ _ (λ e. stays-quiet t sdo sdi l) (λ e. with-one true))
+    let with-one : (filler : Bool) → filler ≡ not (leftToSend l) → so (busy (fresh filler)) =
+    λ filler e h. record { filler = filler; marks = e; to-it = given-over t sdo sdi (fresh filler) _ l } in
+    if-keeps so (leftToSend l) _ _ (λ e. with-one false (sym (ap not e)))
+    (λ e. if-keeps so (t .silent) _ _ (λ _. stays-quiet t sdo sdi l) (λ _. with-one true (sym (ap not e))))
 
 quiet-noted : (t : Terms) (b sdo sdi : Bool) (l : Ledger) → l .wire ≡ quiet → b ≡ true →
     notedAll t ((if b then begins ∷ [] else []) ++ (clocks sdo sdi ∷ [])) l ≡ given t sdo sdi (firstOnWire t l) (withWire (firstOnWire t l) l)
@@ -216,7 +214,8 @@ module _ (s : Settings) (on : s .spien ≡ true) (plain : framed s ≡ false) (s
       subst (BeginsAs (terms s) (n .pins .sdo) sdi (x .ledger)) (sym first)
       (begins-so (terms s) (n .pins .sdo) sdi (x .ledger) (subst (λ (a : Ledger). isQuiet (a .wire) ≡ false) first (not-quiet (y .ledger .wire) under-way)))
 
-  closed-so : Closes (terms s) (x .ledger) (watchedCalls x (edgesFrom s ss (n .pins .sck) 0 (suc (wordEdges s - 1)) word) .ledger) (fresh (begins-it .filler))
+  closed-so : Closes (terms s) (x .ledger) (watchedCalls x (edgesFrom s ss (n .pins .sck) 0 (wordEdges s - 1) word) .ledger)
+      (watchedCalls x (edgesFrom s ss (n .pins .sck) 0 (suc (wordEdges s - 1)) word) .ledger) (fresh (begins-it .filler))
       (levelsBy s ss (n .pins .sck) 0 (suc (wordEdges s - 1)) word 0 (at s n))
       (takenBy s 0 (suc (wordEdges s - 1)) word 0)
   unfolding remembered
@@ -226,65 +225,53 @@ module _ (s : Settings) (on : s .spien ≡ true) (plain : framed s ≡ false) (s
       (once (ownClock s) (n .pins .ss) ss)
       all-edges
 
-  -- It is a filler where the module's is one.
-  same-filler : begins-it .filler ≡ p .filler
-  unfolding shifted progressed
-  same-filler =
-      let u : OnWire = counted (terms s) (n .pins .sdo) sdi (fresh (begins-it .filler)) in
-      let entered-so : y .ledger ≡ withWire (busy u) (x .ledger) =
-      begins-it .to-it ∙ edge-on (terms s) (n .pins .sdo) sdi (fresh (begins-it .filler)) (x .ledger) more-edges in
-      let tied = lives-on x c h .tied (ap (λ (m : Module). m .settings .spien) there ∙ on) .words in
-      let its =
-      carried (terms (y .now .settings)) (portIn (y .now) .owed) (y .now .engine .shift) u
-      (subst (Carries (terms (y .now .settings)) (portIn (y .now) .owed) (wayOf (y .now .engine .shift))) (ap (λ (a : Ledger). a .wire) entered-so)
-      (tied .carries)) in
-      sym (counted-filler s (n .pins .sdo) sdi (fresh (begins-it .filler)))
-      ∙ its .same .filler
-      ∙ ap fillerIn (sym (its .is) ∙ ap (λ (m : Module). m .engine .shift) there)
-
   current-is : current s n ≡ p
   unfolding current
   current-is = ap inProgress (fresh-is .is)
 
   -- What the ledger enters of it.
-  pub fresh-entered : Entered (x .ledger) (watchedCalls x (edgesFrom s ss (n .pins .sck) 0 (suc (wordEdges s - 1)) word) .ledger)
-      (record { word = levelsBy s ss (n .pins .sck) 0 (suc (wordEdges s - 1)) word 0 (at s n); marked = current s n .filler })
+  pub fresh-entered : Entered (x .ledger) (watchedCalls x (edgesFrom s ss (n .pins .sck) 0 (wordEdges s - 1) word) .ledger)
+      (watchedCalls x (edgesFrom s ss (n .pins .sck) 0 (suc (wordEdges s - 1)) word) .ledger)
+      (record { word = levelsBy s ss (n .pins .sck) 0 (suc (wordEdges s - 1)) word 0 (at s n); marked = not (leftToSend (x .ledger)) })
       (record { word = behind s word 0 0; marked = loses (terms s) (x .ledger) })
   fresh-entered =
       subst₂
       (λ (f : Bool) (v : ℕ).
-      Entered (x .ledger) (watchedCalls x (edgesFrom s ss (n .pins .sck) 0 (suc (wordEdges s - 1)) word) .ledger)
+      Entered (x .ledger) (watchedCalls x (edgesFrom s ss (n .pins .sck) 0 (wordEdges s - 1) word) .ledger)
+      (watchedCalls x (edgesFrom s ss (n .pins .sck) 0 (suc (wordEdges s - 1)) word) .ledger)
       (record { word = levelsBy s ss (n .pins .sck) 0 (suc (wordEdges s - 1)) word 0 (at s n); marked = f })
       (record { word = v; marked = loses (terms s) (x .ledger) }))
-      (same-filler ∙ ap (λ (q : Progress). q .filler) (sym current-is))
+      (begins-it .marks)
       (taken-behind s (suc (wordEdges s - 1)) 0 word 0 all-edges)
-      (closes-entered s (x .ledger) _ (fresh (begins-it .filler)) _ _ closed-so)
+      (closes-entered s (x .ledger) _ _ (fresh (begins-it .filler)) _ _ closed-so)
 
   -- The same by the calls and the levels of the word call.
   left : (q : Progress) → q ≡ p → (q .edges ≡ 0) × (wordEdges s - q .edges ≡ suc (wordEdges s - 1))
   left q e = let none-given : q .edges ≡ 0 = ap (λ (a : Progress). a .edges) e in (none-given, omega (arith, more-edges, none-given))
 
-  edges-are : edgesOf (at s n) ss word ≡ edgesFrom s ss (n .pins .sck) 0 (suc (wordEdges s - 1)) word
-  edges-are = let l = left (current s n) current-is in ap₂ (λ (k j : ℕ). edgesFrom s ss (n .pins .sck) k j word) (l .0) (l .1)
+  pub fresh-edges : edgesOf (at s n) ss word ≡ edgesFrom s ss (n .pins .sck) 0 (suc (wordEdges s - 1)) word
+  fresh-edges = let l = left (current s n) current-is in ap₂ (λ (k j : ℕ). edgesFrom s ss (n .pins .sck) k j word) (l .0) (l .1)
 
   levels-are : levelsOf (at s n) ss word ≡ levelsBy s ss (n .pins .sck) 0 (suc (wordEdges s - 1)) word 0 (at s n)
   levels-are = let l = left (current s n) current-is in ap₂ (λ (k j : ℕ). levelsBy s ss (n .pins .sck) k j word 0 (at s n)) (l .0) (l .1)
 
-  pub fresh-word : Entered (x .ledger) (watchedCalls x (edgesOf (at s n) ss word) .ledger)
-      (record { word = levelsOf (at s n) ss word; marked = current s n .filler })
+  pub fresh-word : Entered (x .ledger) (watchedCalls x (edgesFrom s ss (n .pins .sck) 0 (wordEdges s - 1) word) .ledger) (watchedCalls x (edgesOf (at s n) ss word) .ledger)
+      (record { word = levelsOf (at s n) ss word; marked = not (leftToSend (x .ledger)) })
       (record { word = behind s word (current s n .edges) 0; marked = loses (terms s) (x .ledger) })
   fresh-word =
       let l = left (current s n) current-is in
       subst₂
       (λ (cs : List Call) (v : ℕ).
-      Entered (x .ledger) (watchedCalls x cs .ledger) (record { word = v; marked = current s n .filler })
+      Entered (x .ledger) (watchedCalls x (edgesFrom s ss (n .pins .sck) 0 (wordEdges s - 1) word) .ledger) (watchedCalls x cs .ledger)
+      (record { word = v; marked = not (leftToSend (x .ledger)) })
       (record { word = behind s word (current s n .edges) 0; marked = loses (terms s) (x .ledger) }))
-      (sym edges-are)
+      (sym fresh-edges)
       (sym levels-are)
       (subst
       (λ (k : ℕ).
-      Entered (x .ledger) (watchedCalls x (edgesFrom s ss (n .pins .sck) 0 (suc (wordEdges s - 1)) word) .ledger)
-      (record { word = levelsBy s ss (n .pins .sck) 0 (suc (wordEdges s - 1)) word 0 (at s n); marked = current s n .filler })
+      Entered (x .ledger) (watchedCalls x (edgesFrom s ss (n .pins .sck) 0 (wordEdges s - 1) word) .ledger)
+      (watchedCalls x (edgesFrom s ss (n .pins .sck) 0 (suc (wordEdges s - 1)) word) .ledger)
+      (record { word = levelsBy s ss (n .pins .sck) 0 (suc (wordEdges s - 1)) word 0 (at s n); marked = not (leftToSend (x .ledger)) })
       (record { word = behind s word k 0; marked = loses (terms s) (x .ledger) }))
       (sym (l .0))
       fresh-entered)
@@ -327,15 +314,23 @@ module _ (s : Settings) (on : s .spien ≡ true) (plain : framed s ≡ false) (s
       (λ e. ap (λ (a : Bool). Bool·beq (not a) (s .con1 .ckp)) (recalled s on plain ss chosen word x n here h) ∙ turned)
       (λ e. turned))))
 
-  pub idle-word : Entered (x .ledger) (watchedCalls (watchedCall x idler) (edgesOf (at s r) ss word) .ledger)
-      (record { word = levelsOf (at s r) ss word; marked = current s r .filler })
+  pub idle-edges : edgesOf (at s r) ss word ≡ edgesFrom s ss (r .pins .sck) 0 (suc (wordEdges s - 1)) word
+  unfolding clocked remembered
+  idle-edges =
+      fresh-edges s on plain ss chosen word (watchedCall x idler) r (ap (λ (m : Module). performOf m idler .after) here ∙ moved) (lives-on x idler h) none loud
+      (like _ _ turned)
+
+  pub idle-word : Entered (x .ledger) (watchedCalls (watchedCall x idler) (edgesFrom s ss (r .pins .sck) 0 (wordEdges s - 1) word) .ledger)
+      (watchedCalls (watchedCall x idler) (edgesOf (at s r) ss word) .ledger)
+      (record { word = levelsOf (at s r) ss word; marked = not (leftToSend (x .ledger)) })
       (record { word = behind s word (current s r .edges) 0; marked = loses (terms s) (x .ledger) })
   unfolding clocked remembered
   idle-word =
       subst
       (λ (l : Ledger).
-      Entered l (watchedCalls (watchedCall x idler) (edgesOf (at s r) ss word) .ledger)
-      (record { word = levelsOf (at s r) ss word; marked = current s r .filler })
+      Entered l (watchedCalls (watchedCall x idler) (edgesFrom s ss (r .pins .sck) 0 (wordEdges s - 1) word) .ledger)
+      (watchedCalls (watchedCall x idler) (edgesOf (at s r) ss word) .ledger)
+      (record { word = levelsOf (at s r) ss word; marked = not (leftToSend l) })
       (record { word = behind s word (current s r .edges) 0; marked = loses (terms s) l }))
       enters-none
       (fresh-word s on plain ss chosen word (watchedCall x idler) r (ap (λ (m : Module). performOf m idler .after) here ∙ moved) (lives-on x idler h) none loud
@@ -363,23 +358,21 @@ module _ (x : Watched) (ss : Bool) (word : ℕ) (h : Lives x) (has : hasWord (x 
   unbegun : isBegun (n .shift) ≡ false
   unbegun = is-unbegun (n .shift) (x .ledger .wire) wire (tied-agrees _ _ _ (h .tied (start .on) .words) .under)
 
-  whole : wordOf (x .now) ss word ≡ wholeWord (x .now) ss word
+  pub whole : wordOf (x .now) ss word ≡ wholeWord (x .now) ss word
   unfolding wordOf
   whole = if-true (hasWord (x .now) ss) _ _ has
 
-  pub word-begins-now : wordWatched x ss word .now ≡ wordOf (x .now) ss word .after
-  unfolding wholeWord
-  word-begins-now =
-      let ready : Watched = watchedCalls x (idled (x .now) ss word) in
-      watched-reaches (edgesOf (ready .now) ss word) ready
-      ∙ ap (λ (m : Module). afterCalls m (edgesOf m ss word)) (watched-reaches (idled (x .now) ss word) x)
-      ∙ sym (ap (λ (r : Worded). r .after) whole)
+  -- The edges of the word but the last, from a module that has SCK at the idle level.
+  abbrev pub almostFrom : Module → List Call
+  almostFrom m = edgesFrom s ss (m .engine .pins .sck) 0 (wordEdges s - 1) word
 
   -- What the ledger enters of the steps, by the module that they find.
   abbrev Enters : List Call → Type 0
   Enters cs =
-      Entered (x .ledger) (watchedCalls (watchedCalls x cs) (edgesOf (watchedCalls x cs .now) ss word) .ledger)
-      (record { word = levelsOf (afterCalls (x .now) cs) ss word; marked = current s n .filler })
+      (edgesOf (afterCalls (x .now) cs) ss word ≡ edgesFrom s ss (afterCalls (x .now) cs .engine .pins .sck) 0 (suc (wordEdges s - 1)) word)
+      × Entered (x .ledger) (watchedCalls (watchedCalls x cs) (almostFrom (afterCalls (x .now) cs)) .ledger)
+      (watchedCalls (watchedCalls x cs) (edgesOf (watchedCalls x cs .now) ss word) .ledger)
+      (record { word = levelsOf (afterCalls (x .now) cs) ss word; marked = not (leftToSend (x .ledger)) })
       (record { word = behind s word (current s n .edges) 0; marked = loses (terms s) (x .ledger) })
 
   idle-then : Bool·beq (not (n .pins .sck)) (s .con1 .ckp) ≡ true → Enters (ClockStep (not (n .pins .sck)) (sdiAt s 0 word) ss ∷ [])
@@ -389,11 +382,15 @@ module _ (x : Watched) (ss : Bool) (word : ℕ) (h : Lives x) (has : hasWord (x 
       let r : Engine = clocked (not (n .pins .sck)) (remembered s ss n) in
       subst₂
       (λ (m : Module) (q : Progress).
-      Entered (x .ledger) (watchedCalls (watchedCall x one) (edgesOf m ss word) .ledger) (record { word = levelsOf m ss word; marked = q .filler })
+      (edgesOf m ss word ≡ edgesFrom s ss (m .engine .pins .sck) 0 (suc (wordEdges s - 1)) word)
+      × Entered (x .ledger) (watchedCalls (watchedCall x one) (almostFrom m) .ledger) (watchedCalls (watchedCall x one) (edgesOf m ss word) .ledger)
+      (record { word = levelsOf m ss word; marked = not (leftToSend (x .ledger)) })
       (record { word = behind s word (q .edges) 0; marked = loses (terms s) (x .ledger) }))
       (sym (moved s (start .on) (start .plain) ss (start .chosen) word x n refl h unbegun (start .loud) turned))
-      (same-current s n (not (n .pins .sck)) ss)
-      (idle-word s (start .on) (start .plain) ss (start .chosen) word x n refl h unbegun (start .loud) turned)
+      (same-current s n (not (n .pins .sck)) ss) (
+        idle-edges s (start .on) (start .plain) ss (start .chosen) word x n refl h unbegun (start .loud) turned,
+        idle-word s (start .on) (start .plain) ss (start .chosen) word x n refl h unbegun (start .loud) turned,
+      )
 
   enters-all : Enters (idled (x .now) ss word)
   unfolding idleFirst
@@ -406,12 +403,23 @@ module _ (x : Watched) (ss : Bool) (word : ℕ) (h : Lives x) (has : hasWord (x 
       (λ e.
       let idle : n .pins .sck ≡ s .con1 .ckp =
       like _ _ (not-false (Bool·beq (n .pins .sck) (s .con1 .ckp)) (and-rest (not (isBegun (n .shift))) _ e (ap not unbegun))) in
-      subst Enters (sym (if-false (idleFirst s n) _ _ e))
-      (fresh-word s (start .on) (start .plain) ss (start .chosen) word x n refl h unbegun (start .loud) idle))
+      subst Enters (sym (if-false (idleFirst s n) _ _ e)) (
+        fresh-edges s (start .on) (start .plain) ss (start .chosen) word x n refl h unbegun (start .loud) idle,
+        fresh-word s (start .on) (start .plain) ss (start .chosen) word x n refl h unbegun (start .loud) idle,
+      ))
+
+  -- Its edges, from where SCK is idle.
+  pub edges-now : edgesOf (afterCalls (x .now) (idled (x .now) ss word)) ss word
+      ≡ edgesFrom s ss (afterCalls (x .now) (idled (x .now) ss word) .engine .pins .sck) 0 (suc (wordEdges s - 1)) word
+  edges-now = enters-all .0
 
   -- What goes out is what the call tells, and what comes in is what it brought.
-  pub word-begins-entered : Entered (x .ledger) (wordWatched x ss word .ledger)
-      (record { word = wordOf (x .now) ss word .levels; marked = current s n .filler })
+  abbrev pub ready : Watched
+  ready = watchedCalls x (idled (x .now) ss word)
+
+  pub word-begins-entered : Entered (x .ledger) (watchedCalls ready (almostFrom (afterCalls (x .now) (idled (x .now) ss word))) .ledger)
+      (watchedCalls ready (edgesOf (ready .now) ss word) .ledger)
+      (record { word = wordOf (x .now) ss word .levels; marked = not (leftToSend (x .ledger)) })
       (record { word = word % 2 ^ wordOf (x .now) ss word .count; marked = loses (terms s) (x .ledger) })
   unfolding wholeWord behind
   word-begins-entered =
@@ -419,8 +427,10 @@ module _ (x : Watched) (ss : Bool) (word : ℕ) (h : Lives x) (has : hasWord (x 
       let only : (k : ℕ) → 0 * 2 ^ k + word % 2 ^ k ≡ word % 2 ^ k = λ k. omega arith in
       subst₂
       (λ (out into : ℕ).
-      Entered (x .ledger) (wordWatched x ss word .ledger) (record { word = out; marked = current s n .filler })
+      Entered (x .ledger) (watchedCalls ready (almostFrom (afterCalls (x .now) (idled (x .now) ss word))) .ledger)
+      (watchedCalls ready (edgesOf (ready .now) ss word) .ledger)
+      (record { word = out; marked = not (leftToSend (x .ledger)) })
       (record { word = into; marked = loses (terms s) (x .ledger) }))
       (sym (ap (λ (r : Worded). r .levels) whole))
       (only _ ∙ ap (λ (k : ℕ). word % 2 ^ k) (sym count-is))
-      enters-all
+      (enters-all .1)

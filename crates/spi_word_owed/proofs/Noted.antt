@@ -42,14 +42,13 @@ use Rattle.spi_rules.specs.Calls.{answering, performOf, afterCalls}
 use Rattle.spi_rules.specs.Watch.{terms, Sight, sightOf, Memory, deaf, mayBegin, edgeOps, levelOps, sckOfStep, ssOfTick, ssOfStep, wayOf, portIn, Watched, watchedCall, watchedCalls}
 use Rattle.spi_rules.proofs.LivesReach.{watched-reaches}
 use Rattle.spi_rules.proofs.ClockSteps.{step-own, step-pin}
-use Rattle.spi_rules.specs.Invariant.{sampled}
 use Rattle.spi_invariant.proofs.Sampling.{sampled-all}
 use Rattle.spi_invariant.proofs.CallsWhen.{not-unlike}
-use Rattle.spi_word_owed.specs.Entered.{Entered}
+use Rattle.spi_word_owed.proofs.Entered.{Entered}
 use Rattle.spi_word_rules.specs.declared.Worded.{Worded}
 use Rattle.spi_word_rules.specs.Word.{inProgress, current, resting, hasWord, idleFirst, bitsLeft, sdiAt, edgesFrom, levelOn, levelsBy, idled, edgesOf, levelsOf, wholeWord, wordOf}
 use Rattle.spi_word_rules.proofs.Closed.{behind, remembered}
-use Rattle.spi_word_rules.proofs.Values.{fewer, as-many, none-behind, levels-on}
+use Rattle.spi_word_rules.proofs.Values.{left-is, fewer, as-many, none-behind, levels-on}
 use Rattle.spi_word_rules.proofs.WordMade.{at, step-edge}
 use Rattle.spi_order.proofs.Order.{Lives, lives-on}
 
@@ -170,8 +169,9 @@ unfoldable pub takenBy : Settings → ℕ → ℕ → ℕ → ℕ → ℕ
 takenBy s k zero word x = x
 takenBy s k (suc i) word x = takenBy s (k + 1) i word (levelOn s k (sdiAt s k word) x)
 
--- One word is entered, as the last edge leaves it.
-pub record Closes (t : Terms) (l after : Ledger) (w : OnWire) (levels taken : ℕ) : Type 0 where
+-- One word is entered, as the last edge leaves it, and none before that edge.
+pub record Closes (t : Terms) (l almost after : Ledger) (w : OnWire) (levels taken : ℕ) : Type 0 where
+  pub still : (almost .departures ≡ l .departures) × (almost .arrivals ≡ l .arrivals)
   pub last : OnWire
   pub ledger : after ≡ closed t last l
   pub filler : last .filler ≡ w .filler
@@ -216,13 +216,15 @@ module _ (s : Settings) (on : s .spien ≡ true) (plain : framed s ≡ false) (s
   pub closes : (i : ℕ) (x : Watched) (n : Engine) (level : Bool) (p : Progress) (w : OnWire) → x .now ≡ at s n → Lives x →
       GivenTo x n (p .edges) w → w .edges ≡ p .edges → Advances n level p → (if ownClock s then level else ss) ≡ level →
       p .edges + suc i ≡ wordEdges s →
-      Closes (terms s) (x .ledger) (watchedCalls x (edgesFrom s ss (n .pins .sck) (p .edges) (suc i) word) .ledger) w
+      Closes (terms s) (x .ledger) (watchedCalls x (edgesFrom s ss (n .pins .sck) (p .edges) i word) .ledger)
+      (watchedCalls x (edgesFrom s ss (n .pins .sck) (p .edges) (suc i) word) .ledger) w
       (levelsBy s ss (n .pins .sck) (p .edges) (suc i) word (spelled 0 (w .shown)) (at s n))
       (takenBy s (p .edges) (suc i) word (spelled 0 (w .seen)))
   unfolding shifted progressed clocked takenBy remembered
   closes zero x n level p w e h to-it k first heard short =
       let sdi : Bool = sdiAt s (p .edges) word in
       record {
+        still = (refl, refl);
         last = counted (terms s) (n .pins .sdo) sdi w;
         ledger = to-it ∙ edge-last (terms s) (n .pins .sdo) sdi w (x .ledger) (omega arith);
         filler = counted-filler s (n .pins .sdo) sdi w;
@@ -249,6 +251,8 @@ module _ (s : Settings) (on : s .spien ≡ true) (plain : framed s ≡ false) (s
       heard
       (omega arith) in
       record {
+        still =
+            (rest .still .0 ∙ ap (λ (a : Ledger). a .departures) entered-so, rest .still .1 ∙ ap (λ (a : Ledger). a .arrivals) entered-so);
         last = rest .last;
         ledger = rest .ledger ∙ ap (closed t (rest .last)) entered-so ∙ closed-over t (rest .last) (busy u) (x .ledger);
         filler = rest .filler ∙ counted-filler s (n .pins .sdo) sdi w;
@@ -278,10 +282,10 @@ weighed x b p l = omega (arith, add-mul (x * 2) b p, add-mul (0 * 2) b p, mul-as
 
 pub levels-behind : (s : Settings) (ss : Bool) (word i : ℕ) (sck : Bool) (k x : ℕ) (m : Module) → k + i ≡ wordEdges s →
     levelsBy s ss sck k i word x m ≡ x * 2 ^ bitsLeft s k + levelsBy s ss sck k i word 0 m
-unfolding levelOn bitsLeft
+unfolding levelOn
 levels-behind s ss word zero sck k x m e =
     let all = sampled-all (ckeOf s) k (widthOf s) (omega arith) in
-    let none : widthOf s - sampled (ckeOf s) k ≡ 0 = omega arith in
+    let none : bitsLeft s k ≡ 0 = omega (arith, left-is s k) in
     let once : x ≡ x * 1 + 0 = omega arith in
     once ∙ ap (λ (j : ℕ). x * 2 ^ j + 0) (sym none)
 levels-behind s ss word (suc i) sck k x m e =
@@ -309,11 +313,12 @@ levels-behind s ss word (suc i) sck k x m e =
 -- ---- the word call
 
 -- What a ledger enters that so closes.
-pub closes-entered : (s : Settings) (l after : Ledger) (w : OnWire) (levels taken : ℕ) → Closes (terms s) l after w levels taken →
-    Entered l after (record { word = levels; marked = w .filler }) (record { word = taken; marked = loses (terms s) l })
+pub closes-entered : (s : Settings) (l almost after : Ledger) (w : OnWire) (levels taken : ℕ) → Closes (terms s) l almost after w levels taken →
+    Entered l almost after (record { word = levels; marked = w .filler }) (record { word = taken; marked = loses (terms s) l })
 unfolding closed
-closes-entered s l after w levels taken c =
+closes-entered s l almost after w levels taken c =
     record {
+      still = c .still;
       departures =
           ap (λ (a : Ledger). a .departures) (c .ledger)
           ∙ (λ i. l .departures ++ (record { word = c .shown i; marked = c .filler i } ∷ []));
@@ -351,12 +356,12 @@ module _ (x : Watched) (ss : Bool) (word : ℕ) (w : OnWire) (h : Lives x) (on :
   abbrev n : Engine
   n = x .now .engine
 
-  under : Carried (terms s) (portIn (x .now) .owed) (n .shift) w
+  pub under : Carried (terms s) (portIn (x .now) .owed) (n .shift) w
   under =
       carried (terms s) (portIn (x .now) .owed) (n .shift) w
       (subst (Carries (terms s) (portIn (x .now) .owed) (wayOf (n .shift))) wire (h .tied on .words .carries))
 
-  abbrev p : Progress
+  abbrev pub p : Progress
   p = under .p
 
   current-is : current s n ≡ p
@@ -372,7 +377,7 @@ module _ (x : Watched) (ss : Bool) (word : ℕ) (w : OnWire) (h : Lives x) (on :
   all-edges : p .edges + suc (wordEdges s - p .edges - 1) ≡ wordEdges s
   all-edges = omega (arith, short)
 
-  has : hasWord (x .now) ss ≡ true
+  pub has : hasWord (x .now) ss ≡ true
   unfolding hasWord resting
   has =
       and-both _ _ (and-both _ _ on (ap not plain))
@@ -381,7 +386,7 @@ module _ (x : Watched) (ss : Bool) (word : ℕ) (w : OnWire) (h : Lives x) (on :
       (ap (λ (b : Bool). b || (silent s && isFree (n .shift))) chosen ∙ and-false (silent s) _ (ap isFree (under .is))))
       (lt-ltb _ _ (subst (λ (q : Progress). q .edges < wordEdges s) (sym current-is) short)))
 
-  none-idle : idled (x .now) ss word ≡ []
+  pub none-idle : idled (x .now) ss word ≡ []
   unfolding idleFirst
   none-idle = if-false (idleFirst s n) _ _ (and-first _ _ (ap (λ (a : Shift). not (isBegun a)) (under .is)))
 
@@ -389,12 +394,16 @@ module _ (x : Watched) (ss : Bool) (word : ℕ) (w : OnWire) (h : Lives x) (on :
   unfolding wordOf
   whole = if-true (hasWord (x .now) ss) _ _ has
 
-  edges-are : edgesOf (x .now) ss word ≡ edgesFrom s ss (n .pins .sck) (p .edges) (suc (wordEdges s - p .edges - 1)) word
+  pub edges-are : edgesOf (x .now) ss word ≡ edgesFrom s ss (n .pins .sck) (p .edges) (suc (wordEdges s - p .edges - 1)) word
   edges-are =
       ap (λ (q : Progress). edgesFrom s ss (n .pins .sck) (q .edges) (wordEdges s - q .edges) word) current-is
       ∙ ap (λ (j : ℕ). edgesFrom s ss (n .pins .sck) (p .edges) j word) left
 
-  closed-so : Closes (terms s) (x .ledger) (watchedCalls x (edgesFrom s ss (n .pins .sck) (p .edges) (suc (wordEdges s - p .edges - 1)) word) .ledger) w
+  abbrev pub almost : List Call
+  almost = edgesFrom s ss (n .pins .sck) (p .edges) (wordEdges s - p .edges - 1) word
+
+  closed-so : Closes (terms s) (x .ledger) (watchedCalls x almost .ledger)
+      (watchedCalls x (edgesFrom s ss (n .pins .sck) (p .edges) (suc (wordEdges s - p .edges - 1)) word) .ledger) w
       (levelsBy s ss (n .pins .sck) (p .edges) (suc (wordEdges s - p .edges - 1)) word (spelled 0 (w .shown)) (x .now))
       (takenBy s (p .edges) (suc (wordEdges s - p .edges - 1)) word (spelled 0 (w .seen)))
   unfolding remembered
@@ -434,7 +443,7 @@ module _ (x : Watched) (ss : Bool) (word : ℕ) (w : OnWire) (h : Lives x) (on :
       ∙ ap (λ (j : ℕ). spelled 0 (w .seen) * 2 ^ j + word % 2 ^ j) (sym count-is)
 
   pub word-entered : (watchedCalls x (edgesOf (x .now) ss word) .now ≡ wordOf (x .now) ss word .after)
-      × Entered (x .ledger) (watchedCalls x (edgesOf (x .now) ss word) .ledger)
+      × Entered (x .ledger) (watchedCalls x almost .ledger) (watchedCalls x (edgesOf (x .now) ss word) .ledger)
       (record { word = spelled 0 (w .shown) * 2 ^ count + wordOf (x .now) ss word .levels; marked = w .filler })
       (record { word = spelled 0 (w .seen) * 2 ^ count + word % 2 ^ count; marked = loses (terms s) (x .ledger) })
   unfolding wholeWord
@@ -443,11 +452,11 @@ module _ (x : Watched) (ss : Bool) (word : ℕ) (w : OnWire) (h : Lives x) (on :
         ∙ sym
         (ap (λ (r : Worded). r .after) whole
         ∙ ap (λ (cs : List Call). afterCalls (afterCalls (x .now) cs) (edgesOf (afterCalls (x .now) cs) ss word)) none-idle),
-    closes-entered s (x .ledger) _ w _ _
+    closes-entered s (x .ledger) _ _ w _ _
         (subst
         (λ (cs : List Call).
-        Closes (terms s) (x .ledger) (watchedCalls x cs .ledger) w (spelled 0 (w .shown) * 2 ^ count + wordOf (x .now) ss word .levels)
+        Closes (terms s) (x .ledger) (watchedCalls x almost .ledger) (watchedCalls x cs .ledger) w (spelled 0 (w .shown) * 2 ^ count + wordOf (x .now) ss word .levels)
         (spelled 0 (w .seen) * 2 ^ count + word % 2 ^ count))
         (sym edges-are)
-        (subst₂ (Closes (terms s) (x .ledger) _ w) goes-out comes-in closed-so)),
+        (subst₂ (Closes (terms s) (x .ledger) _ _ w) goes-out comes-in closed-so)),
   )

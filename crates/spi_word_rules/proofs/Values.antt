@@ -1,4 +1,5 @@
 -- The values that the edges of a word move: each is told in closed form, which an edge does not change.
+--     left-is                      the bits left, by those that the invariant counts
 --     fewer, as-many               the bits left after an edge that samples, and after one that does not
 --     taken-on, kept-on            the bits left behind a number, at an edge that samples one of them and at one that does not
 --     none-behind                  after the last edge none are left
@@ -6,7 +7,7 @@
 --     levels-on, Shows, shows-on   the levels of SDO where it is sampled, while SDO is at the bit that the next such edge samples
 --     sck-on, sck-end, sdo-on, sdo-end   the clock and SDO at the end
 -- Assumes nothing.
-use Prim.Native.Nat.{ℕ, suc, _+_, _*_, _-_, _/_, _%_, _^_, _<_, _≤_}
+use Prim.Native.Nat.{ℕ, suc, _+_, _*_, _-_, _/_, _%_, _^_, _<_}
 use mathlib.Core.Bool.{Bool, true, false, not, Bool·beq}
 use mathlib.Core.Path.{_≡_, refl, sym, ap, _∙_}
 use native.Mathlib.Nat.{pow-succ', add-mul, mul-assoc, mod-add-div, add-mul-mod-self-left}
@@ -15,7 +16,6 @@ use borrow.Author.Tests.{eqb-true, eqb-false, eq-eqb, ltb-true, ltb-false, not-t
 use mir.Val.{boolByte}
 use lib.Arith.{mod-mul}
 use lib.Dec.{eqb, ltb}
-use Rattle.laws.specs.Choice.{if_then_else_}
 use Rattle.laws.proofs.Keeps.{if-keeps, if-false, by-test, clash, like, unlike}
 use Rattle.laws.proofs.Choices.{so-lt, not-so-lt}
 use Rattle.word_order.specs.Bits.{bitOf}
@@ -27,7 +27,7 @@ use Rattle.spi_rules.specs.Edge.{wordEdges}
 use Rattle.spi_rules.specs.Invariant.{sampled}
 use Rattle.spi_rules.proofs.Sizes.{power-least}
 use Rattle.spi_invariant.proofs.Sampling.{sampled-more, sampled-same, sampled-all, sampled-most, shown-changed, parity-turns}
-use Rattle.spi_word_rules.specs.Word.{bitsLeft, sdiAt, levelOn}
+use Rattle.spi_word_rules.specs.Word.{bitsSampled, bitsLeft, sdiAt, levelOn}
 use Rattle.spi_word_rules.proofs.Closed.{behind, lastSck, lastSdo}
 
 -- A bit counts for itself, and the low k + 1 bits are the upper one of them and the low k.
@@ -46,17 +46,20 @@ upper-bit x v k =
     ∙ omega (arith, low, add-mul (x * 2) (v / 2 ^ k % 2) (2 ^ k), mul-assoc x 2 (2 ^ k))
     ∙ ap (λ (q : ℕ). x * q + v % q) (sym (pow-succ' 2 k))
 
+-- The bits that are left, by those that the invariant counts.
+pub left-is : (s : Settings) (k : ℕ) → bitsLeft s k ≡ widthOf s - sampled (ckeOf s) k
+unfolding bitsLeft bitsSampled sampled
+left-is s k = refl
+
 module _ (s : Settings) (k : ℕ) (short : k < wordEdges s) where
   pub fewer : samples (ckeOf s) (k + 1) ≡ true → bitsLeft s k ≡ suc (bitsLeft s (k + 1))
-  unfolding bitsLeft
   fewer e =
       let more = sampled-more (ckeOf s) k e in
       let most = sampled-most (ckeOf s) (k + 1) (widthOf s) (omega arith) in
-      omega arith
+      omega (arith, left-is s k, left-is s (k + 1))
 
   pub as-many : samples (ckeOf s) (k + 1) ≡ false → bitsLeft s (k + 1) ≡ bitsLeft s k
-  unfolding bitsLeft
-  as-many e = ap (λ (x : ℕ). widthOf s - x) (sampled-same (ckeOf s) k e)
+  as-many e = left-is s (k + 1) ∙ ap (λ (x : ℕ). widthOf s - x) (sampled-same (ckeOf s) k e) ∙ sym (left-is s k)
 
   pub taken-on : (v x : ℕ) → samples (ckeOf s) (k + 1) ≡ true →
       behind s v (k + 1) (x * 2 + boolByte (bitOf v (bitsLeft s k - 1))) ≡ behind s v k x
@@ -73,10 +76,10 @@ module _ (s : Settings) (k : ℕ) (short : k < wordEdges s) where
   kept-on v x e = ap (λ (j : ℕ). x * 2 ^ j + v % 2 ^ j) (as-many e)
 
 pub none-behind : (s : Settings) (v k x : ℕ) → k ≡ wordEdges s → behind s v k x ≡ x
-unfolding behind bitsLeft
+unfolding behind
 none-behind s v k x e =
     let all = sampled-all (ckeOf s) k (widthOf s) e in
-    let none : widthOf s - sampled (ckeOf s) k ≡ 0 = omega arith in
+    let none : bitsLeft s k ≡ 0 = omega (arith, left-is s k) in
     ap (λ (j : ℕ). x * 2 ^ j + v % 2 ^ j) none ∙ omega arith
 
 -- The bits received. What 16 bits leave out does not come back.
@@ -132,11 +135,11 @@ shows-before cke k e =
     by-test (samples cke k) (λ f. clash (eqb 0 1) (eq-eqb 0 1 (omega (arith, even-samples cke (k + 1) e, even-samples cke k f))) refl) (λ f. f)
 
 pub shows-on : (s : Settings) (sent k : ℕ) (sdo : Bool) → Shows s sent (k + 1) (sdoAfter s sent (k + 1) sdo)
-unfolding sdoAfter shownBit bitsLeft
+unfolding sdoAfter shownBit
 shows-on s sent k sdo e =
     let changed = shows-before (ckeOf s) (k + 1) e in
     if-false (samples (ckeOf s) (k + 1)) _ _ changed
-    ∙ ap (bitOf sent) (omega (arith, shown-changed (ckeOf s) k changed, sampled-same (ckeOf s) k changed))
+    ∙ ap (bitOf sent) (omega (arith, shown-changed (ckeOf s) k changed, sampled-same (ckeOf s) k changed, left-is s (k + 1)))
 
 -- SCK.
 pub sck-on : (k : ℕ) (sck : Bool) → lastSck (k + 1) (not sck) ≡ lastSck k sck

@@ -16,10 +16,9 @@ use Rattle.spi_rules.specs.Loading.{wordLeaves, moved, canLoad, loaded, nextTop
 use Rattle.spi_rules.specs.Refusals.{numberOf}
 use Rattle.spi_rules.specs.Registers.{weighed, con1From, con1Value, con2From, con2Value, spitbf, spirbf, srxmpt, srmpt, atMost7, spibec, statValue, statSettings, spirovAfter, statEngine, enabledEngine, disabledEngine}
 use Rattle.spi_rules.specs.Select.{selectRemembered, aborted, selectSeen}
-use Rattle.spi_rules.specs.Invariant.{sampled}
-use Rattle.spi_word_rules.specs.Word.{current, resting, hasWord, idleFirst, bitsLeft, sdiAt, levelOn, wholeWord, stepLevel, oneStep, wordOf}
+use Rattle.spi_word_rules.specs.Word.{bitsSampled, current, resting, hasWord, idleFirst, bitsLeft, sdiAt, levelOn, wholeWord, stepLevel, oneStep, wordOf}
 use Rattle.spi_word_rules.specs.WordExamples.{wordExamples}
 
 pub word-examples-hold : wordExamples ≡ true
-unfolding shiftedIn receivedAfter shownBit sdoAfter progressed emptyTransmit emptyReceive firstWaiting firstUnread written departed appended taken overrun refuse answering poweredAt wordTaken readBuf readOf turnsOn turnsOff statWritten writeStat withCon1 withCon2 configured wordWritten writeBuf writeOf clockStepOf edgeTold tickOf pinsOf clearOf performOf interruptOf sckOf undriven sdoOf ssOf if_then_else_ begun shifted advanced advancedIfBegun awaitsPulse underWay pulseDue pulseAfter pulsed clocked edged stepped overflowed wordAppended isLost delivered sentDropped freed finished raises noted wordLeaves moved canLoad loaded nextTop sdoAt rested numberOf bitOf weighed con1From con1Value con2From con2Value spitbf spirbf srxmpt srmpt atMost7 spibec statValue statSettings spirovAfter statEngine enabledEngine disabledEngine next selectRemembered aborted selectSeen current resting hasWord idleFirst bitsLeft sdiAt levelOn wholeWord stepLevel oneStep wordOf sampled
+unfolding shiftedIn receivedAfter shownBit sdoAfter progressed emptyTransmit emptyReceive firstWaiting firstUnread written departed appended taken overrun refuse answering poweredAt wordTaken readBuf readOf turnsOn turnsOff statWritten writeStat withCon1 withCon2 configured wordWritten writeBuf writeOf clockStepOf edgeTold tickOf pinsOf clearOf performOf interruptOf sckOf undriven sdoOf ssOf if_then_else_ begun shifted advanced advancedIfBegun awaitsPulse underWay pulseDue pulseAfter pulsed clocked edged stepped overflowed wordAppended isLost delivered sentDropped freed finished raises noted wordLeaves moved canLoad loaded nextTop sdoAt rested numberOf bitOf weighed con1From con1Value con2From con2Value spitbf spirbf srxmpt srmpt atMost7 spibec statValue statSettings spirovAfter statEngine enabledEngine disabledEngine next selectRemembered aborted selectSeen current resting hasWord idleFirst bitsLeft sdiAt levelOn wholeWord stepLevel oneStep wordOf bitsSampled
 word-examples-hold = refl

@@ -6,9 +6,8 @@
 --     edges-made       all edges of a word, from one that is under way on
 --     edges-levels     and the levels of SDO where they sample
 -- Assumes nothing.
-use Prim.Native.Nat.{ℕ, zero, suc, _+_, _*_, _-_, _%_, _<_, _≤_}
+use Prim.Native.Nat.{ℕ, zero, suc, _+_, _<_}
 use mathlib.Core.Bool.{Bool, true, false, not, _&&_, Bool·beq}
-use mathlib.Core.List.{List, [], _∷_}
 use mathlib.Core.Path.{_≡_, refl, sym, ap, _∙_}
 use native.Mathlib.Omega.{arith}
 use Rattle.laws.specs.Choice.{if_then_else_}
@@ -20,22 +19,22 @@ use Rattle.spi_types.specs.declared.Module.{Module}
 use Rattle.spi_types.specs.declared.Outcome.{Outcome}
 use Rattle.spi_types.specs.declared.Progress.{Progress}
 use Rattle.spi_types.specs.declared.Shift.{Shift}
-use Rattle.spi_types.specs.declared.Shift.the-variants.{Free, Loaded, Begun}
+use Rattle.spi_types.specs.declared.Shift.the-variants.{Begun}
 use Rattle.spi_types.specs.declared.Call.the-variants.{ClockStep}
 use Rattle.spi_rules.specs.Changes.{withSck, withSs, withSdo, withShift}
-use Rattle.spi_rules.specs.Settings.{framed, frameClient, clockStops, ssenClient, ownClock}
+use Rattle.spi_rules.specs.Settings.{framed, clockStops, ssenClient, ownClock}
 use Rattle.spi_rules.specs.Registers.{isFree}
-use Rattle.spi_rules.specs.Bits.{receivedAfter, sdoAfter, progressed}
+use Rattle.spi_rules.specs.Bits.{progressed}
 use Rattle.spi_rules.specs.Interrupts.{noted}
 use Rattle.spi_rules.specs.Loading.{wordLeaves, loaded, rested, isBegun}
 use Rattle.spi_rules.specs.Select.{deselected, selectRemembered, selectSeen}
 use Rattle.spi_rules.specs.Finish.{overflowed, wordAppended, isLost, delivered, sentDropped, freed, finished}
-use Rattle.spi_rules.specs.Edge.{wordEdges, begun, awaitsPulse, underWay, shifted, advanced, advancedIfBegun, clocked, pulsed, edged, levels, stepped}
-use Rattle.spi_rules.specs.Calls.{answering, toldSelect, clockStepOf, performOf, afterCalls}
-use Rattle.spi_rules.proofs.ClockSteps.{stands, step-own, step-pin}
-use Rattle.spi_invariant.proofs.CallsWhen.{told-elsewhere, unframed-told, unframed-begins, unpulsed, not-unlike}
+use Rattle.spi_rules.specs.Edge.{wordEdges, begun, awaitsPulse, underWay, shifted, advanced, advancedIfBegun, clocked, edged, levels, stepped}
+use Rattle.spi_rules.specs.Calls.{answering, performOf, afterCalls}
+use Rattle.spi_rules.proofs.ClockSteps.{step-own, step-pin}
+use Rattle.spi_invariant.proofs.CallsWhen.{told-elsewhere, unframed-told, unpulsed, not-unlike}
 use Rattle.spi_word_rules.specs.Word.{sdiAt, edgesFrom, levelOn, levelsBy}
-use Rattle.spi_word_rules.proofs.Closed.{behind, lastSck, lastSdo, wordMade, allLevels, remembered}
+use Rattle.spi_word_rules.proofs.Closed.{behind, wordMade, allLevels, remembered}
 use Rattle.spi_word_rules.proofs.Values.{received-on, received-end, received-small, none-behind, Shows, shows-on, levels-on, sck-on, sck-end, sdo-on, sdo-end}
 
 -- A module of these settings and this engine.

@@ -1,7 +1,7 @@
 -- A word at a time: the clock steps (document 02, Eleven) that the word under way, or the next one, still takes, as one call. It brings no
 -- rule of its own: it is the list of those steps.
-use Prim.Native.Nat.{ℕ, zero, suc, _+_, _*_, _-_}
-use mathlib.Core.Bool.{Bool, true, false, not, _&&_, _||_, Bool·beq}
+use Prim.Native.Nat.{ℕ, zero, suc, _+_, _*_, _-_, _/_}
+use mathlib.Core.Bool.{Bool, false, not, _&&_, _||_, Bool·beq}
 use mathlib.Core.List.{List, [], _∷_}
 use mir.Val.{boolByte}
 use lib.Dec.{ltb}
@@ -24,7 +24,6 @@ use Rattle.spi_rules.specs.Loading.{isBegun}
 use Rattle.spi_rules.specs.Select.{deselected}
 use Rattle.spi_rules.specs.Edge.{wordEdges, fresh, begun}
 use Rattle.spi_rules.specs.Calls.{performOf, afterCalls}
-use Rattle.spi_rules.specs.Invariant.{sampled}
 use Rattle.spi_word_rules.specs.declared.Worded.{Worded}
 
 -- The word that the next edges belong to: the one begun, else the one that would begin; where there is none its numbers do not count.
@@ -50,10 +49,14 @@ hasWord m ss =
 unfoldable pub idleFirst : Settings → Engine → Bool
 idleFirst s n = not (isBegun (n .shift)) && not (Bool·beq (n .pins .sck) (s .con1 .ckp))
 
+-- The bits of a word that k edges have sampled: with CKE 1 the odd edges do, else the even ones.
+unfoldable pub bitsSampled : Bool → ℕ → ℕ
+bitsSampled cke k = if cke then (k + 1) / 2 else k / 2
+
 -- The bits of a word that are not sampled after k edges, and the level that SDI has at the next one: of the caller's word the low bits,
 -- highest first.
 unfoldable pub bitsLeft : Settings → ℕ → ℕ
-bitsLeft s k = widthOf s - sampled (ckeOf s) k
+bitsLeft s k = widthOf s - bitsSampled (ckeOf s) k
 
 unfoldable pub sdiAt : Settings → ℕ → ℕ → Bool
 sdiAt s k word = bitOf word (bitsLeft s k - 1)

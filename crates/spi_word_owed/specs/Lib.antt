@@ -1,2 +1,0 @@
--- What the ledger enters of a word call.
-pub mod Entered
