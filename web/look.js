@@ -1,0 +1,134 @@
+// What can be seen of a module by the library's calls alone. A module's memory means something to the library only, so a look
+// that no call gives is an experiment: a copy of the module is read, clocked or sent empty, and the module itself stays as it is.
+// None of the module's rules is written here.
+'use strict';
+
+const Look = (() => {
+    const H = Header.numbers;
+
+    // hex(number, digits): upper-case digits, as scripts have them
+    const hex = (number, digits) => number.toString(16).toUpperCase().padStart(digits, '0');
+
+    const same = (one, two) => one.every((byte, i) => byte === two[i]);
+
+    // create(library): looks at modules of that library, with a few modules of their own to try things on
+    function create(library) {
+        const trial = new Library.Module(library), other = new Library.Module(library);
+
+        // copy(memory): a module to try things on
+        function copy(memory) {
+            trial.memory = memory;
+            return trial;
+        }
+
+        const width = con1 => (con1 & H.CON1_MODE16 ? 16 : 8);
+
+        // digits(memory): how many hexadecimal digits a word of this module has
+        const digits = memory => width(copy(memory).read(H.CON1).value) / 4;
+
+        // calm(module): SPIROV is cleared, so that it tells the next loss
+        function calm(module) {
+            const stat = module.read(H.STAT).value;
+            module.write(H.STAT, stat & ~H.STAT_SPIROV);
+            return module;
+        }
+
+        // take(module): all its unread words are taken out, and told; and the number that refuses the next read
+        function take(module) {
+            const words = [];
+            for (;;) {
+                const answer = module.read(H.BUF);
+                if (answer.refusal) return { words, refusal: answer.refusal };
+                words.push(answer.value);
+            }
+        }
+
+        const overflowed = module => (module.read(H.STAT).value & H.STAT_SPIROV) !== 0;
+
+        // step(memory, move, sdi): what a clock step does besides what its levels show; `move(module, sdi)` makes it. It samples
+        // if the level at SDI makes a difference. A word has finished if there is then a word to read, or one was lost; one was
+        // sent if fewer are owed than before.
+        function step(memory, move, sdi) {
+            const next = copy(memory).next(), owed = trial.wordsOwed();
+            take(calm(copy(memory)));
+            const empty = trial.memory;
+            move(trial, sdi);
+            const after = trial.memory;
+            const sent = trial.wordsOwed() < owed;
+            const full = overflowed(trial);
+            const received = take(trial).words;
+            other.memory = empty;
+            move(other, sdi ? 0 : 1);
+            const samples = !same(after, other.memory);
+            const lost = overflowed((move(calm(copy(memory)), sdi), trial));
+            return {
+                samples,
+                finished: received.length > 0 || full,
+                lost,
+                word: received.length > 0 ? received[0] : null,
+                sent: sent ? next & 0xffff : null,
+            };
+        }
+
+        // begun(memory, sdi): a client has begun a word that SS going high would end
+        function begun(memory, sdi) {
+            const sck = copy(memory).levels() & H.LEVELS_SCK;
+            trial.pins(sck, sdi, 0);
+            const held = trial.memory;
+            trial.pins(sck, sdi, 1);
+            trial.pins(sck, sdi, 0);
+            return !same(held, trial.memory);
+        }
+
+        // active(con2): the level of SS at which a module of these settings can send: its pulse, if it is framed, else low
+        const active = con2 => (con2 & H.CON2_FRMEN && con2 & H.CON2_FRMPOL ? 1 : 0);
+
+        const most = 70; // edges of a word, with those of a pulse
+
+        // sends(module, ss): the words that it still has to send, the one under way first; it sends them all
+        function sends(module, ss) {
+            const words = [];
+            for (let owed = module.wordsOwed(); owed > 0 && words.length < 20; owed = module.wordsOwed()) {
+                words.push(module.next() & 0xffff);
+                for (let i = 0; i < most && module.wordsOwed() >= owed; i++) module.word(ss, 0);
+            }
+            return words;
+        }
+
+        // shift(module, ss, w): the word in the shift register, the bits that are still to come, and those that have come in:
+        // the module is sent on, with SDI low, until its word is whole
+        function shift(module, ss, w) {
+            const next = module.next();
+            take(calm(module));
+            let left = 0, came = null;
+            for (let i = 0; i < most && came === null; i++) {
+                const told = module.word(ss, 0);
+                if (told.refusal || told.noEdge) break;
+                left += told.count;
+                const words = take(module).words;
+                if (words.length) came = words[0];
+                else if (overflowed(module)) came = 0;
+            }
+            left = Math.min(left, w);
+            return { word: next & H.NEXT_WORD ? next & 0xffff : null, left: came === null ? w : left, came: came === null ? 0 : came };
+        }
+
+        // all(memory): the registers, the flag, the words unread and to be sent, and the shift register
+        function all(memory) {
+            const module = copy(memory);
+            const stat = module.read(H.STAT).value, con1 = module.read(H.CON1).value, con2 = module.read(H.CON2).value;
+            const ss = active(con2), w = width(con1), levels = module.levels();
+            const unread = take(copy(memory));
+            const waiting = sends(copy(memory), ss);
+            return {
+                stat, con1, con2, levels, width: w, enabled: (stat & H.STAT_SPIEN) !== 0,
+                unread: unread.words, unreadable: unread.refusal === H.OVERFLOWED,
+                waiting, edgesOwed: copy(memory).edgesOwed(), shift: shift(copy(memory), ss, w),
+            };
+        }
+
+        return { step, begun, all, digits };
+    }
+
+    return { create, hex };
+})();
