@@ -18,11 +18,10 @@ const Cards = (() => {
         const records = [];
         const keep = (column, seen = {}) => records.push({ column, seen, look: card.look(), memory: card.memory });
 
-        // call(label, answer, arrow): a call, done or refused
+        // call(name, value, answer, arrow): a call, done or refused
         function call(name, value, answer, arrow) {
-            const axis = String(records.length + 1);
-            if (answer.refusal) keep({ kind: 'refused', label: [name, `E ${answer.refusal}`], axis, text: Header.cardRefusals[answer.refusal] });
-            else keep({ kind: 'call', label: [name, value], axis, arrow });
+            if (answer.refusal) keep({ kind: 'refused', label: [name, `E ${answer.refusal}`], text: Header.cardRefusals[answer.refusal] });
+            else keep({ kind: 'call', label: [name, value], arrow });
         }
 
         card.powerUp();
@@ -79,5 +78,12 @@ const Cards = (() => {
         };
     }
 
-    return { protocols, run, diagram };
+    // told(look): a look at the card in words
+    function told(look) {
+        const flag = mask => (look & mask ? 1 : 0);
+        return `waiting ${look >>> 8 & 15}, unread ${unread(look)}, underrun ${flag(H.CARD_UNDERRUN)}, overflow ${flag(H.CARD_OVERFLOW)}, ` +
+            `SCK ${flag(H.CARD_SCK)}, LRCK ${flag(H.CARD_LRCK)}, SDO ${flag(H.CARD_SDO)}, the ${look & H.CARD_RIGHT ? 'right' : 'left'} channel takes a sample next`;
+    }
+
+    return { protocols, run, diagram, told };
 })();

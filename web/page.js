@@ -101,7 +101,6 @@
             chosen = records.length - 1;
             draw();
             choose(chosen);
-            view.waves.scrollLeft = 0;
         }
 
         function stop() {
@@ -128,6 +127,7 @@
             stop();
             text.value = value;
             play();
+            view.waves.scrollLeft = editor.scrollTop = 0;
         }
 
         // open(name, bytes): a script, or a trace, which is played and written out as one
@@ -249,10 +249,10 @@
             const f = form.elements, bits = +f.bits.value;
             const words = { host: hexWords(f.hostWords.value, bits), client: hexWords(f.clientWords.value, bits) };
             if (!words.host || !words.client) return say(said, `Words are hexadecimal numbers of at most ${bits / 4} digits, such as ${bits === 8 ? 'A5' : '00A5'}.`, true);
-            say(said, '');
             const options = { wire: f.wire.value, hostMode: +f.hostMode.value, clientMode: +f.clientMode.value, bits, enhanced: f.enhanced.checked, words, modules };
             records = Pair.run(library, look, options);
             view.show(Pair.diagram(records, options));
+            say(said, Pair.told(records));
             choose(records.length - 1);
             view.waves.scrollLeft = 0;
         }
@@ -269,14 +269,24 @@
     function startCard() {
         const form = by('card-form'), said = by('card-said');
         const card = new Library.Card(library), other = new Library.Card(library);
-        const views = Cards.protocols.map(protocol => {
+        const played = [];
+        const views = Cards.protocols.map((protocol, i) => {
             const heading = document.createElement('h2'), place = document.createElement('div');
             heading.textContent = protocol.name;
             by('cards').append(heading, place);
-            const view = new View(place, protocol.name, { onChoose: column => view.choose(column) });
+            const view = new View(place, protocol.name, {
+                onPoint: column => inspect(i, column < 0 ? view.chosen : column),
+                onChoose: column => { view.choose(column); inspect(i, column); },
+            });
             view.step = 6;
             return view;
         });
+
+        // inspect(i, column): what the card of that protocol tells after that column
+        function inspect(i, column) {
+            const r = played[i] && played[i][Math.max(0, column)];
+            if (r) say(by('card-look'), `${Cards.protocols[i].name}: ${Cards.told(r.look)}.`);
+        }
 
         // play(): a frame of each protocol
         function play() {
@@ -286,10 +296,12 @@
             say(said, '');
             Cards.protocols.forEach((protocol, i) => {
                 const options = { protocol: protocol.number, bits, frame, left: samples[0][0], right: samples[1][0] };
-                const diagram = Cards.diagram(Cards.run(card, other, options), options);
+                played[i] = Cards.run(card, other, options);
+                const diagram = Cards.diagram(played[i], options);
                 views[i].show(diagram);
                 views[i].choose(diagram.columns.length - 1, false);
             });
+            inspect(0, played[0].length - 1);
         }
 
         form.addEventListener('input', play);

@@ -37,8 +37,7 @@ const Pair = (() => {
         // call(role, name, value, answer, arrow): a call on one end, done or refused
         function call(role, name, value, answer, arrow) {
             const label = [role, name, answer.refusal ? `E ${answer.refusal}` : value];
-            const axis = String(records.length + 1);
-            keep(answer.refusal ? { kind: 'refused', label, axis, text: Header.refusals[answer.refusal] } : { kind: 'call', label, axis, arrow });
+            keep(answer.refusal ? { kind: 'refused', label, text: Header.refusals[answer.refusal] } : { kind: 'call', label, arrow });
             return answer.refusal === 0;
         }
 
@@ -55,12 +54,22 @@ const Pair = (() => {
             for (const word of options.words[role]) call(role, 'BUF', Look.hex(word, options.bits / 4), ends[role].write(H.BUF, word), 'in');
 
         const edge = framed(options) ? framedEdge : linkedEdge;
+        const joined = framed(options) || selected();
         let rest = framed(options) ? 4 : 1; // a framed clock never stops: two clocks more are shown
-        for (let edges = 0; edges < 544 && rest > 0; edges++) {
+        for (let edges = 1; joined && edges <= 544 && rest > 0; edges++) {
             const seen = edge();
             if (!seen) break;
-            keep({ kind: 'step', axis: String(records.length + 1) }, seen);
+            keep({ kind: 'step', axis: String(edges) }, seen);
             if (framed(options) && ends.host.wordsOwed() + ends.client.wordsOwed() === 0) rest--;
+        }
+
+        // selected(): a linked run of no edge, which selects the client; false if the ends cannot be joined
+        function selected() {
+            const answer = ends.host.linked(ends.client, 0);
+            if (answer.refusal) return call('both', 'linked', '', answer, '');
+            ss = 0;
+            keep({ kind: 'step' });
+            return true;
         }
 
         // linkedEdge(): one edge of a linked run; null if there is none
@@ -68,10 +77,8 @@ const Pair = (() => {
             const before = { host: ends.host.memory, client: ends.client.memory };
             const sdi = ends.client.levels() & H.LEVELS_SDO ? 1 : 0;
             const answer = ends.host.linked(ends.client, 1);
-            if (answer.refusal) call('both', 'linked', '', answer, '');
             if (answer.refusal || answer.value === 0) return null;
             const levels = ends.host.levels(), sck = levels & H.LEVELS_SCK, sdo = levels & H.LEVELS_SDO ? 1 : 0;
-            ss = 0;
             return {
                 host: look.step(before.host, (m, level) => m.tick(level, 0), sdi),
                 client: look.step(before.client, (m, level) => m.pins(sck, level, 0), sdo),
@@ -136,7 +143,7 @@ const Pair = (() => {
                 { name: 'SCK', levels: pin('host', H.LEVELS_SCK), edges: sampled('host') },
                 { name: 'host SDO', levels: sdo('host'), samples: sampled('client'), words: wordsOf(records, 'host', options.bits) },
                 { name: 'client SDO', levels: sdo('client'), samples: sampled('host'), words: wordsOf(records, 'client', options.bits) },
-                { name: 'SS', levels: records.map(r => (r.ss === undefined ? 'z' : r.ss)) },
+                { name: framed(options) ? `${options.wire.split(' ')[0]} SS` : 'SS', levels: records.map(r => (r.ss === undefined ? 'z' : r.ss)) },
                 { name: 'host INT', levels: pin('host', H.LEVELS_INTERRUPT), kind: 'flag' },
                 { name: 'client INT', levels: pin('client', H.LEVELS_INTERRUPT), kind: 'flag' },
             ],
@@ -144,5 +151,14 @@ const Pair = (() => {
         };
     }
 
-    return { run, diagram };
+    // told(records): the session in a sentence
+    function told(records) {
+        const refused = records.find(r => r.column.kind === 'refused');
+        if (refused) return `Refused: ${refused.column.label[0]}, ${refused.column.label[2]}, ${refused.column.text}.`;
+        const edges = records.filter(r => r.seen.host).length;
+        const read = role => records.filter(r => r.column.arrow === 'out' && r.column.label[0] === role).map(r => r.column.label[2]).join(' ') || 'nothing';
+        return `${edges} edges. The client reads ${read('client')}, the host ${read('host')}.`;
+    }
+
+    return { run, diagram, told };
 })();

@@ -9,10 +9,10 @@ const Pictures = (() => {
         const card = new Library.Card(library), other = new Library.Card(library);
 
         // pair(options): a session of a host with A5 and a client with 3C
-        function pair(options, title) {
+        function pair(options, step, title) {
             const all = { bits: 8, enhanced: false, wire: 'linked', hostMode: 1, clientMode: 1,
                 words: { host: [0xa5], client: [0x3c] }, modules: { host: module, client: peer }, ...options };
-            return Draw.picture(Pair.diagram(Pair.run(library, look, all), all), 20, title);
+            return Draw.picture(Pair.diagram(Pair.run(library, look, all), all), step, title);
         }
 
         const pictures = {
@@ -20,10 +20,10 @@ const Pictures = (() => {
                 'examples/receipt.txt: a command goes out, a receipt comes back and is read once, and every further read is refused'),
         };
         for (const mode of [0, 1, 2, 3])
-            pictures[`mode-${mode}`] = pair({ hostMode: mode, clientMode: mode }, `SPI mode ${mode}: a host sends A5, a client 3C`);
-        pictures['framed-host'] = pair({ wire: 'host frames', enhanced: true, words: { host: [0xa5, 0xc3], client: [0x3c, 0x5a] } },
+            pictures[`mode-${mode}`] = pair({ hostMode: mode, clientMode: mode }, 20, `SPI mode ${mode}: a host sends A5, a client 3C`);
+        pictures['framed-host'] = pair({ wire: 'host frames', enhanced: true, words: { host: [0xa5, 0xc3], client: [0x3c, 0x5a] } }, 14,
             'Framed, the clock host drives the pulses: two words without a gap');
-        pictures['framed-client'] = pair({ wire: 'client frames', enhanced: true, words: { host: [0xa5, 0xc3], client: [0x3c, 0x5a] } },
+        pictures['framed-client'] = pair({ wire: 'client frames', enhanced: true, words: { host: [0xa5, 0xc3], client: [0x3c, 0x5a] } }, 14,
             'Framed, the client drives the pulses: two words without a gap');
         const names = ['i2s', 'left-justified', 'right-justified', 'pcm-dsp'];
         Cards.protocols.forEach((protocol, i) => {

@@ -101,7 +101,8 @@ const Script = (() => {
         return { ...head, label: ['INT', 'clear'], arrow: 'in' };
     }
 
-    // wordsOf(records): the words that went out and came in, each with the first and the last column that sampled a bit of it
+    // wordsOf(records): the words that went out and came in, each with the first and the last column that sampled a bit of it. The
+    // last bit of a word that is lost makes no difference to the module, so what its edge samples is not seen there: it is added.
     function wordsOf(records) {
         const out = [], back = [], notes = [];
         let samples = [];
@@ -112,6 +113,7 @@ const Script = (() => {
                 samples = [];
             }
             if (!r.seen) return;
+            if (r.seen.finished && samples.length === 4 * r.digits - 1) r.seen.samples = true;
             if (r.seen.samples) samples.push(i);
             if (!r.seen.finished) return;
             const first = samples.length ? samples[0] : i, last = samples.length ? samples[samples.length - 1] : i;

@@ -97,6 +97,19 @@ function scripts(page) {
     }
 }
 
+// words(page): what stands over the bits of SDO and SDI
+function words(page) {
+    const wanted = {
+        'receipt.txt': 'C3 5A', 'client.txt': 'A5 3C', 'framed.txt': 'C3 5A A5 filler 3C A5 5A C3',
+        'overflow.txt': '03 00 00 00 00 00 00 00 00 03 03 03 00 00 52 45 43 45 49 50 54 20 37 lost lost 52 52 45 lost 43',
+    };
+    for (const [name, list] of Object.entries(wanted)) {
+        choose(page, name);
+        const seen = texts(page, '#view text:not([class]), #view text.refused').filter(t => /^([0-9A-F]{2}|filler|([0-9A-F]{2} )?lost)$/.test(t)).join(' ');
+        check(`${name}: words stand over their bits`, differs(seen, list));
+    }
+}
+
 // zooms(page): labels at other zooms
 function zooms(page) {
     choose(page, 'framed.txt');
@@ -234,6 +247,7 @@ async function all() {
         pairs(page);
         cards(page);
     }
+    words(pages[2]);
     steps(pages[2]);
     looks(pages[2]);
     await traces(pages[2]);
