@@ -21,7 +21,6 @@ const Draw = (() => {
 
     const round = n => String(Math.round(n * 10) / 10);
     const escape = text => text.replace(/&/g, '&amp;').replace(/</g, '&lt;').replace(/"/g, '&quot;');
-    const sum = list => list.reduce((a, b) => a + b, 0);
     const longest = texts => Math.max(0, ...texts.map(t => t.length));
 
     // ---- colours, for light and dark
@@ -34,28 +33,36 @@ const Draw = (() => {
         paper: '#16191d', desk: '#0f1114', ink: '#e7e9ea', muted: '#98a1a8', line: '#31373d', band: '#1d232b', redband: '#2e1c1c',
         wave: '#dfe3e6', call: '#8fb7f5', refused: '#ff8f85', sample: '#52c7ba', flag: '#eab260',
     };
-    const set = colours => Object.entries(colours).map(([name, value]) => `--${name}:${value}`).join(';');
-
-    // variables(selector): the colours as CSS variables of that selector
-    const variables = selector =>
-        `${selector}{${set(light)}}\n@media (prefers-color-scheme:dark){${selector}{${set(dark)}}}\n`;
+    // colours(selector): both sets as CSS variables of that selector
+    const colours = selector => {
+        const set = list => Object.entries(list).map(([name, value]) => `--${name}:${value}`).join(';');
+        return `${selector}{${set(light)}}\n@media (prefers-color-scheme:dark){${selector}{${set(dark)}}}\n`;
+    };
 
     const font = 'ui-monospace,"DejaVu Sans Mono","SF Mono",Menlo,Consolas,"Liberation Mono",monospace';
 
-    const style = `.td text{font:11px ${font};fill:var(--ink)}
-.td .small{font-size:10px;fill:var(--muted)}
-.td .call{fill:var(--call)}.td text.refused{fill:var(--refused)}.td text.flag{fill:var(--flag)}
-.td .why{font-size:10px;fill:var(--refused)}
-.td .band{fill:var(--band)}.td .redband{fill:var(--redband)}
-.td path,.td .rule{fill:none;stroke:var(--line);stroke-width:1}
-.td .wave{stroke:var(--wave);stroke-width:1.4;stroke-linejoin:round}
-.td .open{stroke:var(--muted);stroke-width:1.2;stroke-dasharray:3 3}
-.td .flagwave{stroke:var(--flag);stroke-width:1.4;stroke-linejoin:round}
-.td .span{stroke:var(--muted)}.td .cut{stroke:var(--muted);stroke-dasharray:2 2}
-.td .guide{stroke:var(--sample);stroke-opacity:.35;stroke-dasharray:1 3}
-.td .dot{fill:var(--sample);stroke:none}.td .rise{fill:var(--flag);stroke:none}
-.td .arrow{stroke:var(--call);stroke-width:1.3}.td .cross{stroke:var(--refused);stroke-width:1.6}
+    // shapes: the style of a drawing without its colours
+    const shapes = `.td text{font:11px ${font}}.td .small,.td .why{font-size:10px}
+.td path{fill:none;stroke-width:1}
+.td .wave,.td .flagwave{stroke-width:1.4;stroke-linejoin:round}
+.td .open{stroke-width:1.2;stroke-dasharray:3 3}.td .cut{stroke-dasharray:2 2}
+.td .guide{stroke-opacity:.35;stroke-dasharray:1 3}
+.td .arrow{stroke-width:1.3}.td .cross{stroke-width:1.6}
+.td .dot,.td .rise{stroke:none}
 `;
+
+    // painted(c): the colours of a drawing, c(name) being one of them
+    const painted = c => `.td text{fill:${c('ink')}}.td .small{fill:${c('muted')}}
+.td .call{fill:${c('call')}}.td .why,.td text.refused{fill:${c('refused')}}.td text.flag,.td .rise{fill:${c('flag')}}
+.td .band{fill:${c('band')}}.td .redband{fill:${c('redband')}}.td .paper{fill:${c('paper')}}
+.td .wave{stroke:${c('wave')}}.td .flagwave{stroke:${c('flag')}}.td .open,.td .span,.td .cut{stroke:${c('muted')}}
+.td .guide{stroke:${c('sample')}}.td .dot{fill:${c('sample')}}
+.td .arrow{stroke:${c('call')}}.td .cross{stroke:${c('refused')}}
+`;
+
+    // style(): for the page, over its variables; styleAlone(): for a picture, which not every viewer would give variables
+    const style = () => colours(':root') + shapes + painted(name => `var(--${name})`);
+    const styleAlone = () => `${shapes}${painted(name => light[name])}@media (prefers-color-scheme:dark){\n${painted(name => dark[name])}}\n`;
 
     // ---- where everything is
 
@@ -216,7 +223,7 @@ const Draw = (() => {
     }
 
     // notes(l): words below a column
-    const notes = l => l.notes.map(n => text(`${n.kind} small`, n.x, l.below + n.row * row + 9, n.text)).join('');
+    const notes = l => l.notes.map(n => text(`small ${n.kind}`, n.x, l.below + n.row * row + 9, n.text)).join('');
 
     // whys(l): why a call was refused, below it
     const whys = l => l.columns.map(c => c.why.map((words, i) => text('why', c.at, l.why + (i + 1) * line - 2, words)).join('')).join('');
@@ -273,10 +280,10 @@ const Draw = (() => {
     function picture(diagram, step, title) {
         const l = layout(diagram, step), left = names(diagram, l);
         const width = left.width + l.width, height = l.height + 12;
-        return opened(width, height, title) + `<title>${escape(title)}</title><style>${variables('.td')}${style}</style>` +
-            `<rect width="${round(width)}" height="${round(height)}" rx="6" style="fill:var(--paper)"/>` +
+        return opened(width, height, title) + `<title>${escape(title)}</title><style>${styleAlone()}</style>` +
+            `<rect class="paper" width="${round(width)}" height="${round(height)}" rx="6"/>` +
             `<g transform="translate(0 6)">${left.body}<g transform="translate(${round(left.width)} 0)">${body(l)}</g></g></svg>\n`;
     }
 
-    return { view, picture, variables, style, font, sum };
+    return { view, picture, style, font };
 })();

@@ -4,7 +4,7 @@
 (() => {
     const by = id => document.getElementById(id);
     const style = document.createElement('style');
-    style.textContent = `${Draw.variables(':root')}:root{--font:${Draw.font}}\n${Draw.style}`;
+    style.textContent = `${Draw.style()}:root{--font:${Draw.font}}`;
     document.head.append(style);
 
     // the page says at first that this browser cannot run it; only one that can takes that back
@@ -133,8 +133,9 @@
         // open(name, bytes): a script, or a trace, which is played and written out as one
         function open(name, bytes) {
             if (!Trace.isTrace(bytes)) {
-                say(said, '');
-                return put(new TextDecoder().decode(bytes));
+                put(new TextDecoder('utf-8', { ignoreBOM: true }).decode(bytes));
+                const returns = bytes.includes(13) ? 'Its lines end in CR and LF. The CRs are left out here; ./run refuses such lines with 9.' : '';
+                return say(said, bytes.length > Library.longest ? 'It is longer than 65,535 bytes, and what comes after them is not played.' : returns);
             }
             const told = Trace.told(files, played, bytes);
             if (told.refusal) return say(said, `${name}: ${told.text}. If it was cut, it may be salvaged.`, true);

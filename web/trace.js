@@ -26,19 +26,27 @@ const Trace = (() => {
 
     // written(bytes): a right trace as a script, and whether all of it has room in one
     function written(bytes) {
-        const lines = [];
+        const lines = [], sections = [];
         let room = Library.longest;
 
-        // section(n): writes its records out; false if there is no room left
-        function section(n) {
+        // the last section first, so that those that it plays are known: what a section does, without plays that make no call
+        for (let n = number(bytes, 0, 2) - 1; n >= 0; n--) {
             const start = number(bytes, 2 + 8 * n, 4), end = start + number(bytes, 6 + 8 * n, 4);
+            sections[n] = [];
             for (let at = start; at < end; at += 4) {
                 const kind = bytes[at], argument = bytes[at + 1], value = number(bytes, at + 2, 2);
-                if (kind === 5) {
-                    for (let i = 0; i < value && hasRecords(argument); i++) if (!section(argument)) return false;
+                if (kind !== 5) sections[n].push({ line: lineOf(kind, argument, value) });
+                else if (value > 0 && sections[argument].length > 0) sections[n].push({ plays: argument, times: value });
+            }
+        }
+
+        // play(n): writes a section out; false if there is no room left
+        function play(n) {
+            for (const { line, plays, times } of sections[n]) {
+                if (line === undefined) {
+                    for (let i = 0; i < times; i++) if (!play(plays)) return false;
                     continue;
                 }
-                const line = lineOf(kind, argument, value);
                 room -= line.length + 1;
                 if (room < 0) return false;
                 lines.push(line);
@@ -46,8 +54,7 @@ const Trace = (() => {
             return true;
         }
 
-        const hasRecords = n => number(bytes, 6 + 8 * n, 4) > 0;
-        const whole = section(0);
+        const whole = play(0);
         return { text: lines.map(line => `${line}\n`).join(''), whole };
     }
 

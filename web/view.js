@@ -19,7 +19,10 @@ class View {
         this.waves.setAttribute('aria-label', `${title}: arrow keys go from column to column, plus and minus zoom`);
         this.drawn.addEventListener('pointermove', event => this.point(this.columnAt(event), onPoint));
         this.drawn.addEventListener('pointerleave', () => this.point(-1, onPoint));
-        this.drawn.addEventListener('click', event => onChoose(this.columnAt(event)));
+        this.drawn.addEventListener('click', event => {
+            const column = this.columnAt(event);
+            if (column >= 0) onChoose(column);
+        });
         this.waves.addEventListener('keydown', event => this.key(event));
     }
 
@@ -33,10 +36,13 @@ class View {
         this.choose(Math.min(this.chosen, diagram.columns.length - 1), false);
     }
 
-    // zoom(factor): draws it wider or narrower
+    // zoom(factor): draws it wider or narrower; what is in the middle stays there
     zoom(factor) {
         this.step = Math.min(48, Math.max(3, this.step * factor));
-        if (this.diagram) this.show(this.diagram);
+        if (!this.diagram) return;
+        const half = this.waves.clientWidth / 2, at = (this.waves.scrollLeft + half) / this.layout.width;
+        this.show(this.diagram);
+        this.waves.scrollLeft = at * this.layout.width - half;
     }
 
     columnAt(event) {
@@ -98,7 +104,7 @@ const Inspector = (() => {
 
     const words = (list, digits, none) => list.length ? list.map(w => `<span class="word">${Look.hex(w, digits)}</span>`).join('') : `<i>${none}</i>`;
 
-    // bits(word, from, to, width): those bits of a word, the highest first, as cells
+    // bits(word, known, width): the bits of a word, the highest first, as cells; one that is not known is open
     const bits = (word, known, width) => Array.from({ length: width }, (_, i) =>
         `<span class="bit${known(i) ? '' : ' open'}">${known(i) ? word >> (width - 1 - i) & 1 : '·'}</span>`).join('');
 

@@ -88,13 +88,36 @@ function refused(page, output) {
 
 // scripts(page): each shipped script
 function scripts(page) {
+    let lines = '', shown = '', meets = '', count = 0;
     for (const [name, packed] of Object.entries(Given.outputs)) {
-        const output = decoded(packed);
+        const output = decoded(packed), of = wrong => wrong && `${name}: ${wrong}`;
         choose(page, name);
-        check(`${page.width} pixels, ${name}: ${output.split('\n').length - 1} lines as ./run prints them`, differs(answers(page), output));
-        check(`${page.width} pixels, ${name}: each refusal is shown with its number and its text`, refused(page, output));
-        check(`${page.width} pixels, ${name}: no two labels meet`, labels(page));
+        count += output.split('\n').length - 1;
+        lines = lines || of(differs(answers(page), output));
+        shown = shown || of(refused(page, output));
+        meets = meets || of(labels(page));
     }
+    check(`${page.width} pixels: the ${count} lines of the shipped scripts are as ./run prints them`, lines);
+    check(`${page.width} pixels: each refusal is shown with its number and its text`, shown);
+    check(`${page.width} pixels: no two labels meet in any script`, meets);
+}
+
+// type(page, script): as if it were typed
+function type(page, script) {
+    const text = page.document.getElementById('text');
+    text.value = script;
+    text.dispatchEvent(new page.window.Event('input'));
+}
+
+// odd(page): lines that nearly can be read, and a script of many lines
+function odd(page) {
+    type(page, decoded(Given.odd));
+    check('lines that nearly can be read are refused as ./run refuses them', differs(answers(page), decoded(Given.oddOutput)));
+    check('no two labels meet there', labels(page));
+    type(page, `W 1 0020\nW 0 8000\n${'T 1\n'.repeat(3000)}R 0\n`);
+    const heading = page.document.querySelector('#inspector h3').textContent;
+    check('a script of 3,003 lines is played', differs(heading, 'After line 3003: R 0 → 8000'));
+    check('it is drawn around the chosen line', differs(page.document.querySelectorAll('#view text.call').length > 0 && texts(page, '#view text.small').includes('3003'), true));
 }
 
 // words(page): what stands over the bits of SDO and SDI
@@ -150,10 +173,8 @@ function steps(page) {
 
 // looks(page): buffers and shift register in the middle of a word
 function looks(page) {
-    const text = page.document.getElementById('text');
     const dd = n => page.document.querySelectorAll('#inspector dd')[n].textContent;
-    text.value = 'W 1 0020\nW 2 0001\nW 0 8000\nW 3 00C3\nW 3 005A\nW 3 0011\nT 1\nT 1\nT 0\nT 0\nT 1\nT 1\n';
-    text.dispatchEvent(new page.window.Event('input'));
+    type(page, 'W 1 0020\nW 2 0001\nW 0 8000\nW 3 00C3\nW 3 005A\nW 3 0011\nT 1\nT 1\nT 0\nT 0\nT 1\nT 1\n');
     check('words to be sent are listed', differs(dd(3), 'C35A11'));
     check('nothing is unread', differs(dd(4), 'none'));
     check('the shift register has what is to go out and what has come in', differs(dd(5), 'out ···00011 in 101·····'));
@@ -181,6 +202,8 @@ async function traces(page) {
         input.onchange();
         await later();
     }
+    await opens('open', new TextEncoder().encode('W 1 0020\r\nR 1\r\n'));
+    check('a script with CR and LF is opened, and that is said', differs(answers(page), '1 OK\n2 0020\n') || (/CR and LF/.test(said()) ? '' : said()));
     const cut = Uint8Array.from(atob(Given.cut), c => c.charCodeAt(0));
     await opens('open', cut);
     check('a cut trace is refused', differs(said(), "some.trace: E 17: the trace's table of contents or length is wrong. If it was cut, it may be salvaged."));
@@ -250,6 +273,7 @@ async function all() {
     words(pages[2]);
     steps(pages[2]);
     looks(pages[2]);
+    odd(pages[2]);
     await traces(pages[2]);
     const sorry = without.document.getElementById('sorry');
     check('a browser without wasm64 gets a sentence', !shown(sorry) || shown(without.document.getElementById('main')) || !/WebAssembly/.test(sorry.textContent) ? 'there is none' : '');
