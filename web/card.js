@@ -12,8 +12,8 @@ const Cards = (() => {
     const same = (one, two) => one.every((byte, i) => byte === two[i]);
     const unread = look => look >>> 12 & 15;
 
-    // run(card, other, options): a record for each call and each edge of a frame and the clock behind it; `other` is a card to
-    // try things on
+    // run(card, other, options): a record for each call and each edge of a frame and the clock behind it; how all stood before them is
+    // `start`, and `other` is a card to try things on
     function run(card, other, { protocol, bits, frame, left, right }) {
         const records = [];
         const keep = (column, seen = {}) => records.push({ column, seen, look: card.look(), memory: card.memory });
@@ -28,6 +28,7 @@ const Cards = (() => {
         card.setProtocol(protocol);
         card.setLength(bits, frame);
         card.enable();
+        const start = { look: card.look() };
         call('left', Look.hex(left, bits / 4), card.write(left), 'in');
         call('right', Look.hex(right, bits / 4), card.write(right), 'in');
         for (let i = 0; i < 2 * (frame + 1); i++) {
@@ -42,7 +43,7 @@ const Cards = (() => {
             const answer = card.read();
             call(name, Look.hex(answer.value, bits / 4), answer, 'out');
         }
-        return records;
+        return Object.assign(records, { start });
     }
 
     // newest(card, other): the last sample that a copy of the card hands out
@@ -57,7 +58,8 @@ const Cards = (() => {
 
     // diagram(records, options): what the drawing draws of them
     function diagram(records, { bits }) {
-        const pin = mask => records.map(r => (r.look & mask ? 1 : 0));
+        const lane = (name, level, more) => ({ name, before: level(records.start), levels: records.map(level), ...more });
+        const pin = mask => r => (r.look & mask ? 1 : 0);
         const words = [];
         let samples = [];
         records.forEach((r, i) => {
@@ -70,9 +72,9 @@ const Cards = (() => {
         return {
             columns: records.map(r => r.column),
             lanes: [
-                { name: 'SCK', levels: pin(H.CARD_SCK), edges: sampled },
-                { name: 'LRCK', levels: pin(H.CARD_LRCK) },
-                { name: 'SDO', levels: records.map(r => (r.look & H.CARD_DRIVEN ? (r.look & H.CARD_SDO ? 1 : 0) : 'z')), samples: sampled, words },
+                lane('SCK', pin(H.CARD_SCK), { edges: sampled }),
+                lane('LRCK', pin(H.CARD_LRCK)),
+                lane('SDO', r => (r.look & H.CARD_DRIVEN ? pin(H.CARD_SDO)(r) : 'z'), { samples: sampled, words }),
             ],
             notes: [],
         };

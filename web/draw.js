@@ -5,8 +5,8 @@
 //   columns  from left to right: { kind, axis, label, text, arrow }. kind is 'step', one step of a clock, or 'call', or 'refused'.
 //            axis is the number below; a call has lines of label above and an arrow, 'in' or 'out'; a refused one has the text
 //            of its refusal below.
-//   lanes    from top to bottom: { name, levels, kind, early, edges, samples, words }. levels has one for each column: 0, 1 or 'z',
-//            undriven. early(i) says that the level of column i stands before its edge. edges and samples are columns to mark, on
+//   lanes    from top to bottom: { name, before, levels, kind, early, edges, samples, words }. levels has one for each column: 0, 1 or
+//            'z', undriven; before is the one before them. early(i) says that the level of column i stands before its edge. edges and samples are columns to mark, on
 //            the edge of this lane and on its level. A word is { first, last, text, kind }, over the columns that sample its bits.
 //   notes    { column, text, kind }: a word or two below a column
 //
@@ -156,12 +156,12 @@ const Draw = (() => {
 
     // changes(lane, l): where the lane's level changes, with the level from there on
     function changes(lane, l) {
-        const found = [];
+        const found = [{ x: edge, level: lane.before }];
         lane.levels.forEach((level, i) => {
             const c = l.columns[i];
-            if (found.length && found[found.length - 1].level === level) return;
+            if (found[found.length - 1].level === level) return;
             const sooner = c.kind === 'step' && lane.early && lane.early(i) ? l.step * 0.35 : 0;
-            found.push({ x: i === 0 ? c.x : c.at - sooner, level });
+            found.push({ x: Math.max(edge, c.at - sooner), level });
         });
         return found;
     }
@@ -245,7 +245,7 @@ const Draw = (() => {
         l.columns.forEach((c, i) => {
             if (c.kind !== 'step' || !c.axis) return;
             let first = i;
-            while (first > 0 && l.columns[first - 1].kind === 'step') first--;
+            while (first > 0 && l.columns[first - 1].kind === 'step' && l.columns[first - 1].axis !== undefined) first--;
             if ((i - first) % every === 0) said += put(middle(c), c.axis);
         });
         return said;

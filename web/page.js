@@ -91,7 +91,7 @@
         // draw(): draws the lines around the chosen one
         function draw() {
             from = records.length <= drawnAtMost ? 0 : Math.max(0, Math.min(chosen - drawnAtMost / 2, records.length - drawnAtMost));
-            view.show(Script.diagram(records.slice(from, from + drawnAtMost)));
+            view.show(Script.diagram(Script.part(records, from, from + drawnAtMost)));
         }
 
         // play(): plays the text anew, to its end
@@ -251,7 +251,7 @@
             const words = { host: hexWords(f.hostWords.value, bits), client: hexWords(f.clientWords.value, bits) };
             if (!words.host || !words.client) return say(said, `Words are hexadecimal numbers of at most ${bits / 4} digits, such as ${bits === 8 ? 'A5' : '00A5'}.`, true);
             const options = { wire: f.wire.value, hostMode: +f.hostMode.value, clientMode: +f.clientMode.value, bits, enhanced: f.enhanced.checked, words, modules };
-            records = Pair.run(library, look, options);
+            records = Pair.run(look, options);
             view.show(Pair.diagram(records, options));
             say(said, Pair.told(records));
             choose(records.length - 1);

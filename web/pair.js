@@ -21,18 +21,21 @@ const Pair = (() => {
         return { con1, con2 };
     }
 
-    // run(library, look, options): a record for each call and each edge of a session: words are written, sent and read
-    function run(library, look, options) {
-        const ends = { host: options.modules.host, client: options.modules.client };
+    // run(look, options): a record for each call and each edge of a session: words are written, sent and read; how all stood before them
+    // is `start`
+    function run(look, options) {
+        const ends = options.modules;
         const records = [];
         let ss = framed(options) ? undefined : 1;
 
-        // keep(column, seen): a record of both ends as they are now
-        function keep(column, seen = {}) {
+        // now(): both ends as they are
+        function now() {
             const levels = { host: ends.host.levels(), client: ends.client.levels() };
             if (framed(options)) ss = (levels.host | levels.client) & H.LEVELS_SS ? 1 : 0;
-            records.push({ column, seen, levels, ss, memory: { host: ends.host.memory, client: ends.client.memory } });
+            return { levels, ss, memory: { host: ends.host.memory, client: ends.client.memory } };
         }
+
+        const keep = (column, seen = {}) => records.push({ column, seen, ...now() });
 
         // call(role, name, value, answer, arrow): a call on one end, done or refused
         function call(role, name, value, answer, arrow) {
@@ -50,6 +53,7 @@ const Pair = (() => {
             if (answer.refusal) call(role, 'STAT', '', answer, 'in');
         }
         if (!framed(options)) ends.client.pins(ends.host.levels() & H.LEVELS_SCK, 0, 1);
+        const start = now();
         for (const role of ['host', 'client'])
             for (const word of options.words[role]) call(role, 'BUF', Look.hex(word, options.bits / 4), ends[role].write(H.BUF, word), 'in');
 
@@ -112,7 +116,7 @@ const Pair = (() => {
                 if (!call(role, 'BUF', Look.hex(answer.value, options.bits / 4), answer, 'out')) break;
             }
         }
-        return records;
+        return Object.assign(records, { start });
     }
 
     // wordsOf(records, role, bits): the words that one end sent, over the columns at which it sampled its own
@@ -134,18 +138,19 @@ const Pair = (() => {
 
     // diagram(records, options): what the drawing draws of them
     function diagram(records, options) {
-        const pin = (role, mask) => records.map(r => (r.levels[role] & mask ? 1 : 0));
-        const sdo = role => records.map(r => (r.levels[role] & H.LEVELS_DRIVEN ? (r.levels[role] & H.LEVELS_SDO ? 1 : 0) : 'z'));
+        const lane = (name, level, more) => ({ name, before: level(records.start), levels: records.map(level), ...more });
+        const pin = (role, mask) => r => (r.levels[role] & mask ? 1 : 0);
+        const sdo = role => r => (r.levels[role] & H.LEVELS_DRIVEN ? pin(role, H.LEVELS_SDO)(r) : 'z');
         const sampled = role => records.flatMap((r, i) => (r.seen[role] && r.seen[role].samples ? [i] : []));
         return {
             columns: records.map(r => r.column),
             lanes: [
-                { name: 'SCK', levels: pin('host', H.LEVELS_SCK), edges: sampled('host') },
-                { name: 'host SDO', levels: sdo('host'), samples: sampled('client'), words: wordsOf(records, 'host', options.bits) },
-                { name: 'client SDO', levels: sdo('client'), samples: sampled('host'), words: wordsOf(records, 'client', options.bits) },
-                { name: framed(options) ? `${options.wire.split(' ')[0]} SS` : 'SS', levels: records.map(r => (r.ss === undefined ? 'z' : r.ss)) },
-                { name: 'host INT', levels: pin('host', H.LEVELS_INTERRUPT), kind: 'flag' },
-                { name: 'client INT', levels: pin('client', H.LEVELS_INTERRUPT), kind: 'flag' },
+                lane('SCK', pin('host', H.LEVELS_SCK), { edges: sampled('host') }),
+                lane('host SDO', sdo('host'), { samples: sampled('client'), words: wordsOf(records, 'host', options.bits) }),
+                lane('client SDO', sdo('client'), { samples: sampled('host'), words: wordsOf(records, 'client', options.bits) }),
+                lane(framed(options) ? `${options.wire.split(' ')[0]} SS` : 'SS', r => r.ss),
+                lane('host INT', pin('host', H.LEVELS_INTERRUPT), { kind: 'flag' }),
+                lane('client INT', pin('client', H.LEVELS_INTERRUPT), { kind: 'flag' }),
             ],
             notes: [],
         };

@@ -12,7 +12,7 @@ const Pictures = (() => {
         function pair(options, step, title) {
             const all = { bits: 8, enhanced: false, wire: 'linked', hostMode: 1, clientMode: 1,
                 words: { host: [0xa5], client: [0x3c] }, modules: { host: module, client: peer }, ...options };
-            return Draw.picture(Pair.diagram(Pair.run(library, look, all), all), step, title);
+            return Draw.picture(Pair.diagram(Pair.run(look, all), all), step, title);
         }
 
         const pictures = {

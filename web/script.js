@@ -60,11 +60,18 @@ const Script = (() => {
         return before;
     }
 
-    // play(module, look, text): a record for each line of the script, from power-up on
+    // pinsOf(module, sdi, ss): the levels at all pins, of which the last two may be given from outside
+    function pinsOf(module, sdi, ss) {
+        const levels = module.levels();
+        return { levels, sdi, ss, driven: (levels & H.LEVELS_DRIVEN) !== 0, ssDriven: (levels & H.LEVELS_SS_DRIVEN) !== 0 };
+    }
+
+    // play(module, look, text): a record for each line of the script, from power-up on; how all stood before them is `start`
     function play(module, look, text) {
         module.powerUp();
         let sdi, ss;
-        return linesOf(text).map((line, index) => {
+        const start = pinsOf(module);
+        const records = linesOf(text).map((line, index) => {
             const asked = asks(line), before = module.memory;
             const answer = asked ? make(module, asked, asked.sdi) : { refusal: H.UNREADABLE_LINE, value: 0 };
             const levels = module.levels();
@@ -75,14 +82,17 @@ const Script = (() => {
             if (stepped) sdi = asked.sdi;
             ss = ssOf(done ? asked : null, levels, module.read(H.CON2).value, ss);
             return {
-                number: index + 1, line, asked, stepped, seen, aborted, levels, sdi, ss,
+                number: index + 1, line, asked, stepped, seen, aborted, ...pinsOf(module, sdi, ss),
                 refusal: answer.refusal, answer: told(asked || {}, answer, levels),
-                driven: (levels & H.LEVELS_DRIVEN) !== 0, ssDriven: (levels & H.LEVELS_SS_DRIVEN) !== 0,
                 enabled: (module.read(H.STAT).value & H.STAT_SPIEN) !== 0, digits: look.digits(before),
                 memory: module.memory,
             };
         });
+        return Object.assign(records, { start });
     }
+
+    // part(records, from, to): some of them
+    const part = (records, from, to) => Object.assign(records.slice(from, to), { start: from > 0 ? records[from - 1] : records.start });
 
     // output(records): what ./run prints
     const output = records => records.map(r => `${r.number} ${r.answer}\n`).join('');
@@ -128,19 +138,19 @@ const Script = (() => {
     // diagram(records): what the drawing draws of them
     function diagram(records) {
         const words = wordsOf(records);
-        const pin = mask => records.map(r => (r.levels & mask ? 1 : 0));
-        const given = name => records.map(r => (r[name] === undefined ? 'z' : r[name]));
+        const lane = (name, level, more) => ({ name, before: level(records.start), levels: records.map(level), ...more });
+        const pin = mask => r => (r.levels & mask ? 1 : 0);
+        const given = name => r => (r[name] === undefined ? 'z' : r[name]);
         const samples = records.flatMap((r, i) => (r.seen && r.seen.samples ? [i] : []));
         const lanes = [
-            { name: 'SCK', levels: pin(H.LEVELS_SCK), edges: samples },
-            { name: 'SDO', levels: records.map(r => (r.driven ? (r.levels & H.LEVELS_SDO ? 1 : 0) : 'z')), words: words.out },
-            { name: 'SDI', levels: given('sdi'), early: () => true, samples, words: words.back },
+            lane('SCK', pin(H.LEVELS_SCK), { edges: samples }),
+            lane('SDO', r => (r.driven ? pin(H.LEVELS_SDO)(r) : 'z'), { words: words.out }),
+            lane('SDI', given('sdi'), { early: () => true, samples, words: words.back }),
         ];
-        if (records.some(r => r.ss !== undefined))
-            lanes.push({ name: 'SS', levels: given('ss'), early: i => !records[i].ssDriven });
-        lanes.push({ name: 'INT', levels: pin(H.LEVELS_INTERRUPT), kind: 'flag' });
+        if (records.some(r => r.ss !== undefined)) lanes.push(lane('SS', given('ss'), { early: i => !records[i].ssDriven }));
+        lanes.push(lane('INT', pin(H.LEVELS_INTERRUPT), { kind: 'flag' }));
         return { columns: records.map(column), lanes, notes: words.notes };
     }
 
-    return { play, output, diagram, linesOf, toBytes };
+    return { play, part, output, diagram, toBytes };
 })();
