@@ -89,11 +89,8 @@ const Library = (() => {
         edgesOwed() { return this.calls.thurafeqa_edges_owed(this.at); }
         linked(client, limit) { return answered(this.calls.thurafeqa_linked(this.at, client.at, limit)); }
 
-        // word(ss, word): how many levels were told, and whether there was an edge at all
-        word(ss, word) {
-            const answer = this.calls.thurafeqa_word(this.at, ss, word) >>> 0;
-            return { refusal: answer >>> 16 & 0xff, count: answer >>> 24 & 31, noEdge: answer >>> 29 & 1 };
-        }
+        // word(ss, word): a word at a time; how many levels of SDO were told
+        word(ss, word) { return this.calls.thurafeqa_word(this.at, ss, word) >>> 24 & 31; }
     }
 
     // Card: one audio card, with the calls of include/thurafeqa_card.h under their short names

@@ -95,35 +95,41 @@ const Look = (() => {
             return words;
         }
 
-        // shift(module, ss, w): the word in the shift register, the bits that are still to come, and those that have come in:
-        // the module is sent on, with SDI low, until its word is whole
-        function shift(module, ss, w) {
-            const next = module.next();
-            take(calm(module));
-            let left = 0, came = null;
-            for (let i = 0; i < most && came === null; i++) {
-                const told = module.word(ss, 0);
-                if (told.refusal || told.noEdge) break;
-                left += told.count;
-                const words = take(module).words;
-                if (words.length) came = words[0];
-                else if (overflowed(module)) came = 0;
-            }
-            left = Math.min(left, w);
-            return { word: next & H.NEXT_WORD ? next & 0xffff : null, left: came === null ? w : left, came: came === null ? 0 : came };
+        // left(memory, ss, w): how many bits of the word under way are still to come, and what comes in if they are 0, null if that
+        // cannot be told: the word is lost, or there is none
+        function left(memory, ss, w) {
+            take(calm(copy(memory)));
+            const count = trial.word(ss, 0), words = take(trial).words;
+            if (!words.length && !overflowed(trial)) return { left: w, came: null };
+            return { left: count, came: words.length ? words[0] : null };
         }
 
-        // all(memory): the registers, the flag, the words unread and to be sent, and the shift register
+        // leftFramed(memory, ss, w): the same of a framed module, which is sent on edge by edge
+        function leftFramed(memory, ss, w) {
+            const move = (module, sdi) => module.word(ss, sdi);
+            let now = memory, bits = 0;
+            for (let i = 0; i < most; i++) {
+                const seen = step(now, move, 0);
+                if (seen.samples || (seen.finished && seen.word === null)) bits++;
+                if (seen.finished) return { left: bits, came: seen.word };
+                move(copy(now), 0);
+                now = trial.memory;
+            }
+            return { left: w, came: null };
+        }
+
+        // all(memory): the registers, the levels, the words unread and to be sent, and of the shift register the word that goes out, the
+        // bits that are left of it, and what has come in
         function all(memory) {
             const module = copy(memory);
             const stat = module.read(H.STAT).value, con1 = module.read(H.CON1).value, con2 = module.read(H.CON2).value;
             const ss = active(con2), w = width(con1), levels = module.levels();
-            const unread = take(copy(memory));
-            const waiting = sends(copy(memory), ss);
+            const next = module.next(), unread = take(copy(memory)), waiting = sends(copy(memory), ss);
             return {
                 stat, con1, con2, levels, width: w, enabled: (stat & H.STAT_SPIEN) !== 0,
                 unread: unread.words, unreadable: unread.refusal === H.OVERFLOWED,
-                waiting, edgesOwed: copy(memory).edgesOwed(), shift: shift(copy(memory), ss, w),
+                waiting, edgesOwed: copy(memory).edgesOwed(), next: next & H.NEXT_WORD ? next & 0xffff : null,
+                ...(con2 & H.CON2_FRMEN ? leftFramed : left)(memory, ss, w),
             };
         }
 

@@ -61,11 +61,16 @@
             onChoose: column => { stop(); choose(column < 0 && from > 0 ? from - 1 : from + column); },
         });
 
-        // inspect(line): the module after that line, -1 being power-up
+        // inWords(line): that line and its answer, -1 being power-up
+        function inWords(line) {
+            const r = records[line];
+            return r ? `After line ${r.number}: ${r.line} → ${r.answer}${r.refusal ? `, ${Header.refusals[r.refusal]}` : ''}` : 'At power-up';
+        }
+
+        // inspect(line): the module after that line
         function inspect(line) {
             const r = records[line];
-            const heading = r ? `After line ${r.number}: ${r.line} → ${r.answer}${r.refusal ? `, ${Header.refusals[r.refusal]}` : ''}` : 'At power-up';
-            by('inspector').innerHTML = Inspector.module(look.all(r ? r.memory : powered), heading);
+            by('inspector').innerHTML = Inspector.module(look.all(r ? r.memory : powered), inWords(line));
         }
 
         // choose(line): the script is played up to that line
@@ -75,6 +80,7 @@
             view.choose(chosen - from);
             mark();
             inspect(chosen);
+            say(by('told'), inWords(chosen));
         }
 
         // mark(): the answers so far, the later ones dimmed, and the bar behind the chosen line

@@ -108,12 +108,12 @@ const Inspector = (() => {
     const bits = (word, known, width) => Array.from({ length: width }, (_, i) =>
         `<span class="bit${known(i) ? '' : ' open'}">${known(i) ? word >> (width - 1 - i) & 1 : '·'}</span>`).join('');
 
-    // shift(look): the shift register: what goes out, with what is gone dimmed, and what has come in
+    // shift(look): the shift register: of the word that goes out the bits that are still to come, and of the other those that have come in
     function shift(look) {
-        const w = look.width, gone = w - look.shift.left;
+        const w = look.width, gone = w - look.left;
         if (!look.enabled) return '<i>disabled</i>';
-        const out = look.shift.word === null ? '<i>no word</i>' : `<span class="bits">${bits(look.shift.word, i => i >= gone, w)}</span>`;
-        return `out ${out} <span class="nowrap">in <span class="bits">${bits(look.shift.came, i => i < gone, w)}</span></span>`;
+        const out = look.next === null ? '<i>no word</i>' : `<span class="bits">${bits(look.next, i => i >= gone, w)}</span>`;
+        return `<span class="way">out ${out}</span><span class="way">in <span class="bits">${bits(look.came, i => look.came !== null && i < gone, w)}</span></span>`;
     }
 
     // module(look, heading): all of it
@@ -121,8 +121,9 @@ const Inspector = (() => {
         const digits = look.width / 4;
         const value = { STAT: look.stat, CON1: look.con1, CON2: look.con2 };
         const rows = registers.map(r => `<dt>${r} <b>${Look.hex(value[r], 4)}</b></dt><dd>${chips(r, value[r])}</dd>`).join('');
+        const owed = look.edgesOwed ? `<i>${look.edgesOwed} edges</i>` : '';
         const unread = look.unreadable ? '<i>words were lost, so none can be read (16)</i>' : words(look.unread, digits, 'none');
-        return `<h3>${escape(heading)}</h3><dl>${rows}<dt>To send</dt><dd>${words(look.waiting, digits, 'none')}</dd>` +
+        return `<h3>${escape(heading)}</h3><dl>${rows}<dt>To send</dt><dd>${words(look.waiting, digits, 'none')}${owed}</dd>` +
             `<dt>Unread</dt><dd>${unread}</dd><dt>Shift register</dt><dd>${shift(look)}</dd>` +
             `<dt>INT</dt><dd>${look.levels & Header.numbers.LEVELS_INTERRUPT ? '1' : '0'}</dd></dl>`;
     }

@@ -175,9 +175,13 @@ function steps(page) {
 function looks(page) {
     const dd = n => page.document.querySelectorAll('#inspector dd')[n].textContent;
     type(page, 'W 1 0020\nW 2 0001\nW 0 8000\nW 3 00C3\nW 3 005A\nW 3 0011\nT 1\nT 1\nT 0\nT 0\nT 1\nT 1\n');
-    check('words to be sent are listed', differs(dd(3), 'C35A11'));
+    check('words to be sent are listed, with the edges owed', differs(dd(3), 'C35A1142 edges'));
     check('nothing is unread', differs(dd(4), 'none'));
-    check('the shift register has what is to go out and what has come in', differs(dd(5), 'out ···00011 in 101·····'));
+    check('the shift register has what is to go out and what has come in', differs(dd(5), 'out ···00011in 101·····'));
+    choose(page, 'framed.txt');
+    click(page, 'start');
+    for (let i = 0; i < 18; i++) click(page, 'step');
+    check('so it has in a framed module', differs(dd(5), 'out ····0011in 0011····'));
 }
 
 // traces(page): opened, saved and salvaged
