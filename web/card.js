@@ -65,7 +65,8 @@ const Cards = (() => {
         records.forEach((r, i) => {
             if (r.seen.samples) samples.push(i);
             if (!r.seen.finished) return;
-            words.push({ first: samples[0], last: samples[samples.length - 1], text: `${words.length % 2 ? 'right' : 'left'} ${Look.hex(r.seen.word, bits / 4)}` });
+            const text = `${words.length % 2 ? 'right' : 'left'} ${Look.hex(r.seen.word, bits / 4)}`;
+            words.push({ first: samples[0], last: samples[samples.length - 1], text });
             samples = [];
         });
         const sampled = records.flatMap((r, i) => (r.seen.samples ? [i] : []));
@@ -84,7 +85,8 @@ const Cards = (() => {
     function told(look) {
         const flag = mask => (look & mask ? 1 : 0);
         return `waiting ${look >>> 8 & 15}, unread ${unread(look)}, underrun ${flag(H.CARD_UNDERRUN)}, overflow ${flag(H.CARD_OVERFLOW)}, ` +
-            `SCK ${flag(H.CARD_SCK)}, LRCK ${flag(H.CARD_LRCK)}, SDO ${flag(H.CARD_SDO)}, the ${look & H.CARD_RIGHT ? 'right' : 'left'} channel takes a sample next`;
+            `SCK ${flag(H.CARD_SCK)}, LRCK ${flag(H.CARD_LRCK)}, SDO ${flag(H.CARD_SDO)}, ` +
+            `the ${look & H.CARD_RIGHT ? 'right' : 'left'} channel takes a sample next`;
     }
 
     return { protocols, run, diagram, told };

@@ -6,8 +6,9 @@
 //            axis is the number below; a call has lines of label above and an arrow, 'in' or 'out'; a refused one has the text
 //            of its refusal below.
 //   lanes    from top to bottom: { name, before, levels, kind, early, edges, samples, words }. levels has one for each column: 0, 1 or
-//            'z', undriven; before is the one before them. early(i) says that the level of column i stands before its edge. edges and samples are columns to mark, on
-//            the edge of this lane and on its level. A word is { first, last, text, kind }, over the columns that sample its bits.
+//            'z', undriven; before is the one before them. early(i) says that the level of column i stands before its edge. edges
+//            and samples are columns to mark, on the edge of this lane and on its level. A word is { first, last, text, kind }, over
+//            the columns that sample its first and its last bit.
 //   notes    { column, text, kind }: a word or two below a column
 //
 // Every label's place is arithmetic: letters have one width, a column is as wide as its labels, and what does not fit is left out.
@@ -33,6 +34,7 @@ const Draw = (() => {
         paper: '#16191d', desk: '#0f1114', ink: '#e7e9ea', muted: '#98a1a8', line: '#31373d', band: '#1d232b', redband: '#2e1c1c',
         wave: '#dfe3e6', call: '#8fb7f5', refused: '#ff8f85', sample: '#52c7ba', flag: '#eab260',
     };
+
     // colours(selector): both sets as CSS variables of that selector
     const colours = selector => {
         const set = list => Object.entries(list).map(([name, value]) => `--${name}:${value}`).join(';');
@@ -94,8 +96,7 @@ const Draw = (() => {
     function layout(diagram, step) {
         const columns = across(diagram.columns, step);
         const heads = Math.max(0, ...columns.map(c => (c.label ? c.label.length : 0)));
-        const top = heads ? heads * row + 22 : 8;
-        let y = top;
+        let y = heads ? heads * row + 22 : 8;
         const lanes = diagram.lanes.map(lane => {
             if (lane.words && lane.words.length) y += over;
             const placed = { ...lane, high: y, low: y + wave, mid: y + wave / 2 };
@@ -109,7 +110,7 @@ const Draw = (() => {
         const why = below + notes.rows * row;
         const whys = Math.max(0, ...columns.map(c => c.why.length));
         const axis = why + whys * line + (whys ? 4 : 0);
-        return { columns, lanes, notes: notes.placed, step, heads, top, below, why, axis, width, height: axis + 18 };
+        return { columns, lanes, notes: notes.placed, step, heads, below, why, axis, width, height: axis + 18 };
     }
 
     // noted(notes, columns, width): each note in the first row in which it meets no other, and how many rows there are
@@ -129,12 +130,13 @@ const Draw = (() => {
     // ---- parts
 
     const path = (kind, d) => (d ? `<path class="${kind}" d="${d}"/>` : '');
-    const text = (kind, x, y, words, anchor = 'middle') =>
-        `<text${kind ? ` class="${kind}"` : ''} x="${round(x)}" y="${round(y)}"${anchor === 'start' ? '' : ` text-anchor="${anchor}"`}>${escape(words)}</text>`;
+    const text = (kind, x, y, words, anchor = ' text-anchor="middle"') =>
+        `<text${kind ? ` class="${kind}"` : ''} x="${round(x)}" y="${round(y)}"${anchor}>${escape(words)}</text>`;
 
     // bands(l): calls stand apart from the clock
     const bands = l => l.columns.filter(c => c.kind !== 'step').map(c =>
-        `<rect class="${c.kind === 'refused' ? 'redband' : 'band'}" x="${round(c.x + 1)}" y="2" width="${round(c.width - 2)}" height="${round(l.axis - 2)}" rx="3"/>`).join('');
+        `<rect class="${c.kind === 'refused' ? 'redband' : 'band'}" x="${round(c.x + 1)}" y="2" width="${round(c.width - 2)}" ` +
+        `height="${round(l.axis - 2)}" rx="3"/>`).join('');
 
     // heads(l): what each call is, and which way its value goes
     function heads(l) {
@@ -195,7 +197,7 @@ const Draw = (() => {
             }
             for (const i of lane.samples || []) {
                 const r = l.step >= 8 ? 2.6 : 1.8;
-                const level = lane.early ? lane.levels[i] : lane.levels[Math.max(0, i - 1)];
+                const level = lane.early ? lane.levels[i] : i ? lane.levels[i - 1] : lane.before;
                 const y = level === 1 ? lane.high : level === 0 ? lane.low : lane.mid;
                 dots += `M${round(l.columns[i].at - r)} ${y}l${r}-${r} ${r} ${r}-${r} ${r}z`;
             }
@@ -214,7 +216,8 @@ const Draw = (() => {
             const from = l.columns[word.first].at - l.step + 1, to = l.columns[word.last].at + l.step - 1;
             const half = word.text.length * glyph / 2 + 3, mid = (from + to) / 2;
             const fits = word.text && to - from > 2 * half + 6;
-            const d = `M${round(from)} ${y - 3}v6m0-3H` + (fits ? `${round(mid - half)}M${round(mid + half)} ${y}H` : '') + `${round(to)}m0-3v6`;
+            const open = fits ? `${round(mid - half)}M${round(mid + half)} ${y}H` : '';
+            const d = `M${round(from)} ${y - 3}v6m0-3H${open}${round(to)}m0-3v6`;
             if (word.kind === 'cut') cut += d;
             else whole += d;
             return fits ? text(word.kind || '', mid, y + 4, word.text) : '';
@@ -256,15 +259,16 @@ const Draw = (() => {
     // names(diagram, l): the lanes' names, for the left side, and how wide they are
     function names(diagram, l) {
         const width = longest(diagram.lanes.map(lane => lane.name)) * glyph + 18;
-        return { width, body: l.lanes.map(lane => text('', 10, lane.mid + 4, lane.name, 'start')).join('') };
+        return { width, body: l.lanes.map(lane => text('', 10, lane.mid + 4, lane.name, '')).join('') };
     }
 
     // body(l): all of it but the names
     const body = l => bands(l) + l.lanes.map(lane => spans(lane, l)).join('') + marks(l) + l.lanes.map(lane => waves(lane, l)).join('') +
         heads(l) + notes(l) + whys(l) + axis(l);
 
-    const opened = (width, height, title, more = '') =>
-        `<svg xmlns="http://www.w3.org/2000/svg" class="td" width="${round(width)}" height="${round(height)}" viewBox="0 0 ${round(width)} ${round(height)}"${more} role="img" aria-label="${escape(title)}">`;
+    const opened = (width, height, title) =>
+        `<svg xmlns="http://www.w3.org/2000/svg" class="td" width="${round(width)}" height="${round(height)}" ` +
+        `viewBox="0 0 ${round(width)} ${round(height)}" role="img" aria-label="${escape(title)}">`;
 
     // view(diagram, step, title): the names and the waves apart, so that the waves can scroll, with the layout
     function view(diagram, step, title) {

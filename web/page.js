@@ -58,7 +58,8 @@
 
         const view = new View(by('view'), 'Timing diagram', {
             onPoint: column => inspect(column < 0 ? chosen : from + column),
-            onChoose: column => { stop(); choose(column < 0 && from > 0 ? from - 1 : from + column); },
+            onChoose: column => { stop(); choose(from + column); },
+            onStep: by => { stop(); choose(chosen + by); },
         });
 
         // inWords(line): that line and its answer, -1 being power-up
@@ -86,12 +87,14 @@
         // mark(): the answers so far, the later ones dimmed, and the bar behind the chosen line
         function mark() {
             const row = r => (r.refusal ? `<span class="no">${r.number} ${r.answer}</span>\n` : `${r.number} ${r.answer}\n`);
-            const now = records.slice(0, chosen + 1).map(row).join(''), later = records.slice(chosen + 1).map(r => `${r.number} ${r.answer}\n`).join('');
+            const now = records.slice(0, chosen + 1).map(row).join('');
+            const later = records.slice(chosen + 1).map(r => `${r.number} ${r.answer}\n`).join('');
             answers.innerHTML = now + (later ? `<span class="later">${later}</span>` : '');
             const bar = by('current'), top = 8 + 20 * chosen;
             bar.style.display = chosen < 0 ? 'none' : 'block';
             bar.style.top = `${top}px`;
-            if (chosen >= 0 && (top < editor.scrollTop || top + 28 > editor.scrollTop + editor.clientHeight)) editor.scrollTop = top - editor.clientHeight / 2;
+            const hidden = top < editor.scrollTop || top + 28 > editor.scrollTop + editor.clientHeight;
+            if (chosen >= 0 && hidden) editor.scrollTop = top - editor.clientHeight / 2;
         }
 
         // draw(): draws the lines around the chosen one
@@ -238,7 +241,10 @@
         const modules = { host: new Library.Module(library), client: new Library.Module(library) };
         let records = [];
 
-        const view = new View(by('pair-view'), 'Two modules on one wire', { onPoint: column => inspect(column < 0 ? view.chosen : column), onChoose: choose });
+        const view = new View(by('pair-view'), 'Two modules on one wire', {
+            onPoint: column => inspect(column < 0 ? view.chosen : column),
+            onChoose: choose,
+        });
 
         function choose(column) {
             view.choose(column);
@@ -248,15 +254,18 @@
         // inspect(column): both modules after that column
         function inspect(column) {
             const r = records[Math.max(0, column)];
-            if (r) by('pair-inspector').innerHTML = ['host', 'client'].map(role => `<div>${Inspector.module(look.all(r.memory[role]), role)}</div>`).join('');
+            const part = role => `<div>${Inspector.module(look.all(r.memory[role]), role)}</div>`;
+            if (r) by('pair-inspector').innerHTML = part('host') + part('client');
         }
 
         // play(): runs the pair anew
         function play() {
             const f = form.elements, bits = +f.bits.value;
             const words = { host: hexWords(f.hostWords.value, bits), client: hexWords(f.clientWords.value, bits) };
-            if (!words.host || !words.client) return say(said, `Words are hexadecimal numbers of at most ${bits / 4} digits, such as ${bits === 8 ? 'A5' : '00A5'}.`, true);
-            const options = { wire: f.wire.value, hostMode: +f.hostMode.value, clientMode: +f.clientMode.value, bits, enhanced: f.enhanced.checked, words, modules };
+            if (!words.host || !words.client) return say(said, `Words are hexadecimal numbers of at most ${bits / 4} digits, as in A5 C3.`, true);
+            const options = {
+                wire: f.wire.value, hostMode: +f.hostMode.value, clientMode: +f.clientMode.value, bits, enhanced: f.enhanced.checked, words, modules,
+            };
             records = Pair.run(look, options);
             view.show(Pair.diagram(records, options));
             say(said, Pair.told(records));
@@ -299,7 +308,8 @@
         function play() {
             const f = form.elements, [bits, frame] = f.shape.value.split(' ').map(Number);
             const samples = [f.left.value, f.right.value].map(text => hexWords(text, bits));
-            if (samples.some(s => !s || s.length !== 1)) return say(said, `A sample is a hexadecimal number of at most ${bits / 4} digits.`, true);
+            if (samples.some(s => !s || s.length !== 1))
+                return say(said, `A sample is a hexadecimal number of at most ${bits / 4} digits.`, true);
             say(said, '');
             Cards.protocols.forEach((protocol, i) => {
                 const options = { protocol: protocol.number, bits, frame, left: samples[0][0], right: samples[1][0] };

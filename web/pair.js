@@ -130,7 +130,9 @@ const Pair = (() => {
             if (!seen.finished) return;
             const sent = seen.sent === null ? 'filler' : Look.hex(seen.sent, bits / 4);
             const lost = r.seen[peer].lost;
-            words.push({ first: samples[0], last: samples[samples.length - 1], text: lost ? `${sent} lost` : sent, kind: lost ? 'refused' : '' });
+            words.push({
+                first: samples[0], last: samples[samples.length - 1], text: lost ? `${sent} lost` : sent, kind: lost ? 'refused' : '',
+            });
             samples = [];
         });
         return words;

@@ -64,9 +64,10 @@ const Trace = (() => {
         const answer = files.play(module, bytes);
         if (answer.refusal) return { refusal: answer.refusal, text: `E ${answer.refusal}: ${Header.refusals[answer.refusal]}` };
         const register = name => `${name} ${Look.hex(module.read(H[name]).value, 4)}`;
+        const interrupt = `interrupt ${module.levels() & H.LEVELS_INTERRUPT ? 1 : 0}`;
         return {
             refusal: 0,
-            text: [`OK ${answer.value}`, register('STAT'), register('CON1'), register('CON2'), `interrupt ${module.levels() & H.LEVELS_INTERRUPT ? 1 : 0}`].join(', '),
+            text: [`OK ${answer.value}`, register('STAT'), register('CON1'), register('CON2'), interrupt].join(', '),
         };
     }
 

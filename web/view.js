@@ -2,14 +2,14 @@
 // ahead of it is dimmed.
 'use strict';
 
-// View: shows diagrams in an element. onPoint(column) is told of the column under the pointer, -1 if there is none, and
-// onChoose(column) of a column that was clicked or reached by the keyboard.
+// View: shows diagrams in an element. onPoint(column) is told of the column under the pointer, -1 if there is none, onChoose(column) of a
+// column that was clicked or reached by the keyboard, and onStep(by), if there is one, of as many columns to go on or back.
 class View {
-    constructor(element, title, { onPoint = () => {}, onChoose = () => {} } = {}) {
+    constructor(element, title, { onPoint, onChoose, onStep }) {
         this.title = title;
         this.step = 18;
         this.chosen = -1;
-        this.onChoose = onChoose;
+        this.onStep = onStep || (by => onChoose(Math.min(this.layout.columns.length - 1, Math.max(-1, this.chosen + by))));
         element.classList.add('view');
         element.innerHTML = '<div class="names"></div><div class="waves" tabindex="0" role="group"><div class="sheet">' +
             '<div class="drawn"></div><div class="ahead"></div><div class="pointed"></div><div class="chosen"></div></div></div>';
@@ -76,11 +76,11 @@ class View {
     }
 
     key(event) {
-        const last = this.diagram ? this.diagram.columns.length - 1 : -1;
-        const to = { ArrowLeft: this.chosen - 1, ArrowUp: this.chosen - 1, ArrowRight: this.chosen + 1, ArrowDown: this.chosen + 1, Home: -1, End: last }[event.key];
+        if (event.altKey || event.ctrlKey || event.metaKey) return;
+        const by = { ArrowLeft: -1, ArrowUp: -1, ArrowRight: 1, ArrowDown: 1, Home: -Infinity, End: Infinity }[event.key];
         if (event.key === '+' || event.key === '=') this.zoom(1.25);
         else if (event.key === '-') this.zoom(0.8);
-        else if (to !== undefined && !event.altKey && !event.ctrlKey && !event.metaKey) this.onChoose(Math.min(last, Math.max(-1, to)));
+        else if (by !== undefined) this.onStep(by);
         else return;
         event.preventDefault();
     }
@@ -94,7 +94,9 @@ const Inspector = (() => {
     // fields(register): its named fields, from the highest bit on: name, mask and lowest bit
     const fields = register => Object.entries(Header.numbers)
         .filter(([name]) => name.startsWith(`${register}_`) && !name.endsWith('_SHIFT'))
-        .map(([name, mask]) => ({ name: name.slice(register.length + 1), mask, low: Math.log2(mask & -mask), bits: mask.toString(2).replace(/0/g, '').length }));
+        .map(([name, mask]) => ({
+            name: name.slice(register.length + 1), mask, low: Math.log2(mask & -mask), bits: mask.toString(2).replace(/0/g, '').length,
+        }));
 
     // chips(register, value): each field with its bits
     const chips = (register, value) => fields(register).map(f => {
@@ -102,7 +104,8 @@ const Inspector = (() => {
         return `<span class="chip${value & f.mask ? ' on' : ''}">${f.name} <b>${bits}</b></span>`;
     }).join('');
 
-    const words = (list, digits, none) => list.length ? list.map(w => `<span class="word">${Look.hex(w, digits)}</span>`).join('') : `<i>${none}</i>`;
+    const words = (list, digits, none) =>
+        (list.length ? list.map(w => `<span class="word">${Look.hex(w, digits)}</span>`).join('') : `<i>${none}</i>`);
 
     // bits(word, known, width): the bits of a word, the highest first, as cells; one that is not known is open
     const bits = (word, known, width) => Array.from({ length: width }, (_, i) =>
@@ -113,7 +116,8 @@ const Inspector = (() => {
         const w = look.width, gone = w - look.left;
         if (!look.enabled) return '<i>disabled</i>';
         const out = look.next === null ? '<i>no word</i>' : `<span class="bits">${bits(look.next, i => i >= gone, w)}</span>`;
-        return `<span class="way">out ${out}</span><span class="way">in <span class="bits">${bits(look.came, i => look.came !== null && i < gone, w)}</span></span>`;
+        const came = `<span class="bits">${bits(look.came, i => look.came !== null && i < gone, w)}</span>`;
+        return `<span class="way">out ${out}</span><span class="way">in ${came}</span>`;
     }
 
     // module(look, heading): all of it

@@ -56,10 +56,11 @@ function labels(page) {
         const box = svg.getBoundingClientRect();
         for (const text of svg.querySelectorAll('text')) {
             const b = text.getBoundingClientRect();
-            if (b.left < box.left - 1 || b.right > box.right + 1 || b.top < box.top - 1 || b.bottom > box.bottom + 1) return `'${text.textContent}' leaves the drawing`;
+            const inside = b.left >= box.left - 1 && b.right <= box.right + 1 && b.top >= box.top - 1 && b.bottom <= box.bottom + 1;
+            if (!inside) return `'${text.textContent}' leaves the drawing`;
         }
     }
-    const rest = [...document.querySelectorAll('h1,h2,h3,header p,.said,button,select,input,dt,.chip,.word,.bits,.view')].filter(e => shown(e) && e.tagName !== 'OPTION');
+    const rest = [...document.querySelectorAll('h1,h2,h3,header p,.said,.legend,button,select,input,dt,.chip,.word,.bits,.view')].filter(shown);
     const wide = document.documentElement.scrollWidth;
     return overlap(rest) || (wide > page.width ? `the page is ${wide} pixels wide` : '');
 }
@@ -115,9 +116,16 @@ function odd(page) {
     check('lines that nearly can be read are refused as ./run refuses them', differs(answers(page), decoded(Given.oddOutput)));
     check('no two labels meet there', labels(page));
     type(page, `W 1 0020\nW 0 8000\n${'T 1\n'.repeat(3000)}R 0\n`);
-    const heading = page.document.querySelector('#inspector h3').textContent;
-    check('a script of 3,003 lines is played', differs(heading, 'After line 3003: R 0 → 8000'));
-    check('it is drawn around the chosen line', differs(page.document.querySelectorAll('#view text.call').length > 0 && texts(page, '#view text.small').includes('3003'), true));
+    const heading = () => page.document.querySelector('#inspector h3').textContent;
+    const waves = page.document.querySelector('#view .waves');
+    const press = key => waves.dispatchEvent(new page.window.KeyboardEvent('keydown', { key, bubbles: true }));
+    check('a script of 3,003 lines is played', differs(heading(), 'After line 3003: R 0 → 8000'));
+    check('it is drawn around the chosen line', texts(page, '#view text.small').includes('3003') ? '' : 'there is no line 3003');
+    press('Home');
+    for (let i = 0; i < 650; i++) press('ArrowRight');
+    check('keys go beyond what is drawn', differs(heading(), 'After line 650: T 1 → N'));
+    press('End');
+    check('and to the end', differs(heading(), 'After line 3003: R 0 → 8000'));
 }
 
 // words(page): what stands over the bits of SDO and SDI
@@ -128,7 +136,8 @@ function words(page) {
     };
     for (const [name, list] of Object.entries(wanted)) {
         choose(page, name);
-        const seen = texts(page, '#view text:not([class]), #view text.refused').filter(t => /^([0-9A-F]{2}|filler|([0-9A-F]{2} )?lost)$/.test(t)).join(' ');
+        const over = texts(page, '#view text:not([class]), #view text.refused');
+        const seen = over.filter(t => /^([0-9A-F]{2}|filler|([0-9A-F]{2} )?lost)$/.test(t)).join(' ');
         check(`${name}: words stand over their bits`, differs(seen, list));
     }
 }
@@ -202,7 +211,8 @@ async function traces(page) {
     // opens(button, bytes): as if the reader had chosen a file
     async function opens(button, bytes) {
         click(page, button);
-        Object.defineProperty(input, 'files', { configurable: true, value: [{ name: 'some.trace', slice: () => ({ arrayBuffer: async () => bytes.slice().buffer }) }] });
+        const file = { name: 'some.trace', slice: () => ({ arrayBuffer: async () => bytes.slice().buffer }) };
+        Object.defineProperty(input, 'files', { configurable: true, value: [file] });
         input.onchange();
         await later();
     }
@@ -210,9 +220,11 @@ async function traces(page) {
     check('a script with CR and LF is opened, and that is said', differs(answers(page), '1 OK\n2 0020\n') || (/CR and LF/.test(said()) ? '' : said()));
     const cut = Uint8Array.from(atob(Given.cut), c => c.charCodeAt(0));
     await opens('open', cut);
-    check('a cut trace is refused', differs(said(), "some.trace: E 17: the trace's table of contents or length is wrong. If it was cut, it may be salvaged."));
+    check('a cut trace is refused',
+        differs(said(), "some.trace: E 17: the trace's table of contents or length is wrong. If it was cut, it may be salvaged."));
     await opens('salvage', cut);
-    check('a cut trace is salvaged', differs(said(), 'some.trace: sections cut 1, bytes lost 4. some.trace: OK 27, STAT 8020, CON1 0020, CON2 0001, interrupt 0.'));
+    check('a cut trace is salvaged',
+        differs(said(), 'some.trace: sections cut 1, bytes lost 4. some.trace: OK 27, STAT 8020, CON1 0020, CON2 0001, interrupt 0.'));
     check('the salvaged trace is handed out', differs(packed(blobs.pop()), Given.salvaged));
 }
 
@@ -280,7 +292,8 @@ async function all() {
     odd(pages[2]);
     await traces(pages[2]);
     const sorry = without.document.getElementById('sorry');
-    check('a browser without wasm64 gets a sentence', !shown(sorry) || shown(without.document.getElementById('main')) || !/WebAssembly/.test(sorry.textContent) ? 'there is none' : '');
+    const told = shown(sorry) && !shown(without.document.getElementById('main')) && /WebAssembly/.test(sorry.textContent);
+    check('a browser without wasm64 gets a sentence', told ? '' : 'there is none');
 }
 
 all().catch(error => check('the checks end', error.stack || error)).then(() => {
