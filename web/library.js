@@ -39,6 +39,12 @@ const Library = (() => {
         return { calls, take, view };
     }
 
+    // version(library): what the library says of itself
+    function version({ calls }) {
+        const number = calls.thurafeqa_version();
+        return [number >> 16, number >> 8 & 255, number & 255].join('.');
+    }
+
     // grow(memory, pages): gives the memory more pages, and tells its size; an older engine takes a plain number
     function grow(memory, pages) {
         try {
@@ -152,5 +158,5 @@ const Library = (() => {
         }
     }
 
-    return { knows64, fromBase64, load, Module, Card, Files, longest };
+    return { knows64, fromBase64, load, version, Module, Card, Files, longest };
 })();

@@ -9,11 +9,11 @@
 
     // the page says at first that this browser cannot run it; only one that can takes that back
     if (!Library.knows64()) return;
+    const library = Library.load(Library.fromBase64(Shipped.wasm));
     by('sorry').hidden = true;
     by('main').hidden = false;
+    by('version').textContent = `, version ${Library.version(library)}`;
 
-    const H = Header.numbers;
-    const library = Library.load(Library.fromBase64(Shipped.wasm));
     const look = Look.create(library), files = new Library.Files(library);
 
     // say(element, text, wrong): a line for the reader
@@ -225,7 +225,6 @@
         by('wider').addEventListener('click', () => view.zoom(1.25));
 
         open('receipt.txt', shipped('receipt.txt'));
-        return { open, salvage };
     }
 
     // ---- a linked pair
