@@ -84,12 +84,9 @@
             say(by('told'), inWords(chosen));
         }
 
-        // mark(): the answers so far, the later ones dimmed, and the bar behind the chosen line
+        // mark(): a bar lies behind the chosen line, and the answers behind it are dimmed
         function mark() {
-            const row = r => (r.refusal ? `<span class="no">${r.number} ${r.answer}</span>\n` : `${r.number} ${r.answer}\n`);
-            const now = records.slice(0, chosen + 1).map(row).join('');
-            const later = records.slice(chosen + 1).map(r => `${r.number} ${r.answer}\n`).join('');
-            answers.innerHTML = now + (later ? `<span class="later">${later}</span>` : '');
+            by('later').style.top = `${20 * (chosen + 1)}px`;
             const bar = by('current'), top = 8 + 20 * chosen;
             bar.style.display = chosen < 0 ? 'none' : 'block';
             bar.style.top = `${top}px`;
@@ -106,6 +103,7 @@
         // play(): plays the text anew, to its end
         function play() {
             records = Script.play(module, look, text.value);
+            answers.innerHTML = records.map(r => (r.refusal ? `<span class="no">${r.number} ${r.answer}</span>\n` : `${r.number} ${r.answer}\n`)).join('');
             text.style.height = `${20 * (text.value.split('\n').length + 1)}px`;
             chosen = records.length - 1;
             draw();
@@ -203,7 +201,7 @@
         text.addEventListener('input', () => {
             stop();
             clearTimeout(waiting);
-            if (records.length < 2000) play();
+            if (text.value.split('\n').length <= 5001) play();
             else waiting = setTimeout(play, 400);
         });
         const caret = () => {

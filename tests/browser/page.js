@@ -1,5 +1,5 @@
 // Uses the page as a reader would, in frames of three widths, and writes a line for each check into the document: 'ok: WHAT' or
-// 'FAILED: WHAT: WHY'. tests/page hands it `Given`: the page, and for each script what ./run prints of it.
+// 'FAILED: WHAT: WHY'. tests/page hands it `Given`: the page, what ./run prints of each script, and the header's texts of refusals.
 'use strict';
 
 const lines = [];
@@ -83,8 +83,7 @@ function refused(page, output) {
     const heads = texts(page, '#view text.refused').filter(t => /^E /.test(t)).map(t => t.slice(2));
     if (heads.join() !== numbers.join()) return differs(heads.join(), numbers.join());
     const said = texts(page, '#view text.why').join(' ');
-    const header = new page.window.Function('return Header')();
-    return numbers.map(n => header.refusals[n]).find(text => !said.includes(text)) || '';
+    return numbers.map(n => Given.refusals[n]).find(text => !said.includes(text)) || '';
 }
 
 // scripts(page): each shipped script
@@ -110,8 +109,12 @@ function type(page, script) {
     text.dispatchEvent(new page.window.Event('input'));
 }
 
-// odd(page): lines that nearly can be read, and a script of many lines
+// odd(page): random lines, lines that nearly can be read, and a script of many lines
 function odd(page) {
+    type(page, decoded(Given.random));
+    const output = decoded(Given.randomOutput);
+    check(`${output.split('\n').length - 1} random lines are as ./run prints them`, differs(answers(page), output));
+    check('no two labels meet in what is drawn of them', labels(page));
     type(page, decoded(Given.odd));
     check('lines that nearly can be read are refused as ./run refuses them', differs(answers(page), decoded(Given.oddOutput)));
     check('no two labels meet there', labels(page));
