@@ -139,7 +139,7 @@
 
         // open(name, bytes): a script, or a trace, which is played and written out as one
         function open(name, bytes) {
-            if (!Trace.isTrace(bytes)) {
+            if (!name.endsWith('.trace') && !Trace.isTrace(bytes)) {
                 put(new TextDecoder('utf-8', { ignoreBOM: true }).decode(bytes));
                 const returns = bytes.includes(13) ? 'Its lines end in CR and LF. The CRs are left out here; ./run refuses such lines with 9.' : '';
                 return say(said, bytes.length > Library.longest ? 'It is longer than 65,535 bytes, and what comes after them is not played.' : returns);

@@ -118,6 +118,8 @@ function odd(page) {
     type(page, decoded(Given.odd));
     check('lines that nearly can be read are refused as ./run refuses them', differs(answers(page), decoded(Given.oddOutput)));
     check('no two labels meet there', labels(page));
+    type(page, '');
+    check('a script without a line is power-up', differs(page.document.querySelector('#inspector h3').textContent + answers(page), 'At power-up'));
     type(page, `W 1 0020\nW 0 8000\n${'T 1\n'.repeat(3000)}R 0\n`);
     const heading = () => page.document.querySelector('#inspector h3').textContent;
     const waves = page.document.querySelector('#view .waves');
@@ -211,21 +213,21 @@ async function traces(page) {
 
     const input = page.document.getElementById('file');
     input.click = () => {};
-    // opens(button, bytes): as if the reader had chosen a file
-    async function opens(button, bytes) {
+    // opens(button, name, bytes): as if the reader had chosen a file
+    async function opens(button, name, bytes) {
         click(page, button);
-        const file = { name: 'some.trace', slice: () => ({ arrayBuffer: async () => bytes.slice().buffer }) };
+        const file = { name, slice: () => ({ arrayBuffer: async () => bytes.slice().buffer }) };
         Object.defineProperty(input, 'files', { configurable: true, value: [file] });
         input.onchange();
         await later();
     }
-    await opens('open', new TextEncoder().encode('W 1 0020\r\nR 1\r\n'));
+    await opens('open', 'some.txt', new TextEncoder().encode('W 1 0020\r\nR 1\r\n'));
     check('a script with CR and LF is opened, and that is said', differs(answers(page), '1 OK\n2 0020\n') || (/CR and LF/.test(said()) ? '' : said()));
     const cut = Uint8Array.from(atob(Given.cut), c => c.charCodeAt(0));
-    await opens('open', cut);
+    await opens('open', 'some.trace', cut);
     check('a cut trace is refused',
         differs(said(), "some.trace: E 17: the trace's table of contents or length is wrong. If it was cut, it may be salvaged."));
-    await opens('salvage', cut);
+    await opens('salvage', 'some.trace', cut);
     check('a cut trace is salvaged',
         differs(said(), 'some.trace: sections cut 1, bytes lost 4. some.trace: OK 27, STAT 8020, CON1 0020, CON2 0001, interrupt 0.'));
     check('the salvaged trace is handed out', differs(packed(blobs.pop()), Given.salvaged));
