@@ -1,0 +1,38 @@
+-- A trace that is played is right.
+-- Assumes nothing.
+use borrow.Author.Needs.{needs}
+use mathlib.Core.Path.{sym, ap, _∙_}
+use Rattle.spi_trace_rules.specs.Trace.{isMade}
+use Rattle.spi_trace_rules.proofs.TraceContents.{contents-laid}
+use Rattle.spi_trace.proofs.Playing.{made-right}
+use Rattle.spi_wave_trace.proofs.write.Statement.{statement}
+use Rattle.spi_wave_trace.proofs.write.Tie as tie
+
+play-section-requires : tie.Need-play-section-requires
+play-section-requires c κs =
+    let told = c .before .before .before .before in
+    let looked = told .before .before in
+    let f = looked .before .before .before .args .f .now in
+    let made = told .enum-told .given .1 in
+    let right = made-right f _ (sym (looked .look-over .ensures .0) ∙ made) in
+    ((right .0, right .1, looked .look-over .ensures .1 (ap isMade made)), contents-laid f (right .0) .some)
+
+pub write-spec : {M : Type 1} → statement M
+write-spec =
+    tie.close
+    (tie.spec
+    (λ c κs. search needs)
+    (λ c. search needs)
+    (λ c. search needs)
+    (λ c κs. search needs)
+    (λ c κs. search needs)
+    (λ c. search needs)
+    (λ c κs. search needs)
+    (λ c. search needs)
+    (λ c κs. search needs)
+    (λ c. search needs)
+    (λ c κs. search needs)
+    play-section-requires
+    (λ c κs. search needs)
+    (λ c. search needs)
+    (λ c. search needs))
