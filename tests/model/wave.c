@@ -73,10 +73,10 @@ static void look(const struct wave *w, char value[LANES][24])
     const struct ref_spi *m = &w->m;
     int ss = ref_ss(m);
 
-    put_level(value[0], ref_sck(m));
+    put_level(value[0], m->spien ? ref_sck(m) : REF_UNDRIVEN);
     put_level(value[1], ref_sdo(m));
     put_level(value[2], w->sdi);
-    put_level(value[3], ss == REF_UNDRIVEN ? m->ss : ss);
+    put_level(value[3], m->spien && ss == REF_UNDRIVEN ? m->ss : ss);
     put_level(value[4], ref_flag(m));
     put_level(value[5], m->spien);
     put_number(value[6], (unsigned)m->tx.n, 5);

@@ -23,6 +23,10 @@ use Rattle.spi_waves.specs.declared.Shown.{Shown}
 
 -- What is shown.
 
+-- A level that an enabled module makes or sees; a disabled one does neither.
+unfoldable pub levelIf : Bool → Bool → ℕ
+levelIf enabled high = if enabled then levelOf high else code "z"
+
 -- A pin that the module may drive: its level, and another byte where it does not.
 unfoldable pub drivenOr : ℕ → Output → ℕ
 drivenOr other Low = code "0"
@@ -44,15 +48,15 @@ arrivingOf Free = noWord
 arrivingOf (Loaded word) = noWord
 arrivingOf (Begun p) = p .received
 
--- All that is shown of a module, with the byte of SDI, which no module remembers. SS is the level that the module drives, or else
--- the one that it saw last.
+-- All that is shown of a module, with the byte of SDI, which no module remembers. SCK is the level that the module made or saw last,
+-- and SS the one that it drives, or else the one that it saw last.
 unfoldable pub shownOf : Module → ℕ → Shown
 shownOf m sdi =
     record {
-      sck = levelOf (sckOf m);
+      sck = levelIf (m .settings .spien) (sckOf m);
       sdo = drivenOr (code "z") (sdoOf m);
       sdi = sdi;
-      ss = drivenOr (levelOf (m .engine .pins .ss)) (ssOf m);
+      ss = drivenOr (levelIf (m .settings .spien) (m .engine .pins .ss)) (ssOf m);
       interrupt = levelOf (interruptOf m);
       spien = levelOf (m .settings .spien);
       waiting = m .engine .transmit .count;

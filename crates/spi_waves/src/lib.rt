@@ -13,7 +13,7 @@ ghost use Rattle.spi_script_rules.specs.Script.{decimalOf, levelOf, lineAfter};
 ghost use Rattle.spi_script_rules.specs.Texts.{Written};
 ghost use Rattle.spi_rules.specs.Calls.{poweredUp};
 ghost use Rattle.spi_memory.specs.Memory.{moduleIn};
-ghost use Rattle.spi_waves.specs.Wave.{drivenOr, leavingOf, arrivingOf, shownOf, brought, sdiAfter, lineShown, binaryOf, valueOf, levelChange, numberChange, levelChanges, numberChanges, changes, stepText, headText, unshown, unknown};
+ghost use Rattle.spi_waves.specs.Wave.{levelIf, drivenOr, leavingOf, arrivingOf, shownOf, brought, sdiAfter, lineShown, binaryOf, valueOf, levelChange, numberChange, levelChanges, numberChanges, changes, stepText, headText, unshown, unknown};
 
 // What a waveform shows of a module. A level is its byte in the file: 0, 1, z where nobody drives it, x before it is known. A word that
 // is not there is 65,536.
@@ -46,6 +46,16 @@ fn level(high: bool) -> u8
         return b'1';
     }
     b'0'
+}
+
+// The byte of a level that an enabled module makes or sees.
+fn level_if(enabled: bool, high: bool) -> u8
+    ensures { λ r. ⌜ r ≡ levelIf enabled high ⌝ }
+{
+    if enabled {
+        return level(high);
+    }
+    b'z'
 }
 
 // The byte of a pin that the module may drive.
@@ -88,9 +98,9 @@ pub fn look(w: &[u16; 96], sdi: u8) -> Shown
     let s = spi_memory::settings_in(w);
     let pins = spi_memory::pins_in(w);
     let shift = spi_memory::shift_in(w);
-    let seen = level(pins.ss);
+    let seen = level_if(s.spien, pins.ss);
     Shown {
-        sck: level(pins.sck),
+        sck: level_if(s.spien, pins.sck),
         sdo: driven_or(b'z', spi_module::sdo(w)),
         sdi: sdi,
         ss: driven_or(seen, spi_module::ss(w)),
