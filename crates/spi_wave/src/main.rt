@@ -5,14 +5,20 @@ use libc::STDOUT_FILENO;
 use spi_script_rules::Line;
 use spi_waves::Shown;
 ghost use Prim.Native.Nat.{_≤_};
+ghost use mathlib.Core.Path.{_≡_};
 ghost use lib.ListN.{length};
+ghost use Rattle.spi_rules.specs.Calls.{poweredUp};
+ghost use Rattle.spi_script_rules.specs.Script.{lineAfter, scriptEnd};
+ghost use Rattle.spi_memory.specs.Memory.{moduleIn};
 
 fn print(text: &[u8]) {
     io::write_all(STDOUT_FILENO, text);
 }
 
 // The head, and all values at power-up.
-fn begin(w: &mut [u16; 96]) -> Shown {
+fn begin(w: &mut [u16; 96]) -> Shown
+    ensures { λ _. ⌜ moduleIn (now (w .exit)) ≡ poweredUp ⌝ }
+{
     let head = spi_waves::head();
     print(&head);
     let mut out = [0u8; 128];
@@ -24,7 +30,9 @@ fn begin(w: &mut [u16; 96]) -> Shown {
 }
 
 // A line is played, and what it changed is written.
-fn step(w: &mut [u16; 96], line: Line, before: Shown, time: u32) -> Shown {
+fn step(w: &mut [u16; 96], line: Line, before: Shown, time: u32) -> Shown
+    ensures { λ _. ⌜ moduleIn (now (w .exit)) ≡ lineAfter (moduleIn (now (w .entry))) line ⌝ }
+{
     let mut out = [0u8; 128];
     let stepped = spi_waves::step(w, line, before, time, &mut out);
     let end = stepped.written;
@@ -40,17 +48,17 @@ fn finish(time: u32) {
 }
 
 // Writes the waveform of a script, line by line.
-fn write(script: &[u8])
+fn write(script: &[u8], w: &mut [u16; 96])
     requires { ⌜ length (now script) ≤ 65535 ⌝ }
+    ensures { λ _. ⌜ moduleIn (now (w .exit)) ≡ scriptEnd (now (script .entry)) ⌝ }
 {
-    let mut w = [0u16; 96];
-    let mut shown = begin(&mut w);
+    let mut shown = begin(w);
     let mut at: usize = 0;
     let mut time: u32 = 1;
     while at < script.len() {
         let next = spi_lines::next_line(script, at);
         let line = next.line;
-        shown = step(&mut w, line, shown, time);
+        shown = step(w, line, shown, time);
         at = next.end + 1;
         time += 1;
     }
@@ -60,5 +68,6 @@ fn write(script: &[u8])
 fn main() {
     let mut script = [0u8; 65535];
     let n = io::read_full(STDIN_FILENO, &mut script);
-    write(&script[..n]);
+    let mut w = [0u16; 96];
+    write(&script[..n], &mut w);
 }
