@@ -22,9 +22,6 @@ Inv-loop script w₀ shown₀ at₀ time₀ w shown at time =
 abbrev μ-loop : tie.MeasureT-loop
 μ-loop script w₀ shown₀ at₀ time₀ w shown at time = length script + 1 - at
 
-begin-requires : tie.Need-begin-requires Inv-loop μ-loop
-begin-requires c κs = search needs
-
 loop-holds : tie.Need-loop-holds Inv-loop μ-loop
 loop-holds c =
     let b = c .before .before .before in
@@ -34,21 +31,12 @@ loop-holds c =
       from-the-start script (b .pre) ∙ ap (λ (m : Module). afterCalls m (callsOf (linesOf (drop 0 script)))) (sym (c .begin .ensures)),
     )
 
-next-line-requires : tie.Need-next-line-requires Inv-loop μ-loop
-next-line-requires c κs = search needs
-
-step-requires : tie.Need-step-requires Inv-loop μ-loop
-step-requires c κs = search needs
-
 add-at : tie.Need-add-at Inv-loop μ-loop
 add-at c =
-    omega (arith, c .before .before .before .next-line .ensures .1, within (c .before .before .before .before .before .before .before .before .before .args .script .now) (c .before .before .before .before .before .loop .at) _ refl (c .before .before .before .before .loop-test .taken))
-
-add-time : tie.Need-add-time Inv-loop μ-loop
-add-time c = search needs
-
-loop-less : tie.Need-loop-less Inv-loop μ-loop
-loop-less c = search needs
+    let l = c .before .before .before .before .before in
+    let script = l .before .before .before .before .args .script .now in
+    let taken = c .before .before .before .before .loop-test .taken in
+    omega (arith, c .before .before .before .next-line .ensures .1, within script (l .loop .at) _ refl taken)
 
 loop-again : tie.Need-loop-again Inv-loop μ-loop
 loop-again c =
@@ -68,9 +56,6 @@ loop-again c =
           ∙ ap (λ (k : ℕ). afterCalls after (callsOf (linesOf (drop (k + 1) script)))) (sym (next .1)),
     )
 
-finish-requires : tie.Need-finish-requires Inv-loop μ-loop
-finish-requires c κs = search needs
-
 returns : tie.Need-returns Inv-loop μ-loop
 returns c =
     let l = c .before .before in
@@ -82,13 +67,13 @@ write-spec =
     (tie.spec
     Inv-loop
     μ-loop
-    begin-requires
+    (λ c κs. search needs)
     loop-holds
-    next-line-requires
-    step-requires
+    (λ c κs. search needs)
+    (λ c κs. search needs)
     add-at
-    add-time
-    loop-less
+    (λ c. search needs)
+    (λ c. search needs)
     loop-again
-    finish-requires
+    (λ c κs. search needs)
     returns)
