@@ -1,5 +1,5 @@
 /* The waveform of a script or a trace over the second model, as a VCD file
- * (IEEE 1364), written from what examples/README.md tells of such a file:
+ * (IEEE 1364), as examples/README.md tells it:
  *
  *   wave         reads a script on standard input
  *   wave trace   reads a trace; one that is refused prints its number
