@@ -6,8 +6,9 @@
  *
  * usage: audio WAV [PINS]
  *
- * PINS is a file for the levels of I2S with 16 bits in 32 clocks, a byte for
- * each edge: SCK, LRCK and SDO in its low bits. Exit 0: all samples agree. */
+ * PINS is a VCD file (IEEE 1364) for the levels of I2S with 16 bits in 32
+ * clocks: SCK, LRCK, SDO and SDI, and each edge is one step of time, for a
+ * viewer of waves or for sigrok. Exit 0: all samples agree. */
 #include "listener.h"
 #include "thurafeqa_card.h"
 
@@ -72,6 +73,34 @@ static int read_wav(const char *name, uint32_t *sample)
     return fclose(f) == 0;
 }
 
+/* ---- the pins as a waveform --------------------------------------------- */
+
+static void begin_pins(FILE *pins)
+{
+    fprintf(pins, "$version Thurafeqa $end\n$timescale 1 us $end\n"
+                  "$scope module card $end\n$var wire 1 c sck $end\n"
+                  "$var wire 1 l lrck $end\n$var wire 1 o sdo $end\n"
+                  "$var wire 1 i sdi $end\n$upscope $end\n"
+                  "$enddefinitions $end\n");
+}
+
+/* The levels at a time: those that are others than before, at time 0 all. The
+ * low bits of `levels` are SCK, LRCK, SDO and SDI. */
+static void put_pins(FILE *pins, unsigned long time, unsigned levels)
+{
+    static const char letter[] = "cloi";
+    static unsigned before;
+    int i;
+
+    fprintf(pins, time == 0 ? "#0\n$dumpvars\n" : "#%lu\n", time);
+    for (i = 0; i < 4; i++)
+        if (time == 0 || ((levels ^ before) >> i & 1u))
+            fprintf(pins, "%u%c\n", levels >> i & 1u, letter[i]);
+    if (time == 0)
+        fprintf(pins, "$end\n");
+    before = levels;
+}
+
 /* ---- played ------------------------------------------------------------ */
 
 static uint32_t heard[FRAMES * 2 + 8];
@@ -93,6 +122,7 @@ static int play(const uint32_t *wav, uint32_t protocol, uint32_t bits,
     thurafeqa_card c;
     struct listener l;
     uint32_t look, clock;
+    unsigned long time = 0;
     int written = 0, reads = 0, i;
 
     thurafeqa_card_power_up(&c);
@@ -104,6 +134,10 @@ static int play(const uint32_t *wav, uint32_t protocol, uint32_t bits,
                    look >> 1 & 1u);
     l.whole = one_heard;
     hears = 0;
+    if (pins) {
+        begin_pins(pins);
+        put_pins(pins, time++, (look & 7u) + 8u * (unsigned)l.sdi);
+    }
     for (clock = 0; clock < FRAMES * frame + 2; clock++) {
         int edge;
 
@@ -114,9 +148,9 @@ static int play(const uint32_t *wav, uint32_t protocol, uint32_t bits,
         for (edge = 0; edge < 2; edge++) {
             thurafeqa_card_edge(&c, (uint32_t)l.sdi);
             look = thurafeqa_card_look(&c);
-            listener_see(&l, look & 1u, look >> 1 & 1u, look >> 2 & 1u);
             if (pins)
-                fputc((int)(look & 7u), pins);
+                put_pins(pins, time++, (look & 7u) + 8u * (unsigned)l.sdi);
+            listener_see(&l, look & 1u, look >> 1 & 1u, look >> 2 & 1u);
         }
         for (;;) {
             uint64_t answer = thurafeqa_card_read(&c);
@@ -125,6 +159,8 @@ static int play(const uint32_t *wav, uint32_t protocol, uint32_t bits,
             back[reads++] = thurafeqa_card_sample(answer);
         }
     }
+    if (pins)
+        fprintf(pins, "#%lu\n", time);
     if (hears < FRAMES * 2 || reads < FRAMES * 2)
         return 0;
     for (i = 0; i < FRAMES * 2; i++)
