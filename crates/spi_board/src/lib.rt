@@ -21,7 +21,7 @@ const BAD_LIST: u32 = 21 * 65536;
 const NO_MODULE: u32 = 22 * 65536;
 
 // Why a call of module `n` of a list of `count` is refused, as its answer's number: 0 if it is not.
-pub fn refusal(count: usize, n: u32) -> u32
+fn refusal(count: usize, n: u32) -> u32
     ensures { λ r. ⌜ r ≡ callFault count n ⌝ }
 {
     if count < 1 {
@@ -51,7 +51,7 @@ fn refusal_of_two(count: usize, a: u32, b: u32) -> u32
 }
 
 // A call of one module by its kind and up to three numbers. A report's floats go into lent memory.
-pub fn make(w: &mut [u16; 96], kind: u32, x: u32, y: u32, z: u32, report: &mut [f64; 3]) -> u32
+fn make(w: &mut [u16; 96], kind: u32, x: u32, y: u32, z: u32, report: &mut [f64; 3]) -> u32
     ensures { λ r. ⌜ MakeTells (askedOf kind x y z) r (now (report .entry)) (now (report .exit)) (now (w .entry)) (now (w .exit)) ⌝ }
 {
     if kind == 3 {

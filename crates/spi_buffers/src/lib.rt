@@ -1,14 +1,12 @@
-// What the two buffers share, rings whose positions go round the depth, with nothing in them; and the state of the shift register.
+// What the two buffers share: rings whose positions go round the depth, and with nothing in them.
 use spi_types::CpuRead;
 use spi_types::CpuWrite;
 use spi_types::Receive;
-use spi_types::Shift;
 use spi_types::SpiRead;
 use spi_types::SpiWrite;
 use spi_types::Transmit;
 ghost use mathlib.Core.Path.{_≡_};
 ghost use Rattle.ring.specs.Ring.{next};
-ghost use Rattle.spi_rules.specs.Registers.{isFree};
 ghost use Rattle.spi_rules.specs.Buffers.{emptyTransmit, emptyReceive};
 
 // The position after `at`. A position that calls cannot reach goes back to the first cell too.
@@ -41,16 +39,5 @@ pub fn empty_receive() -> Receive
         read: CpuRead(0),
         count: 0,
         marked: false,
-    }
-}
-
-// Whether no word is loaded or begun.
-pub fn is_free(shift: Shift) -> bool
-    ensures { λ r. ⌜ r ≡ isFree shift ⌝ }
-{
-    match shift {
-        Shift::Free => true,
-        Shift::Loaded(_) => false,
-        Shift::Begun(_) => false,
     }
 }

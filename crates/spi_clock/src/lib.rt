@@ -35,14 +35,14 @@ pub fn secondary(spre: u8) -> u8
 }
 
 // The divider D: both prescalers together.
-pub fn divider(s: Settings) -> u16
+fn divider(s: Settings) -> u16
     ensures { λ r. ⌜ r ≡ dividerOf s ⌝ }
 {
     primary(s.con1.ppre) as u16 * secondary(s.con1.spre) as u16
 }
 
 // The rate F / D and the bit time D / F, each by one division.
-pub fn rates(s: Settings, f: u32) -> Rates
+fn rates(s: Settings, f: u32) -> Rates
     ensures { λ r. ⌜ r ≡ ratesOf s f ⌝ }
 {
     let instruction = f as f64;

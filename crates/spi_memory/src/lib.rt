@@ -47,7 +47,7 @@ pub fn con2_in(w: &[u16; 96]) -> Con2
 }
 
 // The depth.
-pub fn depth_in(w: &[u16; 96]) -> Depth
+fn depth_in(w: &[u16; 96]) -> Depth
     ensures { λ r. ⌜ r ≡ settingsIn (now (w .entry)) .depth ⌝ }
 {
     if w[6] == 4 {
@@ -119,7 +119,7 @@ fn words_in(w: &[u16; 96], first: usize) -> [u16; 16]
 }
 
 // The words waiting to be sent.
-pub fn transmit_in(w: &[u16; 96]) -> Transmit
+fn transmit_in(w: &[u16; 96]) -> Transmit
     ensures { λ r. ⌜ r ≡ engineIn (now (w .entry)) .transmit ⌝ }
 {
     let words = words_in(w, 24);
@@ -158,7 +158,7 @@ pub fn first_waiting_in(w: &[u16; 96]) -> u16
 }
 
 // The words received and not read, and the mark.
-pub fn receive_in(w: &[u16; 96]) -> Receive
+fn receive_in(w: &[u16; 96]) -> Receive
     ensures { λ r. ⌜ r ≡ engineIn (now (w .entry)) .receive ⌝ }
 {
     let words = words_in(w, 44);

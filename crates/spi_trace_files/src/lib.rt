@@ -75,7 +75,7 @@ pub fn count(f: &[u8]) -> u16
 }
 
 // Where a section starts.
-pub fn start(f: &[u8], k: u16) -> u32
+fn start(f: &[u8], k: u16) -> u32
     ensures { λ r. ⌜ r ≡ startOf (now (f .entry)) k ⌝ }
 {
     word_at(f, 2 + 8 * (k as usize))

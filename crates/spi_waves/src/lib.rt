@@ -92,7 +92,7 @@ fn arriving(shift: Shift) -> u32
 }
 
 // All that is shown of a module, with the byte of SDI.
-pub fn look(w: &[u16; 96], sdi: u8) -> Shown
+fn look(w: &[u16; 96], sdi: u8) -> Shown
     ensures { λ r. ⌜ r ≡ shownOf (moduleIn (now (w .entry))) sdi ⌝ }
 {
     let s = spi_memory::settings_in(w);

@@ -227,7 +227,7 @@ fn make_step(w: &mut [u16; 96], ss: bool, word: u16) -> Spoken
 }
 
 // A word call, with the select level and the caller's word.
-pub fn word(w: &mut [u16; 96], ss: bool, word: u16) -> Spoken
+fn word(w: &mut [u16; 96], ss: bool, word: u16) -> Spoken
     ensures { λ r. ⌜ Speaks (wordOf (moduleIn (now (w .entry))) ss word) (r .answer) (r .count) (r .levels) (now (w .entry)) (now (w .exit)) ⌝ }
 {
     if has_word(w, ss) {
