@@ -93,6 +93,39 @@ static void move_word(struct port *p)
     p->words++;
 }
 
+/* The same by one call. Which word goes out is known before, so its edges are
+ * shown to the chip first, and the chip's bits are the word that comes in. */
+static void move_whole_word(struct port *p)
+{
+    uint32_t word = thurafeqa_next(&p->spi) & 0xFFu, in = 0, answer;
+    int late = p->con1 & THURAFEQA_CON1_CKE ? 1 : 0; /* SDO is a bit ahead */
+    bool sck = p->con1 & THURAFEQA_CON1_CKP;
+
+    for (int i = 0; i < 16; i++) {
+        int bit = 7 - (i + late) / 2; /* that SDO shows after this edge */
+
+        if (i % 2 != late)
+            in = in << 1 | sdi(p);
+        sck = !sck;
+        p->time += p->half_bit;
+        show_wires(p, (sck ? THURAFEQA_LEVELS_SCK : 0) |
+                          (word >> (bit < 0 ? 0 : bit) & 1
+                               ? THURAFEQA_LEVELS_SDO
+                               : 0));
+        p->edges++;
+    }
+    answer = thurafeqa_word(&p->spi, 0, in);
+    if (THURAFEQA_WORD_REFUSAL(answer) != 0 ||
+        THURAFEQA_WORD_COUNT(answer) != 8 ||
+        THURAFEQA_WORD_LEVELS(answer) != word) {
+        fprintf(stderr, "port: a word call told %08lX of %02lX\n",
+                (unsigned long)answer, (unsigned long)word);
+        exit(1);
+    }
+    show_wires(p, thurafeqa_levels(&p->spi));
+    p->words++;
+}
+
 /* ---- the CPU's bus ------------------------------------------------------ */
 
 static uint16_t load(struct port *p, uint32_t number)
@@ -155,7 +188,10 @@ static void exchange(struct port *p, const uint8_t *out, uint8_t *in,
             store(p, THURAFEQA_BUF, out[sent++]);
         if (sent - moved > p->most)
             p->most = (unsigned)(sent - moved);
-        move_word(p);
+        if (p->whole)
+            move_whole_word(p);
+        else
+            move_word(p);
         moved++;
         if (moved == count || (load(p, THURAFEQA_STAT) & THURAFEQA_STAT_SPIRBF))
             taken += take_words(p, in + taken);
@@ -204,7 +240,8 @@ uint32_t port_rate(struct port *p, uint32_t hertz)
     return spi_open(p, prescalers);
 }
 
-void port_power_up(struct port *p, unsigned mode, unsigned depth, FILE *pins)
+void port_power_up(struct port *p, unsigned mode, unsigned depth, bool whole,
+                   FILE *pins)
 {
     memset(p, 0, sizeof *p);
     flash_power_up(&p->chip);
@@ -212,6 +249,7 @@ void port_power_up(struct port *p, unsigned mode, unsigned depth, FILE *pins)
     p->con1 = THURAFEQA_CON1_MSTEN | (mode & 2 ? THURAFEQA_CON1_CKP : 0) |
               (mode & 1 ? 0 : THURAFEQA_CON1_CKE);
     p->enhanced = depth != 0;
+    p->whole = whole;
     p->pins = pins;
     if (pins)
         begin_pins(p);

@@ -17,6 +17,7 @@ struct port {
     bool cs;             /* a port pin, which selects the chip when low */
     uint16_t con1;       /* the mode, without the prescalers */
     bool enhanced;       /* SPIBEN: words wait ahead */
+    bool whole;          /* a word is one call, not one call an edge */
     uint32_t half_bit;   /* the time between two edges, in nanoseconds */
     uint64_t time;       /* since power-up, in nanoseconds */
     FILE *pins;          /* where the pins are written down, or null */
@@ -27,9 +28,11 @@ struct port {
 };
 
 /* SPI mode 0 to 3, of which the chip speaks 0 and 3; standard operation for the
- * depth 0, else enhanced operation of a part with buffers of that depth. `pins`
- * is null, or a file for the levels of the pins as a VCD. */
-void port_power_up(struct port *p, unsigned mode, unsigned depth, FILE *pins);
+ * depth 0, else enhanced operation of a part with buffers of that depth; whole
+ * words, or edge by edge. `pins` is null, or a file for the levels of the pins
+ * as a VCD. */
+void port_power_up(struct port *p, unsigned mode, unsigned depth, bool whole,
+                   FILE *pins);
 
 /* Sets the clock to the highest rate that is not above `hertz`, or to the
  * lowest that there is, and tells it. */

@@ -2,10 +2,11 @@
  * a programmer on a desk. The protocol is published with flashrom, as
  * serprog-protocol.txt.
  *
- * usage: serprog [-m MODE] [-e DEPTH] [-i FILE] [-l] [-p FILE]
+ * usage: serprog [-m MODE] [-e DEPTH] [-w] [-i FILE] [-l] [-p FILE]
  *
  * -m MODE   the SPI mode, 0 if none is named; the chip speaks 0 and 3
  * -e DEPTH  enhanced operation with buffers of 4, 8 or 16 words, else standard
+ * -w        a word is one call, not one call an edge
  * -i FILE   what the chip holds at first, else every byte is FF
  * -l        each operation is printed: the bytes sent, '>', the bytes received
  * -p FILE   the levels of the pins are written there as a VCD
@@ -256,14 +257,17 @@ static unsigned number_in(const char *text)
 int main(int argc, char **argv)
 {
     unsigned mode = 0, depth = 0;
+    bool whole = false;
     FILE *pins = NULL, *image = NULL;
     int option, s;
 
-    while ((option = getopt(argc, argv, "m:e:i:lp:")) != -1) {
+    while ((option = getopt(argc, argv, "m:e:wi:lp:")) != -1) {
         if (option == 'm')
             mode = number_in(optarg);
         else if (option == 'e')
             depth = number_in(optarg);
+        else if (option == 'w')
+            whole = true;
         else if (option == 'i')
             image = opened(optarg, "rb");
         else if (option == 'l')
@@ -274,12 +278,12 @@ int main(int argc, char **argv)
             mode = 99;
     }
     if (mode > 3 || optind != argc) {
-        fprintf(stderr, "usage: serprog [-m MODE] [-e DEPTH] [-i FILE] [-l] "
-                        "[-p FILE]\n");
+        fprintf(stderr, "usage: serprog [-m MODE] [-e DEPTH] [-w] [-i FILE] "
+                        "[-l] [-p FILE]\n");
         return 2;
     }
     signal(SIGPIPE, SIG_IGN);
-    port_power_up(&port, mode, depth, pins);
+    port_power_up(&port, mode, depth, whole, pins);
     if (image && fread(port.chip.bytes, 1, FLASH_SIZE, image) < FLASH_SIZE &&
         ferror(image))
         fail("serprog: image");
