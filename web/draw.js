@@ -186,23 +186,26 @@ const Draw = (() => {
         return path('open', open) + path(lane.kind === 'flag' ? 'flagwave' : 'wave', solid) + path('rise', rises);
     }
 
+    // guides(l): from each edge that samples down to the levels that it takes
+    const guides = l => path('guide', l.step < 12 ? '' : l.lanes.flatMap(lane => (lane.edges || []).map(i =>
+        `M${round(l.columns[i].at)} ${lane.low}V${deepest(l)}`)).join(''));
+
     // marks(l): the edges that sample, and the levels that they take
     function marks(l) {
-        let dots = '', guides = '';
+        let dots = '';
         for (const lane of l.lanes) {
             for (const i of lane.edges || []) {
                 const x = round(l.columns[i].at);
                 if (l.step >= 8) dots += lane.levels[i] ? `M${x} ${lane.mid - 5}l3.5 8h-7z` : `M${x} ${lane.mid + 5}l3.5-8h-7z`;
-                if (l.step >= 12) guides += `M${x} ${lane.low}V${deepest(l)}`;
             }
             for (const i of lane.samples || []) {
-                const r = l.step >= 8 ? 2.6 : 1.8;
+                const r = l.step >= 8 ? 2.6 : 2.1;
                 const level = lane.early ? lane.levels[i] : i ? lane.levels[i - 1] : lane.before;
                 const y = level === 1 ? lane.high : level === 0 ? lane.low : lane.mid;
                 dots += `M${round(l.columns[i].at - r)} ${y}l${r}-${r} ${r} ${r}-${r} ${r}z`;
             }
         }
-        return path('guide', guides) + path('dot', dots);
+        return path('dot', dots);
     }
 
     // deepest(l): the foot of the lowest lane that is sampled
@@ -263,8 +266,8 @@ const Draw = (() => {
     }
 
     // body(l): all of it but the names
-    const body = l => bands(l) + l.lanes.map(lane => spans(lane, l)).join('') + marks(l) + l.lanes.map(lane => waves(lane, l)).join('') +
-        heads(l) + notes(l) + whys(l) + axis(l);
+    const body = l => bands(l) + l.lanes.map(lane => spans(lane, l)).join('') + guides(l) + l.lanes.map(lane => waves(lane, l)).join('') +
+        marks(l) + heads(l) + notes(l) + whys(l) + axis(l);
 
     const opened = (width, height, title) =>
         `<svg xmlns="http://www.w3.org/2000/svg" class="td" width="${round(width)}" height="${round(height)}" ` +

@@ -80,6 +80,9 @@ const Look = (() => {
             return !same(held, trial.memory);
         }
 
+        // selected(con1, con2): a client of these settings goes by SS, and takes a word into its shift register only as that begins
+        const selected = (con1, con2) => con1 & H.CON1_SSEN && !(con1 & H.CON1_MSTEN) && !(con2 & H.CON2_FRMEN);
+
         // active(con2): the level of SS at which a module of these settings can send: its pulse, if it is framed, else low
         const active = con2 => (con2 & H.CON2_FRMEN && con2 & H.CON2_FRMPOL ? 1 : 0);
 
@@ -125,10 +128,11 @@ const Look = (() => {
             const stat = module.read(H.STAT).value, con1 = module.read(H.CON1).value, con2 = module.read(H.CON2).value;
             const ss = active(con2), w = width(con1), levels = module.levels();
             const next = module.next(), unread = take(copy(memory)), waiting = sends(copy(memory), ss);
+            const loaded = next & H.NEXT_WORD && !(selected(con1, con2) && !begun(memory, 0));
             return {
                 stat, con1, con2, levels, width: w, enabled: (stat & H.STAT_SPIEN) !== 0,
                 unread: unread.words, unreadable: unread.refusal === H.OVERFLOWED,
-                waiting, edgesOwed: copy(memory).edgesOwed(), next: next & H.NEXT_WORD ? next & 0xffff : null,
+                waiting, edgesOwed: copy(memory).edgesOwed(), next: loaded ? next & 0xffff : null,
                 ...(con2 & H.CON2_FRMEN ? leftFramed : left)(memory, ss, w),
             };
         }

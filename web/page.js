@@ -282,23 +282,25 @@
     function startCard() {
         const form = by('card-form'), said = by('card-said');
         const card = new Library.Card(library), other = new Library.Card(library);
-        const played = [];
+        const played = [], looks = [];
         const views = Cards.protocols.map((protocol, i) => {
-            const heading = document.createElement('h2'), place = document.createElement('div');
+            const heading = document.createElement('h2'), place = document.createElement('div'), looked = document.createElement('p');
             heading.textContent = protocol.name;
-            by('cards').append(heading, place);
+            looked.className = 'said look';
+            by('cards').append(heading, place, looked);
+            looks.push(looked);
             const view = new View(place, protocol.name, {
                 onPoint: column => inspect(i, column < 0 ? view.chosen : column),
                 onChoose: column => { view.choose(column); inspect(i, column); },
             });
-            view.step = 6;
+            view.step = 8;
             return view;
         });
 
         // inspect(i, column): what the card of that protocol tells after that column
         function inspect(i, column) {
             const r = played[i] && played[i][Math.max(0, column)];
-            if (r) say(by('card-look'), `${Cards.protocols[i].name}: ${Cards.told(r.look)}.`);
+            if (r) say(looks[i], Cards.told(r.look));
         }
 
         // play(): a frame of each protocol
@@ -314,8 +316,8 @@
                 const diagram = Cards.diagram(played[i], options);
                 views[i].show(diagram);
                 views[i].choose(diagram.columns.length - 1, false);
+                inspect(i, played[i].length - 1);
             });
-            inspect(0, played[0].length - 1);
         }
 
         form.addEventListener('input', play);

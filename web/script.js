@@ -52,10 +52,14 @@ const Script = (() => {
         return parts.join(' ');
     }
 
-    // ssOf(asked, levels, con2, before): the level at SS: driven by the module, or given by a line to a module that heeds it
-    function ssOf(asked, levels, con2, before) {
+    const isEnabled = module => (module.read(H.STAT).value & H.STAT_SPIEN) !== 0;
+
+    // ssOf(asked, module, before): the level at SS: driven by the module, or given by a line to a module that heeds it; none while the
+    // module is disabled
+    function ssOf(asked, module, before) {
+        const levels = module.levels(), framed = (module.read(H.CON2).value & H.CON2_FRMEN) !== 0;
+        if (!isEnabled(module)) return undefined;
         if (levels & H.LEVELS_SS_DRIVEN) return levels & H.LEVELS_SS ? 1 : 0;
-        const framed = (con2 & H.CON2_FRMEN) !== 0;
         if (asked && (asked.call === 'P' || (asked.call === 'T' && framed))) return asked.ss;
         return before;
     }
@@ -63,7 +67,9 @@ const Script = (() => {
     // pinsOf(module, sdi, ss): the levels at all pins, of which the last two may be given from outside
     function pinsOf(module, sdi, ss) {
         const levels = module.levels();
-        return { levels, sdi, ss, driven: (levels & H.LEVELS_DRIVEN) !== 0, ssDriven: (levels & H.LEVELS_SS_DRIVEN) !== 0 };
+        return {
+            levels, sdi, ss, enabled: isEnabled(module), driven: (levels & H.LEVELS_DRIVEN) !== 0, ssDriven: (levels & H.LEVELS_SS_DRIVEN) !== 0,
+        };
     }
 
     // play(module, look, text): a record for each line of the script, from power-up on; how all stood before them is `start`
@@ -80,12 +86,11 @@ const Script = (() => {
             const seen = stepped ? look.step(before, (m, level) => make(m, asked, level), asked.sdi) : null;
             const aborted = stepped && asked.call === 'P' && asked.ss === 1 && ss === 0 && look.begun(before, asked.sdi);
             if (stepped) sdi = asked.sdi;
-            ss = ssOf(done ? asked : null, levels, module.read(H.CON2).value, ss);
+            ss = ssOf(done ? asked : null, module, ss);
             return {
                 number: index + 1, line, asked, stepped, seen, aborted, ...pinsOf(module, sdi, ss),
                 refusal: answer.refusal, answer: told(asked || {}, answer, levels),
-                enabled: (module.read(H.STAT).value & H.STAT_SPIEN) !== 0, digits: look.digits(before),
-                memory: module.memory,
+                digits: look.digits(before), memory: module.memory,
             };
         });
         return Object.assign(records, { start });
@@ -143,7 +148,7 @@ const Script = (() => {
         const given = name => r => (r[name] === undefined ? 'z' : r[name]);
         const samples = records.flatMap((r, i) => (r.seen && r.seen.samples ? [i] : []));
         const lanes = [
-            lane('SCK', pin(H.LEVELS_SCK), { edges: samples }),
+            lane('SCK', r => (r.enabled ? pin(H.LEVELS_SCK)(r) : 'z'), { edges: samples }),
             lane('SDO', r => (r.driven ? pin(H.LEVELS_SDO)(r) : 'z'), { words: words.out }),
             lane('SDI', given('sdi'), { early: () => true, samples, words: words.back }),
         ];

@@ -65,6 +65,72 @@ function labels(page) {
     return overlap(rest) || (wide > page.width ? `the page is ${wide} pixels wide` : '');
 }
 
+// ---- waveforms
+
+// vcd(text): the values of a VCD file at each of its times but the last, by their letters
+function vcd(text) {
+    const now = {}, times = [];
+    for (const line of text.split('\n')) {
+        const value = /^b?([01xz]+) ?([a-zA-Z])$/.exec(line);
+        if (value) now[value[2]] = value[1];
+        else if (line[0] === '#') times.push({ ...now });
+    }
+    return times.slice(1);
+}
+
+// inside(page): the page's own files
+function inside(page) {
+    const script = page.document.createElement('script');
+    script.textContent = 'window.parts = { Library, Look, Script, Shipped };';
+    page.document.body.append(script);
+    return page.window.parts;
+}
+
+// levelsDiffer(lanes, times): the lanes' levels are those of the waveform; an SS that nobody has told since the module was enabled is open,
+// where the module holds it for high
+function levelsDiffer(lanes, times) {
+    for (const { name, before, levels } of lanes) {
+        const letter = { SCK: 'c', SDO: 'o', SDI: 'i', SS: 's', INT: 'f' }[name];
+        let untold = true;
+        for (const [i, level] of [before, ...levels].entries()) {
+            const held = times[i][letter].replace('x', 'z');
+            untold = name === 'SS' && (held === 'z' || (untold && level === 'z'));
+            if (String(level) !== held && !(untold && held === '1')) return `${name} after line ${i} is ${level} and not ${held}`;
+        }
+    }
+    return '';
+}
+
+// lookDiffers(look, now): the words waiting and unread and the shift register are those of the waveform. The bits of a word that will
+// be lost cannot be told.
+function lookDiffers(look, now) {
+    const number = text => (text.includes('z') ? null : parseInt(text, 2));
+    const [waiting, unread, out, came] = ['w', 'u', 'O', 'I'].map(letter => number(now[letter]));
+    const kept = look.waiting.length - waiting; // the word in the shift register, where it does not wait there too
+    if (!look.unreadable && look.unread.length !== unread) return `${look.unread.length} words unread and not ${unread}`;
+    if (kept !== 0 && !(kept === 1 && out !== null)) return `${look.waiting.length} words to send and not ${waiting}`;
+    if (look.next !== out && !(look.next === null && out === 0)) return `${look.next} goes out and not ${out}`;
+    if (look.came !== null && came !== null && look.came >> look.left !== came) return `${look.came} comes in and not ${came}`;
+    return came === null && look.left !== look.width ? 'bits came in where no word is under way' : '';
+}
+
+// waves(page): what is drawn and told of each line is what the second model's waveform has
+function waves(page) {
+    const { Library, Look, Script, Shipped } = inside(page);
+    const library = Library.load(Library.fromBase64(Shipped.wasm)), look = Look.create(library), module = new Library.Module(library);
+    let levels = '', looks = '', lines = 0, count = 0;
+    for (const [name, packed] of Object.entries(Given.waves)) {
+        const times = vcd(decoded(packed)), of = wrong => wrong && `${name}: ${wrong}`;
+        const records = Script.play(module, look, decoded(Shipped.scripts[name] || Given.random));
+        levels = levels || of(records.length + 1 === times.length ? levelsDiffer(Script.diagram(records).lanes, times) : 'lines');
+        lines += records.length;
+        for (let i = 0; i < records.length; i += records.length > 1000 ? 5 : 1, count++)
+            looks = looks || of(lookDiffers(look.all(records[i].memory), times[i + 1]));
+    }
+    check(`the levels drawn of ${lines} lines are those of the second model's waveforms`, levels);
+    check(`the words waiting and unread and the shift register told of ${count} lines are so too`, looks);
+}
+
 // ---- what is tried
 
 function choose(page, name) {
@@ -291,6 +357,7 @@ async function all() {
         pairs(page);
         cards(page);
     }
+    waves(pages[2]);
     words(pages[2]);
     steps(pages[2]);
     looks(pages[2]);
