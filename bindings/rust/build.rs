@@ -1,5 +1,6 @@
-//! Links libthurafeqa.a. It is the one in the folder that THURAFEQA_LIB_DIR names, from here if the name is relative; else that of
-//! target/lib in the repository, which `./library` proves and builds if it is missing or not built from the crates as they are.
+//! Links libthurafeqa.a. It is the one in the folder that THURAFEQA_LIB_DIR names, from here if the name is relative; else that of the
+//! bundle or installation that this crate came in; else that of target/lib in the repository, which `./library` proves and builds if
+//! it is missing or not built from the crates as they are.
 
 use std::env;
 use std::path::{absolute, Path, PathBuf};
@@ -30,12 +31,24 @@ fn succeeds(root: &Path, words: &[&str]) -> bool {
     status.is_ok_and(|status| status.success())
 }
 
+/// The folder of this package.
+fn package() -> PathBuf {
+    PathBuf::from(env::var_os("CARGO_MANIFEST_DIR").unwrap_or_default())
+}
+
+/// The folder of the archive that came with this crate, which is in share/thurafeqa/rust there, in a bundle or an installation.
+fn bundled() -> Option<PathBuf> {
+    let package = package();
+    let prefix = package.ancestors().nth(3).filter(|_| package.ends_with("share/thurafeqa/rust"))?;
+    Some(prefix.join("lib"))
+}
+
 /// The folder of the archive that `./library` builds for a target.
 fn built(triple: &str) -> PathBuf {
     let name = target(triple).unwrap_or_else(|| {
         fail(&format!("./library builds nothing for {triple}; THURAFEQA_LIB_DIR can name a folder with a {ARCHIVE} for it"))
     });
-    let package = PathBuf::from(env::var_os("CARGO_MANIFEST_DIR").unwrap_or_default());
+    let package = package();
     let root = package.ancestors().nth(2).unwrap_or(&package);
     let folder = root.join("target/lib").join(name);
     for source in ["crates", "crates.txt", "library"] {
@@ -55,7 +68,7 @@ fn main() {
     println!("cargo::rerun-if-env-changed=THURAFEQA_LIB_DIR");
     let folder = match env::var_os("THURAFEQA_LIB_DIR") {
         Some(named) if !named.is_empty() => absolute(&named).unwrap_or_else(|_| fail("THURAFEQA_LIB_DIR names no folder")),
-        _ => built(&env::var("TARGET").unwrap_or_default()),
+        _ => bundled().unwrap_or_else(|| built(&env::var("TARGET").unwrap_or_default())),
     };
     let archive = folder.join(ARCHIVE);
     if !archive.is_file() {

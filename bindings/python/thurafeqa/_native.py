@@ -115,10 +115,13 @@ def _target() -> Tuple[str, str]:
 
 
 def _places() -> Iterator[str]:
-    """Where the file may be: beside the package, in the repository, and where the system's loader looks."""
+    """Where the file may be: beside the package, in the repository, in the bundle, and where the system's loader looks."""
     target, name = _target()
     here = Path(__file__).resolve().parent
-    for folder in (here, here.parent, here.parents[2] / "target" / "lib" / target):
+    above = list(here.parents)
+    repository = [folder / "target" / "lib" / target for folder in above[2:3]]
+    bundle = [folder / "lib" for folder in above[3:4]]  # which has this package in share/thurafeqa/python
+    for folder in [here, here.parent] + repository + bundle:
         if (folder / name).is_file():
             yield str(folder / name)
     yield ctypes.util.find_library("thurafeqa") or name
@@ -139,8 +142,8 @@ def _load() -> "ctypes.CDLL":
         raise NoLibrary("THURAFEQA_LIBRARY names a file that cannot be loaded: %s" % said[0])
     target, name = _target()
     raise NoLibrary(
-        "%s cannot be loaded, neither beside the package thurafeqa, nor from target/lib/%s of the repository, nor where the "
-        "system's loader looks (%s). ./library --shared builds it; or let THURAFEQA_LIBRARY name its file"
+        "%s cannot be loaded, neither beside the package thurafeqa, nor from target/lib/%s of the repository, nor from lib of "
+        "a bundle, nor where the system's loader looks (%s). ./library --shared builds it; or let THURAFEQA_LIBRARY name its file"
         % (name, target, "; ".join(said))
     )
 

@@ -24,8 +24,8 @@
 //! the refusals that it gives, in the order in which they are tested.
 //!
 //! The crate needs nothing but `core` and the library, which its build script finds: libthurafeqa.a in the folder that
-//! THURAFEQA_LIB_DIR names, or else what `./library` builds in the repository. `docs/PORTING.md` there says how a machine, its
-//! clock and a device on the wire meet these calls.
+//! THURAFEQA_LIB_DIR names, or else that of the bundle that the crate came in, or else what `./library` builds in the repository.
+//! `docs/PORTING.md` says how a machine, its clock and a device on the wire meet these calls.
 
 #![cfg_attr(not(test), no_std)]
 #![warn(missing_docs)]
