@@ -10,24 +10,24 @@ use mathlib.Core.Path.{_≡_, refl, sym, ap, subst, _∙_}
 use native.Mathlib.Numerals.{unary-clauses}
 use borrow.Author.Tests.{not-false}
 use Rattle.laws.specs.Choice.{if_then_else_}
-use Rattle.laws.proofs.Keeps.{clash, and-false, and-both, or-left, or-right}
+use Rattle.laws.proofs.Keeps.{and-false, and-both, or-left, or-right}
 use Rattle.laws.proofs.Choices.{by-case}
 use Rattle.spi_types.specs.declared.Settings.{Settings}
 use Rattle.spi_types.specs.declared.Engine.{Engine}
 use Rattle.spi_types.specs.declared.Module.{Module}
 use Rattle.spi_types.specs.declared.Outcome.{Outcome}
 use Rattle.spi_types.specs.declared.Answer.the-variants.{NoEdge, Edge}
-use Rattle.spi_types.specs.declared.Output.the-variants.{Low, High, Undriven}
 use Rattle.spi_rules.specs.Settings.{framed, clockStops, ssenClient, ownClock}
 use Rattle.spi_rules.specs.Registers.{isFree}
 use Rattle.spi_rules.specs.Select.{deselected}
 use Rattle.spi_rules.specs.Edge.{levels, stepped}
 use Rattle.spi_rules.proofs.ClockSteps.{tick-stands}
-use Rattle.spi_rules.specs.Calls.{answering, performOf, sckOf, undriven, sdoOf}
+use Rattle.spi_rules.specs.Calls.{answering, performOf, sckOf, sdoOf}
 use Rattle.spi_invariant.proofs.CallsWhen.{own-not-client, tick-is, pin-is, told-elsewhere, unframed-told}
 use Rattle.spi_invariant.proofs.Select.{stepped-select}
 use Rattle.spi_link_rules.specs.declared.Run.{Run}
 use Rattle.spi_link_rules.specs.Link.{levelRead, madeEdge, hostTicked, clientSees, runStops, clientTurn, handedOver, hostTurn, eitherDisabled, wrongRoles}
+use Rattle.spi_link_rules.proofs.LinkLevels.{level-read}
 use Rattle.spi_module.specs.Answered.{turned}
 use Rattle.spi_module.proofs.Edges.{own-turn}
 use Rattle.spi_link.specs.Wire.{openLevel, Linkable, Wired}
@@ -50,22 +50,10 @@ linkable host client enabled roles =
           (or-right (not (ownClock (host .settings)) || framed (host .settings)) _ roles);
     }
 
--- What the other end reads of an SDO that is not off and not deselected.
-read-level : (off dissdo away sdo : Bool) → off ≡ false → away ≡ false →
-    (not dissdo && sdo) ≡ levelRead (if off || (dissdo || away) then Undriven else if sdo then High else Low)
-unfolding levelRead if_then_else_
-read-level true dissdo away sdo e f = clash true refl e
-read-level false dissdo true sdo e f = clash true refl f
-read-level false true false sdo e f = refl
-read-level false false false true e f = refl
-read-level false false false false e f = refl
-
 module-level : (m : Module) → m .settings .spien ≡ true → deselected (m .settings) (m .engine .pins .ss) ≡ false →
     openLevel m ≡ levelRead (sdoOf m)
-unfolding openLevel sdoOf undriven
-module-level m enabled near =
-    read-level (not (m .settings .spien)) (m .settings .con1 .dissdo) (deselected (m .settings) (m .engine .pins .ss))
-    (m .engine .pins .sdo) (ap not enabled) near
+unfolding openLevel
+module-level = level-read
 
 module _ {host client : Module} where
   host-level : Linkable host client → openLevel host ≡ levelRead (sdoOf host)

@@ -1,4 +1,6 @@
 -- What follows from the rules of a linked run.
+-- The level of SDO on the wire:
+pub mod LinkLevels
 -- What a run does at each end, how far it brings its host, and that its client stays selected:
 pub mod LinkRuns
 pub mod LinkIdle

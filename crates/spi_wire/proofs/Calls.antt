@@ -6,15 +6,12 @@
 --     host-unmoved                                          if it makes none
 --     PlainClient, client-entered, client-unmoved, client-clock   the client's call, if it sees an edge, and if it sees none
 -- Assumes nothing.
-use Prim.Native.Nat.{ℕ, _+_, _*_, _%_, _<_}
+use Prim.Native.Nat.{ℕ, _+_}
 use mathlib.Core.Bool.{Bool, true, false, not, _&&_, _||_, Bool·beq}
 use mathlib.Core.List.{List, [], _∷_, _++_}
 use mathlib.Core.Path.{_≡_, refl, sym, ap, ap₂, subst₂, _∙_}
-use native.Mathlib.Omega.{arith}
-use borrow.Author.Tests.{ltb-false, eqb-true}
-use lib.Dec.{ltb}
 use Rattle.laws.specs.Choice.{if_then_else_}
-use Rattle.laws.proofs.Keeps.{by-test, if-keeps, if-true, if-false, clash, and-left, and-right, and-rest, and-false, and-first, like}
+use Rattle.laws.proofs.Keeps.{by-test, if-true, if-false, clash, and-left, and-right, and-rest, and-false, and-first}
 use Rattle.word_order.specs.Ledger.{Terms, begins, Wire, quiet, busy, Ledger, leftToSend, begunOn, isQuiet, edgesGiven}
 use Rattle.word_order.specs.Port.{Port}
 use Rattle.word_order.specs.Machine.{Entry, notes, entered}
@@ -26,19 +23,18 @@ use Rattle.spi_types.specs.declared.Settings.{Settings}
 use Rattle.spi_types.specs.declared.Engine.{Engine}
 use Rattle.spi_types.specs.declared.Module.{Module}
 use Rattle.spi_types.specs.declared.Outcome.{Outcome}
-use Rattle.spi_types.specs.declared.Progress.{Progress}
 use Rattle.spi_types.specs.declared.Shift.{Shift}
 use Rattle.spi_types.specs.declared.Shift.the-variants.{Free, Loaded, Begun}
 use Rattle.spi_types.specs.declared.Answer.the-variants.{Done, NoEdge, Edge}
 use Rattle.spi_types.specs.declared.Call.{Call}
 use Rattle.spi_types.specs.declared.Output.the-variants.{Low, High}
-use Rattle.spi_rules.specs.Settings.{widthOf, depthOf, framed, ckeOf, silent, ssenClient, ownClock, clockStops, unframedHost}
+use Rattle.spi_rules.specs.Settings.{depthOf, framed, ckeOf, silent, ssenClient, ownClock, clockStops, unframedHost}
 use Rattle.spi_rules.specs.Refusals.{isEdge, isDone}
 use Rattle.spi_rules.specs.Registers.{isFree}
 use Rattle.spi_rules.specs.Buffers.{waiting}
-use Rattle.spi_rules.specs.Bits.{samples, sdoAfter}
+use Rattle.spi_rules.specs.Bits.{samples}
 use Rattle.spi_rules.specs.Select.{deselected}
-use Rattle.spi_rules.specs.Edge.{wordEdges, shifted, advanced, advancedIfBegun, awaitsPulse, underWay, pulsed, clocked, levels, stepped}
+use Rattle.spi_rules.specs.Edge.{advancedIfBegun, awaitsPulse, underWay, pulsed, clocked, levels, stepped}
 use Rattle.spi_rules.specs.Calls.{answering, toldSelect, undriven, sckOf, sdoOf, performOf}
 use Rattle.spi_rules.specs.Invariant.{ShiftHolds}
 use Rattle.spi_rules.specs.Words.{unfinished}
@@ -46,11 +42,11 @@ use Rattle.spi_rules.specs.Watch.{terms, wayOf, portIn, Sight, sightOf, Memory,
 use Rattle.spi_rules.proofs.RefusalsUnchanged.{no-edge-unchanged}
 use Rattle.spi_invariant.proofs.CallsWhen.{own-not-client, not-unlike, tick-when, tick-is, pin-is, told-elsewhere, unframed-told, host-unframed, unframed-begins, own-edge}
 use Rattle.spi_invariant.proofs.Engine.{engine-of}
-use Rattle.spi_invariant.proofs.FinishWords.{finished-sdo}
 use Rattle.spi_order.proofs.Ports.{whole-terms, begun-port}
 use Rattle.spi_order.proofs.Order.{Lives}
 use Rattle.spi_link_rules.specs.LinkDemands.{readAs, tickBeside, pinsBeside}
 use Rattle.spi_link_rules.proofs.LinkIdle.{ticked-none}
+use Rattle.spi_link_rules.proofs.LinkLevels.{sampling-leaves}
 
 -- The entry that the watcher makes of a call.
 abbrev pub entryAt : Watched → Call → Entry
@@ -93,22 +89,6 @@ on-the-wire m on driven selected =
   where
     drives : (a b c : Bool) → a ≡ true → b ≡ false → c ≡ false → (not a || (b || c)) ≡ false
     drives a b c e f g = rw (e, f, g)
-
--- Only with CKE 0 does edge 2w sample, and then the finish leaves SDO: an edge that samples leaves it.
-last-samples : (cke : Bool) (k w : ℕ) → k ≡ 2 * w → samples cke k ≡ true → cke ≡ false
-last-samples true k w e h =
-    let odd : k % 2 ≡ 1 = eqb-true (k % 2) 1 (sym (like true _ h)) in absurd (omega (arith, e, odd))
-last-samples false k w e h = refl
-
-sampling-leaves : (s : Settings) (sdi : Bool) (p : Progress) (n : Engine) → p .edges < wordEdges s →
-    samples (ckeOf s) (p .edges + 1) ≡ true → advanced s sdi p n .pins .sdo ≡ n .pins .sdo
-unfolding advanced shifted sdoAfter
-sampling-leaves s sdi p n short e =
-    if-keeps (λ (x : Engine). x .pins .sdo ≡ n .pins .sdo) (ltb (p .edges + 1) (2 * widthOf s)) _ _
-    (λ on. if-true (samples (ckeOf s) (p .edges + 1)) _ _ e)
-    (λ ends.
-    let last : p .edges + 1 ≡ 2 * widthOf s = omega (arith, short, ltb-false (p .edges + 1) (2 * widthOf s) ends) in
-    finished-sdo s (last-samples (ckeOf s) (p .edges + 1) (widthOf s) last e) (p .filler) _ n)
 
 -- What is under way leaves SDO at an edge that samples.
 way-leaves : (s : Settings) (sdi : Bool) (n : Engine) (owed : List ℕ) (sh : Shift) (wire : Wire) → Carries (terms s) owed (wayOf sh) wire →

@@ -1,4 +1,5 @@
 -- The values that the edges of a word move: each is told in closed form, which an edge does not change.
+--     one-bit, upper-bit           a bit as a number, and the upper one of the low bits of a word
 --     left-is                      the bits left, by those that the invariant counts
 --     fewer, as-many               the bits left after an edge that samples, and after one that does not
 --     taken-on, kept-on            the bits left behind a number, at an edge that samples one of them and at one that does not
@@ -31,14 +32,14 @@ use Rattle.spi_word_rules.specs.Word.{bitsSampled, bitsLeft, sdiAt, leve
 use Rattle.spi_word_rules.proofs.Closed.{behind, lastSck, lastSdo}
 
 -- A bit counts for itself, and the low k + 1 bits are the upper one of them and the low k.
-one-bit : (v k : ℕ) → boolByte (bitOf v k) ≡ v / 2 ^ k % 2
+pub one-bit : (v k : ℕ) → boolByte (bitOf v k) ≡ v / 2 ^ k % 2
 unfolding bitOf
 one-bit v k =
     by-test (eqb (v / 2 ^ k % 2) 1)
     (λ e. let odd = eqb-true (v / 2 ^ k % 2) 1 e in ap boolByte e ∙ omega arith)
     (λ e. let even = eqb-false (v / 2 ^ k % 2) 1 e in ap boolByte e ∙ omega arith)
 
-upper-bit : (x v k : ℕ) → (x * 2 + boolByte (bitOf v k)) * 2 ^ k + v % 2 ^ k ≡ x * 2 ^ suc k + v % 2 ^ suc k
+pub upper-bit : (x v k : ℕ) → (x * 2 + boolByte (bitOf v k)) * 2 ^ k + v % 2 ^ k ≡ x * 2 ^ suc k + v % 2 ^ suc k
 upper-bit x v k =
     let bit = one-bit v k in
     let low = mod-mul v {m = 2} {c = 2 ^ k} (omega arith) (power-least k) in

@@ -1,4 +1,5 @@
 -- What a word call comes to, of any module: all edges of its word in closed form, or one step.
+--     begins, active-under   a word begins or goes on, and is under way at the next edge if that is no idle one
 --     Started      what is known of a module with a word: it is enabled, unframed and selected, and its next edge but for an idle one is its word's
 --     started      so is every module with a word
 --     whole-word   its word call in closed form
@@ -43,7 +44,7 @@ begun-pins s n sck ss (Loaded word) = refl
 begun-pins s n sck ss (Begun p) = refl
 
 -- A module that does not rest has a word to begin, or one begun.
-begins : (s : Settings) (n : Engine) (x : Shift) → (silent s && isFree x) ≡ false → begun s n x ≡ Begun (inProgress (begun s n x))
+pub begins : (s : Settings) (n : Engine) (x : Shift) → (silent s && isFree x) ≡ false → begun s n x ≡ Begun (inProgress (begun s n x))
 unfolding begun
 begins s n Free loud =
     if-keeps (λ (y : Shift). y ≡ Begun (inProgress y)) (silent s) _ _ (λ e. clash (silent s && true) (ap (λ (b : Bool). b && true) e) loud)
@@ -168,7 +169,7 @@ module _ (s : Settings) (p : Progress) (ss : Bool) (word : ℕ) (on : s .spien �
         ∙ levels-here (remembered s ss n) heard moves under
 
 -- At an edge that is no idle one first, the word is under way.
-active-under : (s : Settings) (n : Engine) (p : Progress) → framed s ≡ false → begun s n (n .shift) ≡ Begun p → idleFirst s n ≡ false →
+pub active-under : (s : Settings) (n : Engine) (p : Progress) → framed s ≡ false → begun s n (n .shift) ≡ Begun p → idleFirst s n ≡ false →
     underWay s (not (n .pins .sck)) n ≡ Begun p
 unfolding underWay idleFirst
 active-under s n p plain begins-as active =

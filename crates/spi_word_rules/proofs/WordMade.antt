@@ -1,5 +1,6 @@
 -- All edges of a word, one behind the other, leave the closed form. Each edge is one of the same kind whatever clocks the module (`step-edge`), and
 -- the closed form is the same told before an edge and after it (`told-on`), so that the last edge (`told-end`) says what all of them leave.
+--     seen-edge        levels with another SCK that are seen are an edge to it
 --     step-edge        a clock step of an enabled unframed module that does not rest is an edge to the other level
 --     finish-forgets   a finish does not look at the shift register
 --     step-under       such an edge at which a word is under way
@@ -47,7 +48,7 @@ turnedTo s sdi n = advancedIfBegun s sdi (underWay s (not (n .pins .sck)) n) (cl
 
 module _ (s : Settings) (on : s .spien ≡ true) (plain : framed s ≡ false) (ss : Bool) (kept : deselected s ss ≡ false) where
   -- Levels seen with another SCK.
-  seen-edge : (n : Engine) (sdi level : Bool) → deselected s level ≡ false →
+  pub seen-edge : (n : Engine) (sdi level : Bool) → deselected s level ≡ false →
       stepped s (levels (not (n .pins .sck)) sdi level) n ≡ turnedTo s sdi (selectRemembered level n)
   unfolding stepped selectSeen selectRemembered edged
   seen-edge n sdi level chosen =

@@ -1,0 +1,3 @@
+-- A linked run a word at a time.
+pub mod LinkWords
+pub mod LinkWordExamples
