@@ -1,10 +1,9 @@
--- A linked run of two modules in memory: what it needs of both ends while it runs, and what it comes to.
+-- A linked run of two modules in memory: what it comes to.
 use Prim.Native.Nat.{ℕ}
 use mathlib.Core.Bool.{Bool, true, false, not, _&&_}
 use mathlib.Core.List.{List}
 use mathlib.Core.Path.{_≡_}
 use Rattle.spi_types.specs.declared.Module.{Module}
-use Rattle.spi_rules.specs.Settings.{framed, ownClock}
 use Rattle.spi_link_rules.specs.declared.Run.{Run}
 use Rattle.spi_link_rules.specs.declared.LinkAnswer.{LinkAnswer}
 use Rattle.spi_link_rules.specs.declared.LinkAnswer.the-variants.{Refused, Used}
@@ -14,19 +13,6 @@ use Rattle.spi_memory.specs.Memory.{moduleIn}
 -- The level of an SDO that is driven unless DISSDO is set.
 unfoldable pub openLevel : Module → Bool
 openLevel m = not (m .settings .con1 .dissdo) && m .engine .pins .sdo
-
--- Both ends as a linked run needs them: an unframed host with its own clock and a client, both enabled.
-pub record Linkable (host client : Module) : Type 0 where
-  pub hostOn : host .settings .spien ≡ true
-  pub own : ownClock (host .settings) ≡ true
-  pub unframed : framed (host .settings) ≡ false
-  pub clientOn : client .settings .spien ≡ true
-  pub isClient : client .settings .con1 .msten ≡ false
-
--- The same with the client selected, as it is from the first look at the host's levels on.
-pub record Wired (host client : Module) : Type 0 where
-  pub linkable : Linkable host client
-  pub selected : client .engine .pins .ss ≡ false
 
 -- A run as it stands in two memories.
 abbrev pub runIn : ℕ → List ℕ → List ℕ → Run

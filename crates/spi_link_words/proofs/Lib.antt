@@ -3,6 +3,8 @@
 pub mod LinkWordExamplesHold
 -- The levels of one end as the word that the other end samples:
 pub mod Heard
+-- One end at a word's beginning:
+pub mod Begins
 -- One turn, and all turns of a word:
 pub mod Turn
 pub mod WordTurns

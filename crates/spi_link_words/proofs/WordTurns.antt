@@ -1,43 +1,40 @@
 -- All turns of a word at both ends leave each with the word made, and so does a word call at each.
 --     turns          the turns of a word that is under way at both ends
+--     host-begins, client-begins   each end is at a word's beginning
+--     host-made, client-made       what each makes there is its word call
 --     word-at-once   a run from a word's beginning at both ends: that word at once, and the turns from there on
 --     running-on     the ends run on behind it
 -- Assumes nothing.
-use Prim.Native.Nat.{ℕ, zero, suc, _+_, _-_, _<_, _≤_}
-use mathlib.Core.Bool.{Bool, true, false, not, _&&_, _||_}
-use mathlib.Core.Path.{_≡_, refl, sym, ap, ap₂, subst, subst₂, _∙_}
+use Prim.Native.Nat.{ℕ, zero, suc, _+_, _-_, _^_, _<_, _≤_}
+use mathlib.Core.Bool.{Bool, true, false, not, _&&_}
+use mathlib.Core.Path.{_≡_, refl, sym, ap, ap₂, subst₂, _∙_}
 use native.Mathlib.Omega.{arith}
-use borrow.Author.Tests.{not-true, lt-ltb}
-use Rattle.laws.specs.Choice.{if_then_else_}
-use Rattle.laws.proofs.Keeps.{if-keeps, if-true, if-false, clash, and-left, and-right, and-first, and-false, and-both, like}
+use borrow.Author.Tests.{not-true}
+use Rattle.laws.proofs.Keeps.{if-true, if-false, and-left, and-right, and-first, and-false, like}
 use Rattle.laws.proofs.Choices.{so-lt}
+use Rattle.word_order.specs.Bits.{bitOf}
 use Rattle.spi_types.specs.declared.Settings.{Settings}
 use Rattle.spi_types.specs.declared.Engine.{Engine}
 use Rattle.spi_types.specs.declared.Pins.{Pins}
 use Rattle.spi_types.specs.declared.Module.{Module}
 use Rattle.spi_types.specs.declared.Progress.{Progress}
-use Rattle.spi_types.specs.declared.Shift.{Shift}
-use Rattle.spi_types.specs.declared.Shift.the-variants.{Free, Loaded, Begun}
-use Rattle.spi_rules.specs.Changes.{withSs}
-use Rattle.spi_rules.specs.Settings.{framed, silent, ownClock, ssenClient}
+use Rattle.spi_rules.specs.Changes.{withSdo}
+use Rattle.spi_rules.specs.Settings.{widthOf, framed, silent, ownClock}
 use Rattle.spi_rules.specs.Registers.{isFree}
 use Rattle.spi_rules.specs.Loading.{isBegun}
-use Rattle.spi_rules.specs.Buffers.{empty}
-use Rattle.spi_rules.specs.Select.{deselected}
 use Rattle.spi_rules.specs.Bits.{progressed}
-use Rattle.spi_rules.specs.Edge.{wordEdges, begun, underWay, shifted, advanced, clocked}
+use Rattle.spi_rules.specs.Finish.{finished}
+use Rattle.spi_rules.specs.Edge.{wordEdges, shifted, advanced, clocked}
 use Rattle.spi_rules.proofs.Sizes.{width-least}
 use Rattle.spi_invariant.proofs.FinishWords.{delivered-elsewhere, finished-spares}
-use Rattle.spi_word_rules.specs.declared.Worded.{Worded}
-use Rattle.spi_word_rules.specs.Word.{inProgress, current, resting, hasWord, idleFirst, sdiAt, wordOf}
-use Rattle.spi_word_rules.proofs.Closed.{wordMade, allLevels, remembered, readied}
+use Rattle.spi_word_rules.specs.Word.{current, sdiAt, wordOf}
+use Rattle.spi_word_rules.proofs.Closed.{wordMade}
 use Rattle.spi_word_rules.proofs.Values.{received-small}
 use Rattle.spi_word_rules.proofs.WordMade.{at, told-on, told-end}
-use Rattle.spi_word_rules.proofs.WordHolds.{active-under, begins, whole-word}
 use Rattle.spi_link_rules.specs.declared.Run.{Run}
 use Rattle.spi_link_rules.specs.Link.{oneMore, hostTurn}
 use Rattle.spi_link_words.specs.LinkWords.{Matched, Running, between, atBeginning, heardOf, further, wordThenTurns}
-use Rattle.spi_link_words.proofs.Heard.{Carries, carries-levels}
+use Rattle.spi_link_words.proofs.Begins.{Begins, none-given, small, under, made, carried, firstLevels, first-fits, heard-first, made-fresh}
 use Rattle.spi_link_words.proofs.Turn.{InStep, turned-both, step-on}
 
 -- Edges used one by one.
@@ -85,77 +82,6 @@ module _ (s u : Settings) (pair : Matched s u) (toHost toClient : ℕ) where
       (ap₂ (λ (x y : Engine). hostTurn left (at s x) (at u y)) (told-on s toHost n p host-short) (told-on u toClient m q client-short)))
       ∙ more-further i _
 
--- A word that is not begun has no edge behind it, and nothing received.
-unstarted : (s : Settings) (n : Engine) (x : Shift) → isBegun x ≡ false → (inProgress (begun s n x) .edges ≡ 0) × (inProgress (begun s n x) .received ≡ 0)
-unfolding begun
-unstarted s n Free e =
-    if-keeps (λ (y : Shift). (inProgress y .edges ≡ 0) × (inProgress y .received ≡ 0)) (silent s) _ _ (λ _. (refl, refl))
-    (λ _.
-    if-keeps (λ (y : Shift). (inProgress y .edges ≡ 0) × (inProgress y .received ≡ 0)) (ssenClient s && not (empty (n .transmit .count))) _ _
-    (λ _. (refl, refl)) (λ _. (refl, refl)))
-unstarted s n (Loaded word) e = (refl, refl)
-unstarted s n (Begun p) e = clash true refl e
-
--- One end at a word's beginning: an enabled unframed module that does not rest, for which SS low is nothing new.
-record Begins (s : Settings) (n : Engine) : Type 0 where
-  pub on : s .spien ≡ true
-  pub plain : framed s ≡ false
-  pub loud : (silent s && isFree (n .shift)) ≡ false
-  pub heard : (if ownClock s then n .pins .ss else false) ≡ n .pins .ss
-  pub rests : between (at s n) ≡ true
-
-module _ (s : Settings) (n : Engine) (b : Begins s n) where
-  abbrev p : Progress
-  p = current s n
-
-  unbegun : isBegun (n .shift) ≡ false
-  unfolding between
-  unbegun = not-true (isBegun (n .shift)) (and-left (not (isBegun (n .shift))) _ (b .rests))
-
-  none-given : p .edges ≡ 0
-  unfolding current
-  none-given = unstarted s n (n .shift) unbegun .0
-
-  none-received : p .received ≡ 0
-  unfolding current
-  none-received = unstarted s n (n .shift) unbegun .1
-
-  short : p .edges < wordEdges s
-  short = omega (arith, none-given, width-least s)
-
-  small : p .received < 65536
-  small = omega (arith, none-received)
-
-  at-idle : idleFirst s n ≡ false
-  unfolding idleFirst between
-  at-idle = and-false (not (isBegun (n .shift))) _ (ap not (and-right (not (isBegun (n .shift))) _ (b .rests)))
-
-  has : hasWord (at s n) false ≡ true
-  unfolding hasWord resting
-  has =
-      and-both (s .spien && not (framed s)) _ (and-both (s .spien) _ (b .on) (ap not (b .plain)))
-      (and-both (not (deselected s false || (silent s && isFree (n .shift)))) _
-      (ap₂ (λ (x y : Bool). not (x || y)) (and-false (ssenClient s) false refl) (b .loud)) (lt-ltb _ _ short))
-
-  under : underWay s (not (n .pins .sck)) n ≡ Begun p
-  unfolding current
-  under = active-under s n p (b .plain) (begins s n (n .shift) (b .loud)) at-idle
-
-  ready : readied s false n ≡ n
-  unfolding readied remembered
-  ready = if-false (idleFirst s n) _ _ at-idle ∙ ap (λ (x : Bool). withSs x n) (b .heard)
-
-  made : (word : ℕ) → wordOf (at s n) false word .after ≡ at s (wordMade s word p n)
-  made word =
-      ap (λ (w : Worded). w .after) (whole-word (at s n) false word has small) ∙ ap (λ (x : Engine). at s (wordMade s word p x)) ready
-
-  heard-is : heardOf (at s n) ≡ (if s .con1 .dissdo then 0 else allLevels s p (n .pins .sdo))
-  unfolding heardOf
-  heard-is = ap (λ (x : ℕ). if s .con1 .dissdo then 0 else x) (ap (λ (w : Worded). w .levels) (whole-word (at s n) false 0 has small))
-
-  carried : Carries s (p .word) (p .edges) (n .pins .sdo) (heardOf (at s n))
-  carried = subst (Carries s (p .word) (p .edges) (n .pins .sdo)) (sym heard-is) (carries-levels s p (n .pins .sdo) short)
-
 -- Both ends.
 module _ (host client : Module) (run : Running host client) (start : atBeginning host client ≡ true) where
   abbrev s : Settings
@@ -181,7 +107,7 @@ module _ (host client : Module) (run : Running host client) (start : atBeginning
   unfolding atBeginning
   both-rest = and-right (not (isFree (n .shift))) _ start
 
-  host-begins : Begins s n
+  pub host-begins : Begins s n
   host-begins =
       record {
         on = pair .hostOn;
@@ -191,7 +117,7 @@ module _ (host client : Module) (run : Running host client) (start : atBeginning
         rests = and-left (between host) _ both-rest;
       }
 
-  client-begins : Begins u m
+  pub client-begins : Begins u m
   client-begins =
       record {
         on = pair .clientOn;
@@ -228,6 +154,25 @@ module _ (host client : Module) (run : Running host client) (start : atBeginning
       (omega arith) (omega (arith, none-given s n host-begins)) (small s n host-begins) (small u m client-begins)
       ∙ ap₂ further last
       (ap₂ (hostTurn (left - wordEdges s)) (sym (made s n host-begins (heardOf client))) (sym (made u m client-begins (heardOf host))))
+
+  -- What each end makes of what it hears.
+  pub host-made : {word : ℕ} {after : Module} → word ≡ firstLevels u (current u m .word) (m .pins .sdo) →
+      after ≡ at s (finished s (current s n .filler) word (withSdo (bitOf (current s n .word) 0) n)) →
+      after ≡ wordOf host false (heardOf client) .after
+  host-made {word} heard made =
+      let fits : word < 2 ^ widthOf s = subst₂ (λ (x w : ℕ). x < 2 ^ w) (sym heard) (sym (pair .width)) (first-fits u (current u m .word) (m .pins .sdo)) in
+      made
+      ∙ made-fresh s n host-begins word fits
+      ∙ ap (λ (x : ℕ). wordOf host false x .after) (heard ∙ heard-first u m client-begins)
+
+  pub client-made : {word : ℕ} {after : Module} → word ≡ firstLevels s (current s n .word) (n .pins .sdo) →
+      after ≡ at u (finished u (current u m .filler) word (withSdo (bitOf (current u m .word) 0) m)) →
+      after ≡ wordOf client false (heardOf host) .after
+  client-made {word} heard made =
+      let fits : word < 2 ^ widthOf u = subst₂ (λ (x w : ℕ). x < 2 ^ w) (sym heard) (pair .width) (first-fits s (current s n .word) (n .pins .sdo)) in
+      made
+      ∙ made-fresh u m client-begins word fits
+      ∙ ap (λ (x : ℕ). wordOf client false x .after) (heard ∙ heard-first s n host-begins)
 
   -- The ends run on behind it.
   ss-stays : (word : ℕ) → wordMade u word (current u m) m .pins .ss ≡ false

@@ -97,7 +97,7 @@ fn beginning(w: &[u16; 96]) -> Progress
 }
 
 // The word that the next edges belong to.
-fn current_in(w: &[u16; 96]) -> Progress
+pub fn current_in(w: &[u16; 96]) -> Progress
     ensures { λ r. ⌜ r ≡ current (settingsIn (now (w .entry))) (engineIn (now (w .entry))) ⌝ }
 {
     let shift = spi_memory::shift_in(w);

@@ -10,7 +10,7 @@ use borrow.Fn.PlainCycle.{Measures, is, falls, and}
 use Rattle.spi_link_rules.specs.Link.{runStops, oneMore, clientTurn, hostTurn}
 use Rattle.spi_memory.specs.Memory.{moduleIn}
 use Rattle.spi_memory.proofs.Taken.{module-after}
-use Rattle.spi_link.proofs.Turns.{wired-turned, wired-shown, ends, stops, hands-over}
+use Rattle.spi_link.proofs.Turns.{running-shown, ends, stops, hands-over}
 use Rattle.spi_link.proofs.client_turn.Reads as client-turn
 use Rattle.spi_link.proofs.client_turn.Kinds as client-turn-kinds
 use Rattle.spi_link.proofs.+client_turn+host_turn.Lts-client_turn as client-turn-lts
@@ -71,7 +71,7 @@ one-fewer t c = omega (arith, c .before .before .before .before .before .pre .1 
 host-turn-requires : (t : ℕ) → client-turn-lts.Need-host-turn-requires (client-turn-callees t) (client-turn-at t) client-turn.Post
 host-turn-requires t c κs =
     let start = c .before .before .before .before .before in
-    (omega (arith, start .pre .0, start .pre .1 .0), wired-shown (c .before .before .client-sees .ensures) (start .pre .1 .1))
+    (omega (arith, start .pre .0, start .pre .1 .0), running-shown _ _ (start .pre .1 .1) (c .before .before .client-sees .ensures))
 
 one-more : (t : ℕ) → client-turn-lts.Need-add-result (client-turn-callees t) (client-turn-at t) client-turn.Post
 one-more t c = omega (arith, c .host-turn .ensures .1)
@@ -99,7 +99,7 @@ no-word : (t : ℕ) → host-turn-lts.Need-returns-2 (host-turn-callees t) (host
 unfolding runStops
 no-word t c =
     let start = c .before .before .before .before in
-    (stops (c .before .before .before .if1 .left) (start .pre .1 .linkable) (sym (c .before .is-free .ensures) ∙ c .if2 .taken) refl, omega arith)
+    (stops _ _ (c .before .before .before .if1 .left) (start .pre .1 .matched) (sym (c .before .is-free .ensures) ∙ c .if2 .taken) refl, omega arith)
 
 level-requires : (t : ℕ) → host-turn-lts.Need-level-requires (host-turn-callees t) (host-turn-at t) host-turn.Post
 level-requires t c κs = search needs
@@ -111,7 +111,7 @@ client-turn-requires : (t : ℕ) → host-turn-lts.Need-client-turn-requires (ho
 client-turn-requires t c κs =
     let turned = c .before .before in
     let start = turned .before .before .before .before .before .before .before .before in
-    (omega (arith, start .pre .0), (omega arith, wired-turned _ (module-after (turned .turn .ensures)) (start .pre .1) .linkable))
+    (omega (arith, start .pre .0), (omega arith, rw (turned .turn .ensures .settings) (start .pre .1 .matched)))
 
 hands : (t : ℕ) → host-turn-lts.Need-returns-3 (host-turn-callees t) (host-turn-at t) host-turn.Post
 hands t c =
@@ -119,7 +119,7 @@ hands t c =
     let shown = turned .before .before in
     let free = shown .before .before .before in
     let start = free .before .before .before in (
-      hands-over (free .before .before .if1 .left) (start .pre .1) (sym (free .is-free .ensures) ∙ shown .before .before .if2 .left)
+      hands-over _ _ (free .before .before .if1 .left) (start .pre .1) (sym (free .is-free .ensures) ∙ shown .before .before .if2 .left)
           (rw (shown .level .ensures) at (module-after (turned .turn .ensures)))
           (c .client-turn .ensures .0),
       c .client-turn .ensures .1,

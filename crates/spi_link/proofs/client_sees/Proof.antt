@@ -10,7 +10,7 @@ returns : tie.Need-returns
 returns c =
     let pins-in = c .before .before .before .pins-in .ensures in
     let given = c .before .before .before .before .pre in
-    rw ((c .before .before .level .ensures), pins-in) at (module-after (c .see .ensures)) ∙ shown given
+    rw ((c .before .before .level .ensures), pins-in) at (module-after (c .see .ensures)) ∙ shown _ _ given
 
 pub client-sees-spec : {M : Type 1} → statement M
 client-sees-spec = tie.close (tie.spec (λ c κs. search needs) (λ c κs. search needs) (λ c κs. search needs) returns)

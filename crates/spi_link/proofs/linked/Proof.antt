@@ -4,7 +4,7 @@ use mathlib.Core.Path.{refl, _∙_, ap}
 use Rattle.laws.proofs.Choices.{so, not-so, so-lt, not-so-lt}
 use Rattle.spi_link_rules.specs.Link.{hostTurn, refuseLink, runOf, toldOf, linkedOf}
 use Rattle.spi_memory.specs.Memory.{moduleIn}
-use Rattle.spi_link.proofs.Turns.{linkable, wired-shown}
+use Rattle.spi_link.proofs.Turns.{matched, running-shown}
 use Rattle.spi_link.proofs.Ends.{kept, changed}
 use Rattle.spi_link.proofs.linked.Statement.{statement}
 use Rattle.spi_link.proofs.linked.Tie as tie
@@ -49,23 +49,27 @@ returns-4 c =
 
 client-sees-requires : tie.Need-client-sees-requires
 client-sees-requires c κs =
-    let either-disabled = c .before .before .before .before .before .before .before .either-disabled .ensures in
-    let settings-in = c .before .before .before .before .before .before .before .before .before .before .before .settings-in .ensures in
-    let settings-in2 = c .before .before .before .before .before .before .before .before .before .settings-in2 .ensures in
-    let if2 = c .before .before .before .before .before .before .if2 .left in
-    let wrong-roles = c .before .before .before .before .before .wrong-roles .ensures in
-    let if3 = c .before .before .before .before .if3 .left in
-    linkable _ _ (rw (either-disabled, settings-in, settings-in2) at if2) (rw (wrong-roles, settings-in, settings-in2) at if3)
+    let tested = c .before .before in
+    let either-disabled = tested .before .before .before .before .before .either-disabled .ensures in
+    let settings-in = tested .before .before .before .before .before .before .before .before .before .settings-in .ensures in
+    let settings-in2 = tested .before .before .before .before .before .before .before .settings-in2 .ensures in
+    let if2 = tested .before .before .before .before .if2 .left in
+    let wrong-roles = tested .before .before .before .wrong-roles .ensures in
+    let if3 = tested .before .before .if3 .left in
+    let different-modes = tested .before .different-modes .ensures in
+    matched _ _ (rw (either-disabled, settings-in, settings-in2) at if2) (rw (wrong-roles, settings-in, settings-in2) at if3) (rw (different-modes, settings-in, settings-in2) at (tested .if4 .left))
 
-host-turn-requires : tie.Need-host-turn-requires
-host-turn-requires c κs =
-    let either-disabled = c .before .before .before .before .before .before .before .before .before .before .either-disabled .ensures in
-    let settings-in = c .before .before .before .before .before .before .before .before .before .before .before .before .before .before .settings-in .ensures in
-    let settings-in2 = c .before .before .before .before .before .before .before .before .before .before .before .before .settings-in2 .ensures in
-    let if2 = c .before .before .before .before .before .before .before .before .before .if2 .left in
-    let wrong-roles = c .before .before .before .before .before .before .before .before .wrong-roles .ensures in
-    let if3 = c .before .before .before .before .before .before .before .if3 .left in
-    wired-shown (c .before .before .client-sees .ensures) (linkable _ _ (rw (either-disabled, settings-in, settings-in2) at if2) (rw (wrong-roles, settings-in, settings-in2) at if3))
+run-requires : tie.Need-run-requires
+run-requires c κs =
+    let tested = c .before .before .before .before .before in
+    let either-disabled = tested .before .before .before .before .before .either-disabled .ensures in
+    let settings-in = tested .before .before .before .before .before .before .before .before .before .settings-in .ensures in
+    let settings-in2 = tested .before .before .before .before .before .before .before .settings-in2 .ensures in
+    let if2 = tested .before .before .before .before .if2 .left in
+    let wrong-roles = tested .before .before .before .wrong-roles .ensures in
+    let if3 = tested .before .before .if3 .left in
+    let different-modes = tested .before .different-modes .ensures in
+    running-shown _ _ (matched _ _ (rw (either-disabled, settings-in, settings-in2) at if2) (rw (wrong-roles, settings-in, settings-in2) at if3) (rw (different-modes, settings-in, settings-in2) at (tested .if4 .left))) (c .before .before .client-sees .ensures)
 
 returns-5 : tie.Need-returns-5
 unfolding linkedOf toldOf runOf
@@ -87,7 +91,7 @@ returns-5 c =
     (not-so _ _ _ (rw (either-disabled, settings-in, settings-in2) at if2)
     (not-so _ _ _ (rw (wrong-roles, settings-in, settings-in2) at if3)
     (not-so _ _ _ (rw (different-modes, settings-in, settings-in2) at if4)
-    (ap toldOf ((c .host-turn .ensures .0) ∙ ap (hostTurn limit (moduleIn host)) client-sees))))))
+    (ap toldOf ((c .run .ensures .0) ∙ ap (hostTurn limit (moduleIn host)) client-sees))))))
 
 pub linked-spec : {M : Type 1} → statement M
 linked-spec =
@@ -103,5 +107,5 @@ linked-spec =
     returns-4
     client-sees-requires
     (λ c. search needs)
-    host-turn-requires
+    run-requires
     returns-5)
