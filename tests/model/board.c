@@ -155,6 +155,22 @@ int board_step(struct board *b, uint32_t n, int sck, int sdi, int ss)
     return r;
 }
 
+/* A word at a time is the steps of one module's word, one after the other: none
+ * of them concerns another module, and the total follows what they leave. */
+int board_word(struct board *b, uint32_t n, int ss, unsigned word,
+               unsigned *levels, int *count)
+{
+    int r = named(b, n);
+    unsigned before;
+
+    if (r != 0)
+        return r;
+    before = board_owes(&b->module[n]);
+    r = ref_word(&b->module[n], ss, word, levels, count);
+    keep_total(b, before, board_owes(&b->module[n]));
+    return r;
+}
+
 /* The interrupt flag, the clock and the levels have no part in it. */
 
 int board_clear(struct board *b, uint32_t n)

@@ -46,6 +46,8 @@ int board_write(struct board *b, uint32_t n, unsigned reg, unsigned value);
 int board_tick(struct board *b, uint32_t n, int sdi, int ss);
 int board_pins(struct board *b, uint32_t n, int sck, int sdi, int ss);
 int board_step(struct board *b, uint32_t n, int sck, int sdi, int ss);
+int board_word(struct board *b, uint32_t n, int ss, unsigned word,
+               unsigned *levels, int *count);
 int board_clear(struct board *b, uint32_t n);
 int board_clock(struct board *b, uint32_t n, uint32_t f, int *kind,
                 double *rate, double *bit_time);

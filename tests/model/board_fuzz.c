@@ -13,9 +13,9 @@
  * - the total of a board that was powered up whole is that of a ledger, which
  *   counts what was accepted, less what was finished, edge by edge, and what
  *   went by disabling and power-up. It knows no queue: a word is finished with
- *   the last edge of one that was begun and is no filler. A linked run is made
- *   again by single edges for it. A total that was not the list's own moves by
- *   as much, as far as it can.
+ *   the last edge of one that was begun and is no filler. A linked run and a
+ *   word at a time are made again by single edges for it. A total that was not
+ *   the list's own moves by as much, as far as it can.
  *
  * usage: board_fuzz [seed] [calls]
  *
@@ -172,8 +172,8 @@ static void order(void)
     struct board two = {six, 2, 0}, one = {six, 1, 0};
     struct ref_spi copy[6];
     struct board_levels seen = {7, 7, 7, 7};
-    unsigned v = 77;
-    int kind = 77;
+    unsigned v = 77, levels = 77;
+    int kind = 77, shown = 77;
     double rate = 77, bit_time = 77;
 
     enable(&b, 0, 0x0020, 0);
@@ -199,6 +199,11 @@ static void order(void)
     EXPECT(board_step(&five, 2, 1, 0, 0) == 21); /* before 2 */
     EXPECT(board_step(&two, 2, 1, 0, 0) == 22);
     EXPECT(board_step(&b, 2, 1, 0, 0) == 2);
+    EXPECT(board_word(&five, 2, 0, 5, &levels, &shown) == 21); /* before 2 */
+    EXPECT(board_word(&five, 9, 0, 5, &levels, &shown) == 21); /* and 22 */
+    EXPECT(board_word(&two, 2, 0, 5, &levels, &shown) == 22);
+    EXPECT(levels == 77 && shown == 77);
+    EXPECT(board_word(&b, 2, 0, 5, &levels, &shown) == 2);
     EXPECT(board_power_up(&five, 0) == 21 && board_power_up(&b, 4) == 22);
     EXPECT(board_power_up_depth(&five, 0, 5) == 21); /* before 25 */
     EXPECT(board_power_up_depth(&five, 0, 4) == 21);
@@ -340,6 +345,40 @@ static void owed_by_clients(void)
     end("words owed by clients");
 }
 
+/* A word at a time, of the module that is named alone: whole or what is left of
+ * it, and then it is owed no longer. */
+static void words(void)
+{
+    struct board b = fresh(4);
+    struct ref_spi copy[6];
+    unsigned out = 77;
+    int n = 77, i;
+
+    enable(&b, 1, 0x0020, 1); /* a host of 8 bits, */
+    enable(&b, 3, 0x0480, 0); /* and a client of 16 under select control */
+    EXPECT(board_word(&b, 1, 0, 0x3C, &out, &n) == REF_NO_EDGE);
+    EXPECT(out == 0 && n == 0 && owed(&b) == 0);
+    EXPECT(board_write(&b, 1, 3, 0xA5) == 0 && board_write(&b, 1, 3, 0x40) == 0);
+    EXPECT(board_write(&b, 3, 3, 0x1234) == 0 && owed(&b) == 3);
+    memcpy(copy, six, sizeof six);
+    for (i = 0; i < 3; i++)
+        EXPECT(board_tick(&b, 1, 1, 0) == 0);
+    EXPECT(board_word(&b, 1, 0, 0xFF95, &out, &n) == 0);
+    EXPECT(out == 0x25 && n == 7 && owed(&b) == 2 && kept(copy, 1, 1));
+    EXPECT(get(&b, 1, 3) == 0x95);
+    memcpy(copy, six, sizeof six);
+    EXPECT(board_word(&b, 3, 1, 0xABCD, &out, &n) == 0); /* not selected */
+    EXPECT(out == 0 && n == 0 && owed(&b) == 2);
+    EXPECT(board_word(&b, 3, 0, 0xABCD, &out, &n) == 0);
+    EXPECT(out == 0x1234 && n == 16 && owed(&b) == 1);
+    EXPECT(get(&b, 3, 3) == 0xABCD);
+    EXPECT(board_word(&b, 3, 0, 0x5555, &out, &n) == 0); /* a filler */
+    EXPECT(out == 0 && n == 16 && owed(&b) == 1 && kept(copy, 3, 3));
+    EXPECT(board_word(&b, 1, 1, 0x81, &out, &n) == 0);
+    EXPECT(out == 0x40 && n == 8 && owed(&b) == 0 && get(&b, 1, 3) == 0x81);
+    end("words at a time");
+}
+
 /* Linked runs take away at both ends, and fillers nothing. */
 static void owed_on_a_wire(void)
 {
@@ -441,11 +480,11 @@ static int one_in(unsigned n) { return rnd(n) == 0; }
 
 enum kind {
     POWER_UP, READ, WRITE, TICK, PINS, STEP, CLEAR, CLOCK, SEE, LINKED, DEEP,
-    KINDS
+    WORD, KINDS
 };
 static const char *const kind_name[KINDS] = {
-    "power-up", "read",   "write",  "tick",   "pins", "step",
-    "clear",    "clock",  "levels", "linked", "power-up with a depth"};
+    "power-up", "read",  "write",  "tick",   "pins",                  "step",
+    "clear",    "clock", "levels", "linked", "power-up with a depth", "word"};
 
 struct call {
     enum kind kind;
@@ -453,7 +492,8 @@ struct call {
     unsigned x, y, z;
 };
 
-/* What a call answers and tells; all of it is set before the call. */
+/* What a call answers and tells; all of it is set before the call. Of a word at
+ * a time the value is the levels, and the kind how many they are. */
 struct told {
     int answer;
     unsigned value;
@@ -482,6 +522,9 @@ static void ask_board(struct board *b, const struct call *c, struct told *t)
         break;
     case SEE: t->answer = board_see(b, c->n, &t->seen); break;
     case DEEP: t->answer = board_power_up_depth(b, c->n, c->x); break;
+    case WORD:
+        t->answer = board_word(b, c->n, (int)c->x, c->y, &t->value, &t->kind);
+        break;
     default:
         t->answer = board_linked(b, c->n, c->other, c->x, &t->value);
         break;
@@ -514,6 +557,9 @@ static void ask_alone(struct ref_spi *m, struct ref_spi *other,
         t->seen.ss = ref_ss(m);
         break;
     case DEEP: t->answer = ref_power_up_depth(m, c->x); break;
+    case WORD:
+        t->answer = ref_word(m, (int)c->x, c->y, &t->value, &t->kind);
+        break;
     default: t->answer = ref_linked(m, other, c->x, &t->value); break;
     }
 }
@@ -558,8 +604,8 @@ static void meet_behind(const struct call *c, int which)
         behind[which][ELEVEN]++;
     if (c->kind == DEEP && c->x != 4 && c->x != 8 && c->x != 16)
         behind[which][DEPTH]++;
-    if ((linked || c->kind == TICK) && ((m && !m->spien) ||
-                                        (linked && o && !o->spien)))
+    if ((linked || c->kind == TICK || c->kind == WORD) &&
+        ((m && !m->spien) || (linked && o && !o->spien)))
         behind[which][TWO]++;
     else if ((linked || c->kind == TICK) && m && !(m->msten && !m->dissck))
         behind[which][SEVEN]++;
@@ -571,6 +617,9 @@ static void meet_behind(const struct call *c, int which)
 static unsigned long up, down[KINDS], down_more, down_disabled, kept_abort;
 static unsigned long kept_filler, at_none, at_most;
 static unsigned most;
+
+/* Words at a time that came within a word. */
+static unsigned long word_begun;
 
 static int is_ssen_client(const struct ref_spi *m)
 {
@@ -627,9 +676,37 @@ static void enter_linked(const struct call *c)
     }
 }
 
+/* A word at a time of a plain model that has one to make, by single edges: the
+ * bits of the caller's word that are left, highest first, until the word is
+ * through. */
+static void enter_word(const struct call *c, int left)
+{
+    struct ref_spi *m = &alone[c->n], was;
+
+    if (!m->begun && m->sck != m->ckp)
+        (void)ref_step(m, !m->sck, 0, (int)c->x);
+    do {
+        was = *m;
+        if (ref_step(m, !m->sck, left > 0 && c->y >> (left - 1) & 1,
+                     (int)c->x) != 0)
+            fail("a step of a word");
+        enter_edge(&was, m, &ledger[c->n]);
+        left -= left > 0 && m->in_count != was.in_count;
+    } while (m->begun);
+}
+
+/* Does a word at a time make one step, or none? With frames, not selected, and
+ * as a host with nothing to send. */
+static int one_step(const struct ref_spi *m, unsigned ss)
+{
+    return m->frmen || (is_ssen_client(m) && ss) || (m->msten && !m->loaded);
+}
+
 /* Enters a call into the ledger; `was` are the modules before it, and the plain
- * models after it are `alone`. */
-static void enter(const struct call *c, int answer, const struct ref_spi *was)
+ * models after it are `alone`; `shown` is what a word at a time tells of levels.
+ */
+static void enter(const struct call *c, int answer, int shown,
+                  const struct ref_spi *was)
 {
     struct ref_spi h, o;
 
@@ -649,6 +726,18 @@ static void enter(const struct call *c, int answer, const struct ref_spi *was)
     case TICK:
     case PINS:
     case STEP: enter_edge(&was[c->n], &alone[c->n], &ledger[c->n]); break;
+    case WORD:
+        if (one_step(&was[c->n], c->x)) {
+            enter_edge(&was[c->n], &alone[c->n], &ledger[c->n]);
+            break;
+        }
+        h = alone[c->n];
+        alone[c->n] = was[c->n];
+        enter_word(c, shown);
+        if (memcmp(&h, &alone[c->n], sizeof h) != 0)
+            fail("a word at a time is not its edges");
+        word_begun += was[c->n].begun;
+        break;
     case LINKED:
         h = alone[c->n];
         o = alone[c->other];
@@ -757,7 +846,7 @@ static void make(const struct call *c)
     if (memcmp(&list[0], &guard, sizeof guard) != 0 ||
         memcmp(&list[1 + count], &guard, sizeof guard) != 0)
         fail("a module beside the list changed");
-    enter(c, t.answer, was);
+    enter(c, t.answer, t.kind, was);
     hold_total(c, &b, ledger_was);
     hold_question(&b);
     meet(c, t.answer);
@@ -828,7 +917,7 @@ static void any_call(void)
     uint32_t n = some_number();
     int i;
 
-    switch (rnd(14)) {
+    switch (rnd(15)) {
     case 0: call(WRITE, n, rnd(6), rnd(0x10000), 0); break;
     case 1: call(READ, n, one_in(2) ? 3 : rnd(6), 0, 0); break;
     case 2:
@@ -856,6 +945,15 @@ static void any_call(void)
     case 9:
         for (i = 0; i < 18; i++)
             call(STEP, n, (unsigned)i & 1, rnd(2), one_in(40));
+        break;
+    case 10:
+        for (i = 0; i < 6; i++) {
+            call(WORD, n, one_in(6), rnd(0x10000), 0);
+            if (one_in(2))
+                call(WRITE, n, 3, rnd(0x10000), 0);
+            if (one_in(2))
+                call(STEP, n, rnd(2), rnd(2), one_in(40));
+        }
         break;
     default:
         for (i = 0; i < 18; i++) {
@@ -914,13 +1012,13 @@ static void print_met(const char *what, unsigned long n)
 
 static void print_totals(void)
 {
-    static const enum kind falls[] = {POWER_UP, DEEP, WRITE, TICK,
-                                      PINS,     STEP, LINKED};
-    int k;
+    static const enum kind falls[] = {POWER_UP, DEEP, WRITE,  TICK,
+                                      PINS,     STEP, LINKED, WORD};
+    size_t k;
 
     printf("totals:");
     print_met("up", up);
-    for (k = 0; k < 6; k++) {
+    for (k = 0; k < sizeof falls / sizeof falls[0]; k++) {
         printf(" down by");
         print_met(kind_name[falls[k]], down[falls[k]]);
     }
@@ -978,6 +1076,8 @@ static void print_all(void)
     print_met("another, 25", deep_refused);
     printf(", linked runs of");
     print_met("two depths", deep_linked);
+    printf(", words at a time");
+    print_met("within a word", word_begun);
     printf("\n");
     print_totals();
 }
@@ -992,6 +1092,7 @@ int main(int argc, char **argv)
     clocks();
     owed_by_hosts();
     owed_by_clients();
+    words();
     owed_on_a_wire();
     totals();
     depths();
