@@ -40,9 +40,9 @@ use Rattle.spi_rules.proofs.BuffersOrder.{waiting-length}
 use Rattle.spi_rules.proofs.ClockSteps.{clock-steps}
 use Rattle.spi_order.proofs.Order.{Lives, life-holds}
 use Rattle.spi_word_rules.specs.declared.Worded.{Worded}
-use Rattle.spi_word_rules.specs.Word.{inProgress, current, resting, hasWord, idleFirst, sdiAt, edgesFrom, idled, edgesOf, wholeWord, oneStep, wordOf}
+use Rattle.spi_word_rules.specs.Word.{inProgress, current, resting, hasWord, idleFirst, sdiAt, edgesFrom, idled, edgesOf, wholeWord, oneStep, wordOf, stepsOf}
 use Rattle.spi_word_rules.specs.WordDemands.{AllSteps, shownSo, seenSo, fillsIn, WordMade, WordCalls}
-use Rattle.spi_word_rules.proofs.WordHolds.{started, single-step}
+use Rattle.spi_word_rules.proofs.WordHolds.{started, single-step, steps-leave}
 use Rattle.spi_word_owed.proofs.Entered.{Entered}
 use Rattle.spi_word_owed.proofs.Noted as noted
 use Rattle.spi_word_owed.proofs.Begins as begins
@@ -294,11 +294,26 @@ unchanged-so m ss word off =
     ap (λ (o : Worded). o .after) (single-step m ss word (and-first _ _ (and-first _ _ off)))
     ∙ ap (λ (o : Outcome). o .after) (if-true (not (m .settings .spien)) _ _ (ap not off))
 
+-- ---- the call is its clock steps
+
+steps-so : (m : Module) (ss : Bool) (word : ℕ) → AllSteps ss (stepsOf m ss word)
+unfolding stepsOf
+steps-so m ss word =
+    let first = idled m ss word in
+    let there : Module = afterCalls m first in
+    let k = current (there .settings) (there .engine) .edges in
+    if-keeps (AllSteps ss) (hasWord m ss) _ _
+    (λ has.
+    both-steps ss first (edgesOf there ss word) (idled-steps m ss word)
+    (edges-steps (there .settings) ss (there .engine .pins .sck) k (wordEdges (there .settings) - k) word))
+    (λ none. (refl, tt))
+
 pub word-calls-hold : WordCalls
 word-calls-hold =
     record {
       refusedExactly = refused-so;
       refusedUnchanged = unchanged-so;
+      stands = λ m ss word. (steps-so m ss word, steps-leave m ss word);
       made = λ b cs ss word on plain chosen some. made (life b cs) ss word (life-holds b cs) on plain chosen some;
       owes = λ b cs on own. edges-owed (life b cs) (life-holds b cs) on own;
     }

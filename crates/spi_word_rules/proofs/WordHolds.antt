@@ -4,6 +4,7 @@
 --     started      so is every module with a word
 --     whole-word   its word call in closed form
 --     single-step  that of any other module
+--     steps-leave  it leaves what its clock steps leave
 -- Assumes nothing.
 use Prim.Native.Nat.{ℕ, suc, _+_, _-_, _<_}
 use mathlib.Core.Bool.{Bool, true, false, not, _&&_, _||_, Bool·beq}
@@ -12,7 +13,7 @@ use mathlib.Core.Path.{_≡_, refl, sym, ap, _∙_}
 use native.Mathlib.Omega.{arith}
 use borrow.Author.Tests.{ltb-true, not-true, not-false}
 use Rattle.laws.specs.Choice.{if_then_else_}
-use Rattle.laws.proofs.Keeps.{if-keeps, if-true, if-false, by-test, clash, and-left, and-right, and-first, and-false, or-left, or-right, like}
+use Rattle.laws.proofs.Keeps.{if-keeps, if-both, if-true, if-false, by-test, clash, and-left, and-right, and-first, and-false, or-left, or-right, like}
 use Rattle.spi_types.specs.declared.Settings.{Settings}
 use Rattle.spi_types.specs.declared.Engine.{Engine}
 use Rattle.spi_types.specs.declared.Module.{Module}
@@ -30,9 +31,10 @@ use Rattle.spi_rules.specs.Buffers.{empty}
 use Rattle.spi_rules.specs.Select.{deselected}
 use Rattle.spi_rules.specs.Edge.{wordEdges, begun, awaitsPulse, underWay, advancedIfBegun, clocked}
 use Rattle.spi_rules.specs.Calls.{performOf, afterCalls}
+use Rattle.spi_rules.proofs.LivesReach.{reaches-append}
 use Rattle.spi_invariant.proofs.CallsWhen.{unframed-begins, not-unlike}
 use Rattle.spi_word_rules.specs.declared.Worded.{Worded}
-use Rattle.spi_word_rules.specs.Word.{inProgress, current, resting, hasWord, idleFirst, bitsLeft, sdiAt, edgesFrom, levelsBy, idled, edgesOf, levelsOf, wholeWord, oneStep, wordOf}
+use Rattle.spi_word_rules.specs.Word.{inProgress, current, resting, hasWord, idleFirst, bitsLeft, sdiAt, edgesFrom, levelsBy, idled, edgesOf, levelsOf, wholeWord, oneStep, wordOf, stepsOf}
 use Rattle.spi_word_rules.proofs.Closed.{wordMade, allLevels, remembered, readied}
 use Rattle.spi_word_rules.proofs.WordMade.{at, turnedTo, step-edge, Heard, step-under, Steps, edges-made, edges-levels}
 
@@ -309,3 +311,10 @@ whole-word m ss word has small =
 pub single-step : (m : Module) (ss : Bool) (word : ℕ) → hasWord m ss ≡ false → wordOf m ss word ≡ oneStep m ss word
 unfolding wordOf
 single-step m ss word none = if-false (hasWord m ss) _ _ none
+
+-- Either is its list of clock steps.
+pub steps-leave : (m : Module) (ss : Bool) (word : ℕ) → wordOf m ss word .after ≡ afterCalls m (stepsOf m ss word)
+unfolding wordOf wholeWord oneStep stepsOf
+steps-leave m ss word =
+    if-both (λ (r : Worded) (cs : List Call). r .after ≡ afterCalls m cs) (hasWord m ss) (hasWord m ss) _ _ _ _ refl
+    (λ has. sym (reaches-append (idled m ss word) _ m)) (λ none. refl)

@@ -2,7 +2,7 @@
 -- rule of its own: it is the list of those steps.
 use Prim.Native.Nat.{ℕ, zero, suc, _+_, _*_, _-_, _/_}
 use mathlib.Core.Bool.{Bool, false, not, _&&_, _||_, Bool·beq}
-use mathlib.Core.List.{List, [], _∷_}
+use mathlib.Core.List.{List, [], _∷_, _++_}
 use mir.Val.{boolByte}
 use lib.Dec.{ltb}
 use Rattle.laws.specs.Choice.{if_then_else_}
@@ -122,6 +122,12 @@ oneStep m ss word =
 
 unfoldable pub wordOf : Module → Bool → ℕ → Worded
 wordOf m ss word = if hasWord m ss then wholeWord m ss word else oneStep m ss word
+
+-- The clock steps that the call stands for, as one list.
+unfoldable pub stepsOf : Module → Bool → ℕ → List Call
+stepsOf m ss word =
+    if hasWord m ss then idled m ss word ++ edgesOf (afterCalls m (idled m ss word)) ss word
+    else ClockStep (stepLevel m ss) (bitOf word 0) ss ∷ []
 
 -- A look: whether an accepted word would go out next, and which. It is the one begun, the one loaded, or the next to be sent by an SSEN client.
 unfoldable pub sendsNext : Module → Bool

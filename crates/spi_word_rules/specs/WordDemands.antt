@@ -13,10 +13,11 @@ use Rattle.spi_types.specs.declared.Call.{Call}
 use Rattle.spi_types.specs.declared.Call.the-variants.{Read, Write, Tick, Pin, ClockStep, Clear}
 use Rattle.spi_rules.specs.Refusals.{saidOf}
 use Rattle.spi_rules.specs.InBits.{stopsBetweenWords, heedsSelect}
+use Rattle.spi_rules.specs.Calls.{afterCalls}
 use Rattle.spi_rules.specs.Watch.{terms, Watched, watchedCalls}
 use Rattle.spi_rules.specs.Lives.{Beginning, life}
 use Rattle.spi_rules.specs.Demands.{owed}
-use Rattle.spi_word_rules.specs.Word.{wordOf, edgesOwed}
+use Rattle.spi_word_rules.specs.Word.{wordOf, stepsOf, edgesOwed}
 
 -- A list of clock steps, all with one level of SS.
 abbrev pub isStep : Bool → Call → Type 0
@@ -77,11 +78,14 @@ pub record WordMade (x : Watched) (ss : Bool) (word : ℕ) : Type 0 where
   pub read : watchedCalls x (steps ++ (last ∷ [])) .ledger .read ≡ x .ledger .read
   pub noneBegun : isQuiet (watchedCalls x (steps ++ (last ∷ [])) .ledger .wire) ≡ true
 
--- It is refused with 2 exactly, and then leaves the module as it was. A module makes a word if it is enabled and unframed, no client with SSEN
--- under a high SS, and no host without a word to send. What a host is told to owe is what it owes by its history.
+-- It is refused with 2 exactly, and then leaves the module as it was. Of every module it is a list of clock steps, and leaves what these leave. A
+-- module makes a word if it is enabled and unframed, no client with SSEN under a high SS, and no host without a word to send. What a host is told
+-- to owe is what it owes by its history.
 pub record WordCalls : Type 0 where
   pub refusedExactly : (m : Module) (ss : Bool) (word : ℕ) → saidOf (wordOf m ss word .answer) .number ≡ (if m .settings .spien then 0 else 2)
   pub refusedUnchanged : (m : Module) (ss : Bool) (word : ℕ) → m .settings .spien ≡ false → wordOf m ss word .after ≡ m
+  pub stands : (m : Module) (ss : Bool) (word : ℕ) →
+      AllSteps ss (stepsOf m ss word) × (wordOf m ss word .after ≡ afterCalls m (stepsOf m ss word))
   pub made : (b : Beginning) (cs : List Call) (ss : Bool) (word : ℕ) → life b cs .now .settings .spien ≡ true →
       life b cs .now .settings .con2 .frmen ≡ false → (heedsSelect (life b cs .now .settings) && ss) ≡ false →
       (life b cs .now .settings .con1 .msten ≡ true → leftToSend (life b cs .ledger) ≡ true) → WordMade (life b cs) ss word
