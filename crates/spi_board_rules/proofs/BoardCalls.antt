@@ -23,7 +23,7 @@ use Rattle.spi_rules.specs.Calls.{poweredUp, performOf}
 use Rattle.spi_link_rules.specs.declared.Linked.{Linked}
 use Rattle.spi_link_rules.specs.Link.{linkedOf}
 use Rattle.spi_board_rules.specs.declared.BoardCall.{BoardCall}
-use Rattle.spi_board_rules.specs.declared.BoardCall.the-variants.{PowerUp, PowerUpAt, Make, Report, Look, StepAndLook}
+use Rattle.spi_board_rules.specs.declared.BoardCall.the-variants.{PowerUp, PowerUpAt, Make, Report, Look, StepAndLook, MakeWord}
 use Rattle.spi_board_rules.specs.declared.BoardFault.the-variants.{BadList, NoModule}
 use Rattle.spi_board_rules.specs.Board.{Boarded, Paired, boardNumberOf, badList, noModule, noPair, moduleAt, seenOf, answerAlone, afterAlone, refuseCall, refusePair, boardOf, ranOf, pairOf}
 use Rattle.spi_board_rules.specs.BoardDemands.{faultIn, pairFaultIn, boardRows, pairRows, at, Alone, Joined}
@@ -68,6 +68,7 @@ no-fault m (Make c) = refl
 no-fault m (Report f) = refl
 no-fault m Look = refl
 no-fault m (StepAndLook sck sdi ss) = refl
+no-fault m (MakeWord ss word) = refl
 
 module _ (ms : List Module) (n : ℕ) (c : BoardCall) where
   pub call-refused-exactly : faultIn (boardOf ms n c .answer) ≡ firstNumber (boardRows (length ms) n)
@@ -163,6 +164,7 @@ alone ms n e =
       reported = λ f. does (Report f);
       shown = does Look;
       stepped = λ sck sdi ss. does (StepAndLook sck sdi ss);
+      worded = λ ss word. does (MakeWord ss word);
       others = λ c. record {
         same = ap length (call-is ms n c e .1) ∙ length-set ms n _;
         stay = λ k off. ap (λ (l : List Module). at l k) (call-is ms n c e .1) ∙ stays-at ms n _ k (eqb-false n k off);

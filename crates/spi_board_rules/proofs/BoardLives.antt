@@ -21,8 +21,10 @@ use Rattle.spi_rules.proofs.LivesReach.{watched-reaches, reaches-append}
 use Rattle.spi_link_rules.specs.LinkDemands.{runHostCalls, runClientCalls, refusalOf}
 use Rattle.spi_link_rules.proofs.LinkRuns.{link-calls}
 use Rattle.spi_link_rules.proofs.LinkDemandsHold.{linked-runs, made}
+use Rattle.spi_word_rules.specs.Word.{stepsOf}
+use Rattle.spi_word_rules.proofs.WordHolds.{steps-leave}
 use Rattle.spi_board_rules.specs.declared.BoardCall.{BoardCall}
-use Rattle.spi_board_rules.specs.declared.BoardCall.the-variants.{PowerUp, PowerUpAt, Make, Report, Look, StepAndLook}
+use Rattle.spi_board_rules.specs.declared.BoardCall.the-variants.{PowerUp, PowerUpAt, Make, Report, Look, StepAndLook, MakeWord}
 use Rattle.spi_board_rules.specs.Board.{boardOf, pairOf, Step, one, two, boardStepped, boardAfter}
 use Rattle.spi_board_rules.specs.BoardDemands.{boardRows, pairRows, at, Own, fresh, more, ownAfterCall, ownAfterRun, ownAfter, ownCalls}
 use Rattle.spi_board_rules.proofs.BoardCalls.{some, or-both, call-refused-exactly, call-refused-unchanged, pair-refused-exactly, pair-refused-unchanged, alone, joined}
@@ -34,7 +36,7 @@ reached own = afterCalls (poweredAt (own .depth)) (own .calls)
 -- A call of one module, for the module that stands at `k`.
 module _ (ms : List Module) (k : ℕ) (own : Own) (here : at ms k ≡ reached own) where
   -- Power-up with a depth, or with none that there is.
-  powered-reaches : (words : ℕ) → powerUpOf (at ms k) words .after ≡ reached (ownAfterCall own (PowerUpAt words))
+  powered-reaches : (words : ℕ) → powerUpOf (at ms k) words .after ≡ reached (ownAfterCall (at ms k) own (PowerUpAt words))
   unfolding powerUpOf refuse
   powered-reaches words =
       let P : Outcome → Own → Type 0 = λ (o : Outcome) (x : Own). o .after ≡ reached x in
@@ -42,7 +44,7 @@ module _ (ms : List Module) (k : ℕ) (own : Own) (here : at ms k ≡ reached ow
       (λ e. if-both P (eqb words 8) _ _ _ _ _ refl (λ e. refl) (λ e. if-both P (eqb words 16) _ _ _ _ _ refl (λ e. refl) (λ e. here)))
 
   -- It is named, and the call is handed on.
-  named : (c : BoardCall) → firstNumber (boardRows (length ms) k) ≡ 0 → at (boardOf ms k c .after) k ≡ reached (ownAfterCall own c)
+  named : (c : BoardCall) → firstNumber (boardRows (length ms) k) ≡ 0 → at (boardOf ms k c .after) k ≡ reached (ownAfterCall (at ms k) own c)
   named PowerUp e = alone ms k e .powered .1
   named (PowerUpAt words) e =
       alone ms k e .poweredAt words .1 ∙ powered-reaches words
@@ -53,6 +55,9 @@ module _ (ms : List Module) (k : ℕ) (own : Own) (here : at ms k ≡ reached ow
   named (StepAndLook sck sdi ss) e =
       let c : Call = ClockStep sck sdi ss in
       alone ms k e .stepped sck sdi ss .1 ∙ ap (λ (m : Module). performOf m c .after) here ∙ sym (reaches-append (own .calls) (c ∷ []) (poweredAt (own .depth)))
+  named (MakeWord ss word) e =
+      let cs : List Call = stepsOf (at ms k) ss word in
+      alone ms k e .worded ss word .1 ∙ steps-leave (at ms k) ss word ∙ ap (λ (m : Module). afterCalls m cs) here ∙ sym (reaches-append (own .calls) cs (poweredAt (own .depth)))
 
   -- It is not named, or the call is refused.
   not-named : (n : ℕ) (c : BoardCall) → (eqb (firstNumber (boardRows (length ms) n)) 0 && eqb n k) ≡ false → at (boardOf ms n c .after) k ≡ at ms k

@@ -19,11 +19,13 @@ use Rattle.spi_types.specs.declared.Call.the-variants.{ClockStep}
 use Rattle.spi_rules.specs.Calls.{poweredAt, poweredUp, refuse, powerUpOf, performOf}
 use Rattle.spi_types.specs.declared.Depth.the-variants.{Four, Eight, Sixteen}
 use Rattle.spi_rules.specs.Lives.{powerUp}
-use Rattle.spi_invariant.proofs.Holds.{call-keeps, reached-holds}
+use Rattle.spi_invariant.proofs.Holds.{call-keeps, calls-keep, reached-holds}
 use Rattle.spi_link_rules.specs.Link.{linkedOf}
 use Rattle.spi_link_rules.proofs.LinkRuns.{link-holds}
+use Rattle.spi_word_rules.specs.Word.{stepsOf}
+use Rattle.spi_word_rules.proofs.WordHolds.{steps-leave}
 use Rattle.spi_board_rules.specs.declared.BoardCall.{BoardCall}
-use Rattle.spi_board_rules.specs.declared.BoardCall.the-variants.{PowerUp, PowerUpAt, Make, Report, Look, StepAndLook}
+use Rattle.spi_board_rules.specs.declared.BoardCall.the-variants.{PowerUp, PowerUpAt, Make, Report, Look, StepAndLook, MakeWord}
 use Rattle.spi_board_rules.specs.declared.BoardFault.the-variants.{BadList}
 use Rattle.spi_board_rules.specs.declared.OwedAnswer.the-variants.{Refused, Owes}
 use Rattle.spi_board_rules.specs.Board.{boardNumberOf, badList, noModule, noPair, moduleAt, afterAlone, ranOf, boardOf, pairOf, Paired, Step, one, two, boardStepped, boardAfter}
@@ -59,6 +61,7 @@ alone-holds m (Make c) h = call-keeps m c h
 alone-holds m (Report f) h = h
 alone-holds m Look h = h
 alone-holds m (StepAndLook sck sdi ss) h = call-keeps m (ClockStep sck sdi ss) h
+alone-holds m (MakeWord ss word) h = subst ModuleHolds (sym (steps-leave m ss word)) (calls-keep (stepsOf m ss word) m h)
 
 -- The list's length is right, and the module is there: the rows of the table do not apply.
 rows-off : (a b : Bool) → (a || b) ≡ false → firstNumber (row 21 a ∷ row 22 b ∷ []) ≡ 0

@@ -12,13 +12,14 @@ use Rattle.spi_rules.specs.Calls.{poweredUp, powerUpOf, clockStepOf, performOf,
 use Rattle.spi_link_rules.specs.declared.Linked.{Linked}
 use Rattle.spi_link_rules.specs.Link.{linkedOf}
 use Rattle.spi_clock_rules.specs.Clock.{reportOf}
+use Rattle.spi_word_rules.specs.Word.{wordOf}
 use Rattle.spi_board_rules.specs.declared.BoardCall.{BoardCall}
-use Rattle.spi_board_rules.specs.declared.BoardCall.the-variants.{PowerUp, PowerUpAt, Make, Report, Look, StepAndLook}
+use Rattle.spi_board_rules.specs.declared.BoardCall.the-variants.{PowerUp, PowerUpAt, Make, Report, Look, StepAndLook, MakeWord}
 use Rattle.spi_board_rules.specs.declared.Seen.{Seen}
 use Rattle.spi_board_rules.specs.declared.BoardFault.{BoardFault}
 use Rattle.spi_board_rules.specs.declared.BoardFault.the-variants.{BadList, NoModule}
 use Rattle.spi_board_rules.specs.declared.BoardAnswer.{BoardAnswer}
-use Rattle.spi_board_rules.specs.declared.BoardAnswer.the-variants.{Refused, Powered, Made, Told, Shown, Stepped}
+use Rattle.spi_board_rules.specs.declared.BoardAnswer.the-variants.{Refused, Powered, Made, Told, Shown, Stepped, Worded}
 use Rattle.spi_board_rules.specs.declared.PairAnswer.{PairAnswer}
 use Rattle.spi_board_rules.specs.declared.PairAnswer.the-variants as pair
 
@@ -62,7 +63,8 @@ seenOf m = record { interrupt = interruptOf m; sck = sckOf m; sdo = sdoOf m; ss 
 abbrev pub steppedAs : Outcome → BoardAnswer
 steppedAs o = Stepped (o .answer) (seenOf (o .after))
 
--- What a module alone answers to a call, and the module after it. A report and a look change nothing.
+-- What a module alone answers to a call, and the module after it. A report and a look change nothing. A word at a time is the call of
+-- spi_word_rules, which 2 alone refuses.
 unfoldable pub answerAlone : Module → BoardCall → BoardAnswer
 answerAlone m PowerUp = Powered
 answerAlone m (PowerUpAt words) = Made (powerUpOf m words .answer)
@@ -70,6 +72,7 @@ answerAlone m (Make c) = Made (performOf m c .answer)
 answerAlone m (Report f) = Told (reportOf m f)
 answerAlone m Look = Shown (seenOf m)
 answerAlone m (StepAndLook sck sdi ss) = steppedAs (clockStepOf m sck sdi ss)
+answerAlone m (MakeWord ss word) = Worded (wordOf m ss word .answer) (wordOf m ss word .count) (wordOf m ss word .levels)
 
 unfoldable pub afterAlone : Module → BoardCall → Module
 afterAlone m PowerUp = poweredUp
@@ -78,6 +81,7 @@ afterAlone m (Make c) = performOf m c .after
 afterAlone m (Report f) = m
 afterAlone m Look = m
 afterAlone m (StepAndLook sck sdi ss) = clockStepOf m sck sdi ss .after
+afterAlone m (MakeWord ss word) = wordOf m ss word .after
 
 -- A refusal leaves the list as it was.
 unfoldable pub refuseCall : List Module → BoardFault → Boarded

@@ -17,11 +17,12 @@ use Rattle.spi_rules.specs.Lives.{powerUp, life}
 use Rattle.spi_link_rules.specs.Link.{linkedOf}
 use Rattle.spi_link_rules.specs.LinkDemands.{runHostCalls, runClientCalls, refusalOf}
 use Rattle.spi_clock_rules.specs.Clock.{reportOf}
+use Rattle.spi_word_rules.specs.Word.{wordOf, stepsOf}
 use Rattle.spi_board_rules.specs.declared.BoardCall.{BoardCall}
-use Rattle.spi_board_rules.specs.declared.BoardCall.the-variants.{PowerUp, PowerUpAt, Make, Report, Look, StepAndLook}
+use Rattle.spi_board_rules.specs.declared.BoardCall.the-variants.{PowerUp, PowerUpAt, Make, Report, Look, StepAndLook, MakeWord}
 use Rattle.spi_board_rules.specs.declared.Seen.{Seen}
 use Rattle.spi_board_rules.specs.declared.BoardAnswer.{BoardAnswer}
-use Rattle.spi_board_rules.specs.declared.BoardAnswer.the-variants.{Refused, Powered, Made, Told, Shown, Stepped}
+use Rattle.spi_board_rules.specs.declared.BoardAnswer.the-variants.{Refused, Powered, Made, Told, Shown, Stepped, Worded}
 use Rattle.spi_board_rules.specs.declared.PairAnswer.{PairAnswer}
 use Rattle.spi_board_rules.specs.Board.{Boarded, Paired, boardNumberOf, boardOf, pairOf, Step, one, two, boardStepped, boardAfter}
 use Rattle.spi_board_rules.specs.BoardExamples.{boardExamples}
@@ -35,6 +36,7 @@ faultIn (Made a) = 0
 faultIn (Told r) = 0
 faultIn (Shown s) = 0
 faultIn (Stepped a s) = 0
+faultIn (Worded a count levels) = 0
 
 abbrev pub pairFaultIn : PairAnswer → ℕ
 pairFaultIn (pair.Refused w) = boardNumberOf w
@@ -86,6 +88,10 @@ pub record Alone (ms : List Module) (n : ℕ) : Type 0 where
       (boardOf ms n (StepAndLook sck sdi ss) .answer
       ≡ Stepped (performOf (at ms n) (ClockStep sck sdi ss) .answer) (seenIn (performOf (at ms n) (ClockStep sck sdi ss) .after)))
       × (at (boardOf ms n (StepAndLook sck sdi ss) .after) n ≡ performOf (at ms n) (ClockStep sck sdi ss) .after)
+  pub worded : (ss : Bool) (word : ℕ) →
+      (boardOf ms n (MakeWord ss word) .answer
+      ≡ Worded (wordOf (at ms n) ss word .answer) (wordOf (at ms n) ss word .count) (wordOf (at ms n) ss word .levels))
+      × (at (boardOf ms n (MakeWord ss word) .after) n ≡ wordOf (at ms n) ss word .after)
   pub others : (c : BoardCall) → Others (eqb n) ms (boardOf ms n c .after)
 
 -- What a linked run of two modules, which the board hands on, answers and does: that of the two alone.
@@ -96,8 +102,8 @@ pub record Joined (ms : List Module) (a b limit : ℕ) : Type 0 where
   pub others : Others (λ k. eqb a k || eqb b k) ms (pairOf ms a b limit .after)
 
 -- The depth that a module was given at its last power-up, and the calls that it has made since, if that was `own` so far and the board
--- stands at `ms`: a call that names it adds itself, a linked run that joins it adds the run's list, and a refused one adds nothing, nor
--- does power-up with a depth that there is not.
+-- stands at `ms`: a call that names it adds itself, a word at a time the clock steps that it stands for, a linked run that joins it the
+-- run's list, and a refused one adds nothing, nor does power-up with a depth that there is not.
 pub record Own : Type 0 where
   pub depth : Depth
   pub calls : List Call
@@ -108,17 +114,18 @@ fresh depth = record { depth = depth; calls = [] }
 abbrev pub more : Own → List Call → Own
 more own cs = record { depth = own .depth; calls = own .calls ++ cs }
 
-abbrev pub ownAfterCall : Own → BoardCall → Own
-ownAfterCall own PowerUp = fresh Eight
-ownAfterCall own (PowerUpAt words) =
+abbrev pub ownAfterCall : Module → Own → BoardCall → Own
+ownAfterCall m own PowerUp = fresh Eight
+ownAfterCall m own (PowerUpAt words) =
     if eqb words 4 then fresh Four
     else if eqb words 8 then fresh Eight
     else if eqb words 16 then fresh Sixteen
     else own
-ownAfterCall own (Make c) = more own (c ∷ [])
-ownAfterCall own (Report f) = own
-ownAfterCall own Look = own
-ownAfterCall own (StepAndLook sck sdi ss) = more own (ClockStep sck sdi ss ∷ [])
+ownAfterCall m own (Make c) = more own (c ∷ [])
+ownAfterCall m own (Report f) = own
+ownAfterCall m own Look = own
+ownAfterCall m own (StepAndLook sck sdi ss) = more own (ClockStep sck sdi ss ∷ [])
+ownAfterCall m own (MakeWord ss word) = more own (stepsOf m ss word)
 
 abbrev pub ownAfterRun : ℕ → List Module → Own → ℕ → ℕ → ℕ → Own
 ownAfterRun k ms own a b limit =
@@ -127,7 +134,7 @@ ownAfterRun k ms own a b limit =
     else own
 
 abbrev pub ownAfter : ℕ → List Module → Own → Step → Own
-ownAfter k ms own (one n c) = if eqb (firstNumber (boardRows (length ms) n)) 0 && eqb n k then ownAfterCall own c else own
+ownAfter k ms own (one n c) = if eqb (firstNumber (boardRows (length ms) n)) 0 && eqb n k then ownAfterCall (at ms k) own c else own
 ownAfter k ms own (two a b limit) =
     if eqb (firstNumber (pairRows (length ms) a b)) 0 && eqb (refusalOf (at ms a) (at ms b) limit) 0 then ownAfterRun k ms own a b limit else own
 

@@ -13,9 +13,9 @@ use Rattle.spi_rules.specs.Calls.{poweredUp}
 use Rattle.spi_link_rules.specs.Link.{linkSaidOf}
 use Rattle.spi_clock_rules.specs.Clock.{saidClock}
 use Rattle.spi_board_rules.specs.declared.BoardCall.{BoardCall}
-use Rattle.spi_board_rules.specs.declared.BoardCall.the-variants.{PowerUp, PowerUpAt, Make, Report, Look, StepAndLook}
+use Rattle.spi_board_rules.specs.declared.BoardCall.the-variants.{PowerUp, PowerUpAt, Make, Report, Look, StepAndLook, MakeWord}
 use Rattle.spi_board_rules.specs.declared.BoardAnswer.{BoardAnswer}
-use Rattle.spi_board_rules.specs.declared.BoardAnswer.the-variants.{Refused, Powered, Made, Told, Shown, Stepped}
+use Rattle.spi_board_rules.specs.declared.BoardAnswer.the-variants.{Refused, Powered, Made, Told, Shown, Stepped, Worded}
 use Rattle.spi_board_rules.specs.declared.PairAnswer.{PairAnswer}
 use Rattle.spi_board_rules.specs.Board.{boardNumberOf, boardOf, pairOf, Step, one, two, boardAfter}
 use Rattle.spi_board_rules.specs.declared.PairAnswer.the-variants as pair
@@ -35,6 +35,7 @@ refusedWith (Made a) = saidOf a .number
 refusedWith (Told r) = saidClock r .number
 refusedWith (Shown s) = 0
 refusedWith (Stepped a s) = saidOf a .number
+refusedWith (Worded a count levels) = saidOf a .number
 
 abbrev pub valueOf : BoardAnswer → ℕ
 valueOf (Refused w) = 0
@@ -43,6 +44,7 @@ valueOf (Made a) = saidOf a .value
 valueOf (Told r) = 0
 valueOf (Shown s) = 0
 valueOf (Stepped a s) = 0
+valueOf (Worded a count levels) = levels
 
 abbrev pub pairRefusedWith : PairAnswer → ℕ
 pairRefusedWith (pair.Refused w) = boardNumberOf w
@@ -52,13 +54,16 @@ abbrev pub edgesOf : PairAnswer → ℕ
 edgesOf (pair.Refused w) = 0
 edgesOf (pair.Ran a) = linkSaidOf a .edges
 
--- A call is refused with this number, 0 if not at all; a BUF read gives this word; a linked run is refused with this number; it
--- uses so many edges.
+-- A call is refused with this number, 0 if not at all; a BUF read gives this word; a word at a time sends this one; a linked run is refused with
+-- this number; it uses so many edges.
 abbrev pub gives : List Module → ℕ → BoardCall → ℕ → Bool
 gives ms n c number = eqb (refusedWith (boardOf ms n c .answer)) number
 
 abbrev pub reads : List Module → ℕ → ℕ → Bool
 reads ms n word = gives ms n (Make (Read 3)) 0 && eqb (valueOf (boardOf ms n (Make (Read 3)) .answer)) word
+
+abbrev pub sends : List Module → ℕ → ℕ → ℕ → Bool
+sends ms n word sent = gives ms n (MakeWord false word) 0 && eqb (valueOf (boardOf ms n (MakeWord false word) .answer)) sent
 
 abbrev pub pairGives : List Module → ℕ → ℕ → ℕ → ℕ → Bool
 pairGives ms a b limit number = eqb (pairRefusedWith (pairOf ms a b limit .answer)) number
@@ -88,9 +93,12 @@ ready =
     ∷ one 3 (write 0 0x8000) ∷ one 3 (write 3 0x003C)
     ∷ []
 
--- The same after 16 edges, and after power-up of the host.
+-- The same after a linked run of 16 edges, and after a word of the host alone, which took 5A.
 abbrev pub ran : List Module
 ran = boardAfter (after 4 ready) (two 1 3 16 ∷ [])
+
+abbrev pub worded : List Module
+worded = boardAfter (after 4 ready) (one 1 (MakeWord true 0x005A) ∷ [])
 
 abbrev pub boardExamples : Bool
 boardExamples =
@@ -118,6 +126,13 @@ boardExamples =
     ∷ gives (fresh 4) 3 (StepAndLook true true true) 2
     ∷ gives (after 4 ready) 1 (StepAndLook true true true) 0
     ∷ gives (after 4 ready) 3 (StepAndLook true true true) 0
+    -- a word at a time: 21, 22, then 2; a host with no word to send has no edge to make
+    ∷ gives (fresh 5) 5 (MakeWord true 0x5A) 21
+    ∷ gives (fresh 4) 4 (MakeWord true 0x5A) 22
+    ∷ gives (fresh 4) 3 (MakeWord true 0x5A) 2
+    ∷ sends (after 4 ready) 1 0x005A 0x00A5
+    ∷ sends (after 4 ready) 3 0x005A 0x003C
+    ∷ sends worded 1 0x005A 0x0000
     -- no such module, and the same one twice, before 11; and after 21
     ∷ pairGives (fresh 4) 4 0 545 22
     ∷ pairGives (fresh 4) 0 4 545 22
@@ -128,6 +143,11 @@ boardExamples =
     -- a call changes the module that it names
     ∷ shows (after 4 ready) (0x0000 ∷ 0x0000 ∷ 0x8000 ∷ 0x0020 ∷ 0x0000 ∷ 0x0000 ∷ 0x8000 ∷ 0x0000 ∷ [])
     ∷ shows (boardAfter (after 4 ready) (one 1 PowerUp ∷ [])) (0x0000 ∷ 0x0000 ∷ 0x0000 ∷ 0x0000 ∷ 0x0000 ∷ 0x0000 ∷ 0x8000 ∷ 0x0000 ∷ [])
+    -- so does a word at a time: the host reads 5A, the client has received nothing and still sends 3C
+    ∷ shows worded (0x0000 ∷ 0x0000 ∷ 0x8001 ∷ 0x0020 ∷ 0x0000 ∷ 0x0000 ∷ 0x8000 ∷ 0x0000 ∷ [])
+    ∷ reads worded 1 0x005A
+    ∷ gives worded 3 (Make (Read 3)) 6
+    ∷ sends worded 3 0x005A 0x003C
     -- a linked run changes two: the host reads 3C, the client A5
     ∷ uses (after 4 ready) 1 3 16 16
     ∷ shows ran (0x0000 ∷ 0x0000 ∷ 0x8001 ∷ 0x0020 ∷ 0x0000 ∷ 0x0000 ∷ 0x8001 ∷ 0x0000 ∷ [])

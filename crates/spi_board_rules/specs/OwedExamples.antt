@@ -6,7 +6,7 @@ use lib.Dec.{eqb}
 use lib.ListN.{replicate}
 use Rattle.spi_types.specs.declared.Call.the-variants.{Tick, Pin}
 use Rattle.spi_board_rules.specs.declared.BoardCall.{BoardCall}
-use Rattle.spi_board_rules.specs.declared.BoardCall.the-variants.{PowerUp, PowerUpAt, Make, StepAndLook}
+use Rattle.spi_board_rules.specs.declared.BoardCall.the-variants.{PowerUp, PowerUpAt, Make, StepAndLook, MakeWord}
 use Rattle.spi_board_rules.specs.declared.OwedAnswer.{OwedAnswer}
 use Rattle.spi_board_rules.specs.declared.OwedAnswer.the-variants.{Refused, Owes}
 use Rattle.spi_board_rules.specs.Board.{boardNumberOf, Step, one, two, boardAfter}
@@ -48,6 +48,9 @@ pins sck ss = Make (Pin sck false ss)
 abbrev pub step : Bool → Bool → BoardCall
 step sck ss = StepAndLook sck false ss
 
+abbrev pub word : Bool → BoardCall
+word ss = MakeWord ss 0x005A
+
 -- A host in enhanced operation at 1 with three words.
 abbrev pub host : List Step
 host = calls 1 (write 1 0x0020 ∷ write 2 0x0001 ∷ write 0 0x8000 ∷ write 3 0x00A5 ∷ write 3 0x003C ∷ write 3 0x0081 ∷ [])
@@ -78,6 +81,15 @@ owedExamples =
     ∷ owes 4 (host ++ calls 1 (replicate 16 (step true false))) 2
     ∷ owes 4 (client ++ calls 0 (step true true ∷ [])) 1
     ∷ leaves7 4 (one 2 (step true true) ∷ one 4 (step true true) ∷ [])
+    -- and by words at a time: one whole, what is left of one, and no more than there are; a client's word while it is selected, and its filler
+    ∷ owes 4 (host ++ calls 1 (word false ∷ [])) 2
+    ∷ owes 4 (host ++ calls 1 (tick ∷ word true ∷ word true ∷ [])) 1
+    ∷ owes 4 (host ++ calls 1 (replicate 4 (word false))) 0
+    ∷ owes 4 (client ++ calls 0 (word false ∷ [])) 0
+    ∷ owes 4 (client ++ calls 0 (word true ∷ [])) 1
+    ∷ owes 4 (filler ++ calls 0 (write 3 0x0001 ∷ word false ∷ [])) 1
+    ∷ owesFrom 9 host (calls 1 (word false ∷ [])) 8
+    ∷ leaves7 4 (one 2 (word true) ∷ one 4 (word true) ∷ [])
     -- a begun word of an SSEN client counts once, an abort leaves it, a filler never counts
     ∷ owes 4 client 1
     ∷ owes 4 (client ++ calls 0 (pins true true ∷ [])) 1

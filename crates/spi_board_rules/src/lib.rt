@@ -7,7 +7,7 @@ use spi_types::Call;
 use spi_types::Output;
 
 // A call of one module of the board: power-up, power-up with a depth, a call, a clock report for an instruction rate, a look at its pins,
-// or a clock step with the levels SCK, SDI and SS and a look at its pins after it.
+// a clock step with the levels SCK, SDI and SS and a look at its pins after it, or a word at a time with the level SS and the caller's word.
 pub enum BoardCall {
     PowerUp,
     PowerUpAt(u32),
@@ -15,6 +15,7 @@ pub enum BoardCall {
     Report(u32),
     Look,
     StepAndLook(bool, bool, bool),
+    MakeWord(bool, u16),
 }
 
 // What a look sees: the interrupt flag, and the levels of SCK, SDO and SS.
@@ -32,7 +33,8 @@ pub enum BoardFault {
     NoModule,
 }
 
-// What a call of one module answers: why the board refuses it, or what the module alone answers.
+// What a call of one module answers: why the board refuses it, or what the module alone answers. A word at a time answers as its first clock
+// step does, and tells how many levels SDO was at and those levels as a number.
 pub enum BoardAnswer {
     Refused(BoardFault),
     Powered,
@@ -40,6 +42,7 @@ pub enum BoardAnswer {
     Told(Reported),
     Shown(Seen),
     Stepped(Answer, Seen),
+    Worded(Answer, u8, u32),
 }
 
 // What a linked run of two modules of the board answers: why the board refuses it, or what the two alone answer.
