@@ -85,7 +85,7 @@ pub mod register {
 
 /// The version of this file: major, minor and patch numbers. [`version`] tells the library's.
 #[allow(dead_code)]
-pub const VERSION: (u8, u8, u8) = (6, 2, 1);
+pub const VERSION: (u8, u8, u8) = (7, 0, 0);
 
 /// The format of a module's words. It rises wherever their meaning changes, so save it beside them.
 #[allow(dead_code)]
@@ -154,9 +154,10 @@ unsafe extern "C" {
     safe fn thurafeqa_format() -> u32;
 }
 
-/// Why a call was refused, under the numbers of documents 01 and 02. The next major version makes this type non-exhaustive: let a
-/// `match` on it have a default.
+/// Why a call was refused, under the numbers of documents 01 and 02. A later version may have more: let a `match` on it have a
+/// default, which the compiler asks for outside of the crate that this file stands in.
 #[derive(Clone, Copy, Debug, PartialEq, Eq)]
+#[non_exhaustive]
 pub enum Refusal {
     /// The register number is above 3.
     NoSuchRegister = 1,
@@ -366,6 +367,11 @@ fn step(levels: u16) -> Step {
     }
 }
 
+fn worded(answer: u32) -> Result<Word, Refusal> {
+    value(answer & 0xFF_0000)?;
+    Ok(Word { done: answer >> 29 & 1 == 0, levels: answer as u16, count: (answer >> 24 & 31) as u8 })
+}
+
 fn clock(answer: u32, report: ClockReport) -> Result<Clock, Refusal> {
     Ok(match value(answer)? {
         1 => Clock::Internal { rate: report.rate, bit_time: report.bittime },
@@ -513,9 +519,7 @@ impl Module {
     ///
     /// Refused: `Disabled`.
     pub fn word(&mut self, ss: bool, word: u16) -> Result<Word, Refusal> {
-        let answer = thurafeqa_word(self, ss.into(), word.into());
-        value(answer & 0xFF_0000)?;
-        Ok(Word { done: answer >> 29 & 1 == 0, levels: answer as u16, count: (answer >> 24 & 31) as u8 })
+        worded(thurafeqa_word(self, ss.into(), word.into()))
     }
 
     /// The word that would go out next: the one under way, the one loaded, or the first that waits in a client with SSEN. Never
@@ -642,6 +646,7 @@ const PINS: u32 = 4;
 const CLEAR: u32 = 5;
 const CLOCK_STEP: u32 = 8;
 const POWER_UP_WITH: u32 = 9;
+const WORD: u32 = 10;
 
 #[allow(dead_code)] // a program need not make every call
 impl<'a> Board<'a> {
@@ -683,12 +688,16 @@ impl<'a> Board<'a> {
         both as u32
     }
 
-    fn call(&mut self, n: u32, kind: u32, x: u32, y: u32, z: u32) -> Result<u16, Refusal> {
+    fn ask(&mut self, n: u32, kind: u32, x: u32, y: u32, z: u32) -> u32 {
         let (list, count) = (self.modules.as_mut_ptr(), self.modules.len());
         let mut report = ClockReport::default();
         // SAFETY: the pointer and the length are a slice's, which can be changed
         let both = unsafe { thurafeqa_board_call(list, count, self.owed.into(), n, kind, x, y, z, &mut report) };
-        value(self.keep(both))
+        self.keep(both)
+    }
+
+    fn call(&mut self, n: u32, kind: u32, x: u32, y: u32, z: u32) -> Result<u16, Refusal> {
+        value(self.ask(n, kind, x, y, z))
     }
 
     // One module, to look at. Its call on a board takes modules that can be changed, so what that call tests first is tested here.
@@ -730,6 +739,11 @@ impl<'a> Board<'a> {
     /// See [`Module::pins`].
     pub fn pins(&mut self, n: u32, sck: bool, sdi: bool, ss: bool) -> Result<(), Refusal> {
         self.call(n, PINS, sck.into(), sdi.into(), ss.into()).map(|_| ())
+    }
+
+    /// See [`Module::word`].
+    pub fn word(&mut self, n: u32, ss: bool, word: u16) -> Result<Word, Refusal> {
+        worded(self.ask(n, WORD, ss.into(), word.into(), 0))
     }
 
     /// Clears the interrupt flag of one module.
@@ -950,6 +964,9 @@ mod thurafeqa_tests {
         assert_eq!([15, 31, 32, 47, 48].map(ss), [Ss::Undriven, Ss::Undriven, Ss::Low, Ss::Low, Ss::High]);
         let seen = Step { done: true, interrupt: true, sck: false, sdo: Sdo::High, ss: Ss::Low };
         assert_eq!([value(45).map(step), value(109).map(step)], [Ok(seen), Ok(Step { done: false, ..seen })]);
+        let told = Word { done: true, levels: 0x12A5, count: 16 };
+        assert_eq!([0x1000_12A5, 0x2000_0000].map(worded), [Ok(told), Ok(Word { done: false, levels: 0, count: 0 })]);
+        assert_eq!([0x2_0000, 0x15_0000].map(worded), [Err(Refusal::Disabled), Err(Refusal::BadList)]);
         let said = |answer| clock(answer, ClockReport { rate: 5e6, bittime: 2e-7, below: 4e7 });
         assert_eq!((said(8 << 16), said(0)), (Err(Refusal::NoRate), Ok(Clock::None)));
         assert_eq!(said(1), Ok(Clock::Internal { rate: 5e6, bit_time: 2e-7 }));

@@ -45,9 +45,10 @@ pub enum Protocol {
     PcmDsp = 3,
 }
 
-/// Why a call was refused, under the numbers of documents 01 and 02. The next major version makes this type non-exhaustive: let a
-/// `match` on it have a default.
+/// Why a call was refused, under the numbers of documents 01 and 02. A later version may have more: let a `match` on it have a
+/// default, which the compiler asks for outside of the crate that this file stands in.
 #[derive(Clone, Copy, Debug, PartialEq, Eq)]
+#[non_exhaustive]
 pub enum Refusal {
     /// A sample or an edge, and the card is disabled.
     Disabled = 2,

@@ -51,6 +51,7 @@
  *
  * Answers. The upper 16 bits of an answer are the refusal number, 0 if the call
  * was done; the lower 16 bits are what the call tells, 0 if it was refused. A
+ * word at a time has more to tell, and names of its own to read it by. A
  * refused call leaves its modules, their interrupt flags and all that was lent
  * to it as they were.
  *
@@ -68,9 +69,9 @@ extern "C" {
 /* The version of this header. thurafeqa_version() tells the library's: the two
  * must have the same major number, and the library's minor number must not be
  * lower. */
-#define THURAFEQA_VERSION_MAJOR 6u
-#define THURAFEQA_VERSION_MINOR 2u
-#define THURAFEQA_VERSION_PATCH 1u
+#define THURAFEQA_VERSION_MAJOR 7u
+#define THURAFEQA_VERSION_MINOR 0u
+#define THURAFEQA_VERSION_PATCH 0u
 #define THURAFEQA_VERSION                                                      \
     (THURAFEQA_VERSION_MAJOR << 16 | THURAFEQA_VERSION_MINOR << 8 |            \
      THURAFEQA_VERSION_PATCH)
@@ -311,7 +312,7 @@ uint32_t thurafeqa_word(thurafeqa *m, uint32_t ss, uint32_t word);
 #define THURAFEQA_WORD_LEVELS(answer) ((answer) & 0xFFFFu)
 #define THURAFEQA_WORD_COUNT(answer) ((answer) >> 24 & 31u) /* how many levels */
 #define THURAFEQA_WORD_NO_EDGE(answer) ((answer) >> 29 & 1u)
-#define THURAFEQA_WORD_REFUSAL(answer) ((answer) >> 16 & 0xFFu) /* 0 or 2 */
+#define THURAFEQA_WORD_REFUSAL(answer) ((answer) >> 16 & 0xFFu) /* 0 if none */
 
 /* The word that would go out next: the one under way, the one loaded, or the
  * first that waits in a client under SSEN. With THURAFEQA_NEXT_WORD set there
@@ -523,7 +524,7 @@ typedef struct {
  * Use the functions over thurafeqa_board below. They call three of the library,
  * which a program need not call itself: thurafeqa_board_owed for the question,
  * thurafeqa_board_linked for the linked run, and thurafeqa_board_call for all
- * others. That one takes a kind of call, a kind above 9 counting as 7, and its
+ * others. That one takes a kind of call, a kind above 10 counting as 7, and its
  * arguments in their order, those left over having no effect. Only a clock
  * report that is not refused writes to *report. Both answer in 64 bits: in the
  * lower 32 what the call answers, in the upper 32 the number of words owed
@@ -538,6 +539,7 @@ typedef struct {
 #define THURAFEQA_BOARD_LEVELS 7u
 #define THURAFEQA_BOARD_CLOCK_STEP 8u /* SCK, SDI, SS */
 #define THURAFEQA_BOARD_POWER_UP_WITH 9u /* depth */
+#define THURAFEQA_BOARD_WORD 10u /* SS, word */
 uint64_t thurafeqa_board_call(thurafeqa *modules, size_t count, uint32_t owed,
                               uint32_t n, uint32_t kind, uint32_t x, uint32_t y,
                               uint32_t z, thurafeqa_clock_report *report);
@@ -632,6 +634,14 @@ static inline uint32_t thurafeqa_board_pins(thurafeqa_board *b, uint32_t n,
                                             uint32_t ss)
 {
     return thurafeqa_board_ask(b, n, THURAFEQA_BOARD_PINS, sck, sdi, ss);
+}
+
+/* A word at a time. Its answer is read by the names behind thurafeqa_word, with
+ * 21 and 22 among the refusals. */
+static inline uint32_t thurafeqa_board_word(thurafeqa_board *b, uint32_t n,
+                                            uint32_t ss, uint32_t word)
+{
+    return thurafeqa_board_ask(b, n, THURAFEQA_BOARD_WORD, ss, word, 0);
 }
 
 static inline uint32_t thurafeqa_board_clear(thurafeqa_board *b, uint32_t n)

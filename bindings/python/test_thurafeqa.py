@@ -351,11 +351,15 @@ class Boards(Case):
             ("tick", 1),
             ("clock_step", 0, 1, 0),
             ("levels",),
+            ("word", 0x3C),
+            ("word", 0x3C, True),
+            ("write", BUF, 0x40),
             ("clear",),
             ("read", STAT),
+            ("read", BUF),
         ):
             self.assertEqual(getattr(b, call)(1, *words), getattr(m, call)(*words))
-            self.assertEqual(b.modules[1], m)
+            self.assertEqual((b.modules[1], b.owed), (m, m.words_owed))
         self.assertEqual((b.owed, b.modules[0]), (1, Module()))
         self.refused(7, b.pins, 1, 0, 0, 0)
         b.power_up(1)
@@ -366,9 +370,12 @@ class Boards(Case):
             self.refused(21, Board, count)
         self.refused(21, Board.of, [Module()] * 5)
         b = Board(1)
-        for call, *words in ((b.read, 1, 9), (b.clock, 1, 0), (b.levels, 1), (b.linked, 0, 1)):
+        for call, *words in ((b.read, 1, 9), (b.clock, 1, 0), (b.levels, 1), (b.linked, 0, 1), (b.word, 1, 0)):
             self.refused(22, call, *words)
         self.refused(8, b.clock, 0, 0)
+        self.refused(2, b.word, 0, 0)
+        with self.assertRaises(ValueError):
+            b.word(0, 0x10000)
 
 
 class Others(Case):

@@ -70,6 +70,11 @@ def _step(bits: int) -> Step:
     return Step(not bits & 64, *_levels(bits))
 
 
+def _word(answer: int) -> Word:
+    value(answer & 0xFF0000)
+    return Word(not answer >> 29 & 1, answer & 0xFFFF, answer >> 24 & 31)
+
+
 def _clock(answer: int, report: ClockReport) -> Clock:
     kind = ("none", "internal", "external")[value(answer)]
     return Clock(kind, report.rate, report.bittime, report.below)
@@ -160,9 +165,7 @@ class Module(Kept):
 
         Refused: 2.
         """
-        answer = library.thurafeqa_word(self._memory, level(ss), number("the word", word, 0xFFFF))
-        value(answer & 0xFF0000)
-        return Word(not answer >> 29 & 1, answer & 0xFFFF, answer >> 24 & 31)
+        return _word(library.thurafeqa_word(self._memory, level(ss), number("the word", word, 0xFFFF)))
 
     @property
     def next_word(self) -> Optional[int]:
@@ -360,12 +363,15 @@ class Board:
         """How many words were accepted and are not yet finished, in the shift registers and waiting. A filler is none."""
         return value(library.thurafeqa_board_owed(len(self._list), self._owed))
 
-    def _call(self, n: int, kind: int, x: int = 0, y: int = 0, z: int = 0, report: Optional[ClockReport] = None) -> int:
+    def _ask(self, n: int, kind: int, x: int = 0, y: int = 0, z: int = 0, report: Optional[ClockReport] = None) -> int:
         both = library.thurafeqa_board_call(
             self._list, len(self._list), self._owed, number("the module", n), kind, x, y, z, report or ClockReport()
         )
         self._owed = both >> 32 & 0xFFFF
-        return value(both & 0xFFFFFFFF)
+        return both & 0xFFFFFFFF
+
+    def _call(self, n: int, kind: int, x: int = 0, y: int = 0, z: int = 0, report: Optional[ClockReport] = None) -> int:
+        return value(self._ask(n, kind, x, y, z, report))
 
     def power_up(self, n: int) -> None:
         """See :meth:`Module.power_up`."""
@@ -394,6 +400,10 @@ class Board:
     def pins(self, n: int, sck: object, sdi: object, ss: object = False) -> None:
         """See :meth:`Module.pins`."""
         self._call(n, 4, level(sck), level(sdi), level(ss))
+
+    def word(self, n: int, word: int, ss: object = False) -> Word:
+        """See :meth:`Module.word`."""
+        return _word(self._ask(n, 10, level(ss), number("the word", word, 0xFFFF)))
 
     def clear(self, n: int) -> None:
         """See :meth:`Module.clear`."""

@@ -37,3 +37,45 @@ pub use spi::*;
 
 #[path = "../../thurafeqa_card.rs"]
 pub mod card;
+
+/// A `match` on a refusal needs a default, also one that names them all. This compiles,
+///
+/// ```
+/// use thurafeqa::{card, Refusal, Refusal::*};
+///
+/// let module = |refusal: Refusal| match refusal {
+///     NoSuchRegister | Disabled | Enabled | TransmitFull | ReceiveEmpty | WrongClock | NoRate | UnreadableLine => 1,
+///     DifferentModes | TooManyEdges | Undivided | LateSampling | UnselectedCke | Overflowed | BadContents => 2,
+///     BadRecord | TooManyCalls | NoRoom | BadList | NoModule | WrongLength | NoSuchDepth => 3,
+///     _ => 4,
+/// };
+/// let card = |refusal: card::Refusal| match refusal {
+///     card::Refusal::Disabled | card::Refusal::Enabled | card::Refusal::TransmitFull => 1,
+///     card::Refusal::ReceiveEmpty | card::Refusal::NotNamed => 2,
+///     _ => 3,
+/// };
+/// assert_eq!((module(NoSuchDepth), card(card::Refusal::NotNamed)), (3, 2));
+/// ```
+///
+/// and neither does without its last line:
+///
+/// ```compile_fail
+/// use thurafeqa::{Refusal, Refusal::*};
+///
+/// let module = |refusal: Refusal| match refusal {
+///     NoSuchRegister | Disabled | Enabled | TransmitFull | ReceiveEmpty | WrongClock | NoRate | UnreadableLine => 1,
+///     DifferentModes | TooManyEdges | Undivided | LateSampling | UnselectedCke | Overflowed | BadContents => 2,
+///     BadRecord | TooManyCalls | NoRoom | BadList | NoModule | WrongLength | NoSuchDepth => 3,
+/// };
+/// ```
+///
+/// ```compile_fail
+/// use thurafeqa::card;
+///
+/// let card = |refusal: card::Refusal| match refusal {
+///     card::Refusal::Disabled | card::Refusal::Enabled | card::Refusal::TransmitFull => 1,
+///     card::Refusal::ReceiveEmpty | card::Refusal::NotNamed => 2,
+/// };
+/// ```
+#[cfg(doctest)]
+pub struct MatchesNeedADefault;

@@ -200,6 +200,28 @@ fn a_board_knows_what_it_owes() {
 }
 
 #[test]
+fn a_board_makes_words_at_a_time() {
+    let mut spi: [Module; 4] = std::array::from_fn(|_| Module::new());
+    let mut b = Board::new(&mut spi).unwrap();
+    b.write(3, CON1, CON1_MSTEN).unwrap();
+    b.write(3, STAT, STAT_SPIEN).unwrap();
+    b.write(3, BUF, 0xA5).unwrap();
+    b.write(3, BUF, 0x40).unwrap();
+    b.tick(3, true, false).unwrap();
+    let mut alone = b.modules()[3].clone();
+    assert_eq!((b.owed(), b.modules()[3].next_word(), b.modules()[3].edges_owed()), (Ok(2), Some(0xA5), 31));
+    assert_eq!(b.word(3, false, 0x3C), Ok(Word { done: true, levels: 0xA5, count: 8 }));
+    assert_eq!(b.word(3, false, 0x3C), Ok(Word { done: true, levels: 0x40, count: 8 }));
+    assert_eq!(b.word(3, false, 0x3C), Ok(Word { done: false, levels: 0, count: 0 }));
+    assert_eq!((b.owed(), b.word(2, false, 0), b.word(4, false, 0)), (Ok(0), Err(Refusal::Disabled), Err(Refusal::NoModule)));
+    for _ in 0..3 {
+        alone.word(false, 0x3C).unwrap();
+    }
+    assert_eq!(b.modules()[3], alone);
+    assert_eq!(Board::with(&mut [], 0).word(0, false, 0), Err(Refusal::BadList));
+}
+
+#[test]
 fn refusals_have_numbers_and_words() {
     assert_eq!((Refusal::ReceiveEmpty.number(), Refusal::ReceiveEmpty.text()), (6, "nothing is unread"));
     assert_eq!(card::Refusal::NotNamed.to_string(), "refusal 23: no card has this length and frame");

@@ -1,7 +1,7 @@
 -- Calls by their kind, and what is told of each kind.
 --     asked-as     a kind that is a number asks what that number asks
 --     asked-look   any other kind is a look
---     made, powered, reported, looked, stepped   what is told of each
+--     made, powered, reported, looked, stepped, worded   what is told of each
 --     few, many, right                            whether a list of so many is wrong
 --     refuses-list, refuses-module, refuses-not   the board's test, by what it finds
 --     pair-first, pair-twice, pair-second          that of a linked run, by the tests of its two modules
@@ -21,10 +21,12 @@ use Rattle.spi_rules.specs.RefusalTable.{row, firstNumber}
 use Rattle.spi_rules.specs.Calls.{powerUpOf, poweredUp, clockStepOf, performOf}
 use Rattle.spi_clock_rules.specs.Clock.{reportOf, saidClock}
 use Rattle.spi_board_rules.specs.declared.BoardCall.{BoardCall}
-use Rattle.spi_board_rules.specs.declared.BoardCall.the-variants.{PowerUp, PowerUpAt, Make, Report, Look, StepAndLook}
+use Rattle.spi_board_rules.specs.declared.BoardCall.the-variants.{PowerUp, PowerUpAt, Make, Report, Look, StepAndLook, MakeWord}
 use Rattle.spi_board_rules.specs.Board.{answerAlone, afterAlone, seenOf}
 use Rattle.spi_board_rules.specs.BoardDemands.{boardRows}
 use Rattle.spi_memory.specs.Memory.{moduleIn}
+use Rattle.spi_word_rules.specs.Word.{wordOf}
+use Rattle.spi_word.specs.Speaking.{WordTells}
 use Rattle.spi_numbers.specs.Told.{Tells, levelsNumber, StepTells, ClockTells}
 use Rattle.spi_board.specs.Boards.{askedOf, boardNumber, floatsAfter, callFault, pairFault, MakeTells}
 
@@ -34,12 +36,14 @@ module _ {r : ℕ} {floats floatsAt : List Float} {before after : List ℕ} wher
   asked-as k x y z e h = subst (λ (j : ℕ). MakeTells (askedOf j x y z) r floats floatsAt before after) (sym e) h
 
   pub asked-look : (x y z : ℕ) {kind : ℕ} → (kind ≡ 0 → ⊥) → (kind ≡ 1 → ⊥) → (kind ≡ 2 → ⊥) → (kind ≡ 3 → ⊥) → (kind ≡ 4 → ⊥) →
-      (kind ≡ 5 → ⊥) → (kind ≡ 6 → ⊥) → (kind ≡ 8 → ⊥) → (kind ≡ 9 → ⊥) → MakeTells Look r floats floatsAt before after → MakeTells (askedOf kind x y z) r floats floatsAt before after
+      (kind ≡ 5 → ⊥) → (kind ≡ 6 → ⊥) → (kind ≡ 8 → ⊥) → (kind ≡ 9 → ⊥) → (kind ≡ 10 → ⊥) → MakeTells Look r floats floatsAt before after →
+      MakeTells (askedOf kind x y z) r floats floatsAt before after
   unfolding askedOf
-  asked-look x y z {kind} n0 n1 n2 n3 n4 n5 n6 n8 n9 h =
+  asked-look x y z {kind} n0 n1 n2 n3 n4 n5 n6 n8 n9 n10 h =
       let is : Look ≡ askedOf kind x y z =
       not-so-eq kind 0 _ _ n0 (not-so-eq kind 1 _ _ n1 (not-so-eq kind 2 _ _ n2 (not-so-eq kind 3 _ _ n3 (not-so-eq kind 4 _ _ n4
-      (not-so-eq kind 5 _ _ n5 (not-so-eq kind 6 _ _ n6 (not-so-eq kind 8 _ _ n8 (not-so-eq kind 9 _ _ n9 refl))))))))
+      (not-so-eq kind 5 _ _ n5 (not-so-eq kind 6 _ _ n6 (not-so-eq kind 8 _ _ n8 (not-so-eq kind 9 _ _ n9
+      (not-so-eq kind 10 _ _ n10 refl)))))))))
       in
       subst (λ (c : BoardCall). MakeTells c r floats floatsAt before after) is h
 
@@ -71,6 +75,11 @@ pub stepped : {sck sdi ss : Bool} {r : ℕ} {floats : List Float} {before after 
     MakeTells (StepAndLook sck sdi ss) r floats floats before after
 unfolding boardNumber answerAlone afterAlone floatsAfter seenOf levelsNumber
 stepped h = record { number = h .number; holds = h .holds; report = refl; untouched = h .untouched }
+
+pub worded : {ss : Bool} {word r : ℕ} {floats : List Float} {before after : List ℕ} → WordTells (wordOf (moduleIn before) ss word) r before after →
+    MakeTells (MakeWord ss word) r floats floats before after
+unfolding boardNumber answerAlone afterAlone floatsAfter
+worded h = record { number = h .number; holds = h .holds; report = refl; untouched = h .untouched }
 
 -- The board's test.
 unfoldable pub bad : ℕ → Bool

@@ -18,7 +18,7 @@ use Rattle.spi_link_rules.specs.declared.Linked.{Linked}
 use Rattle.spi_link_rules.specs.Link.{linkedOf}
 use Rattle.spi_board_rules.specs.declared.BoardCall.{BoardCall}
 use Rattle.spi_board_rules.specs.declared.BoardAnswer.{BoardAnswer}
-use Rattle.spi_board_rules.specs.declared.BoardAnswer.the-variants.{Refused, Powered, Made, Told, Shown, Stepped}
+use Rattle.spi_board_rules.specs.declared.BoardAnswer.the-variants.{Refused, Powered, Made, Told, Shown, Stepped, Worded}
 use Rattle.spi_board_rules.specs.declared.PairAnswer.{PairAnswer}
 use Rattle.spi_board_rules.specs.Board.{Paired, moduleAt, answerAlone, afterAlone, boardOf, ranOf, pairOf}
 use Rattle.spi_board_rules.specs.BoardDemands.{faultIn, pairFaultIn, boardRows, pairRows}
@@ -69,6 +69,7 @@ fault-told (Made a) h = absurd (omega (arith, h))
 fault-told (Told x) h = absurd (omega (arith, h))
 fault-told (Shown s) h = absurd (omega (arith, h))
 fault-told (Stepped a s) h = absurd (omega (arith, h))
+fault-told (Worded a count levels) h = absurd (omega (arith, h))
 
 fault-floats : (x : BoardAnswer) (floats : List Float) → 1 ≤ faultIn x → floats ≡ floatsAfter x floats
 unfolding floatsAfter
@@ -78,6 +79,7 @@ fault-floats (Made a) floats h = refl
 fault-floats (Told x) floats h = absurd (omega (arith, h))
 fault-floats (Shown s) floats h = refl
 fault-floats (Stepped a s) floats h = refl
+fault-floats (Worded a count levels) floats h = refl
 
 pair-fault-told : (x : PairAnswer) → 1 ≤ pairFaultIn x → pairFaultIn x * 65536 ≡ pairNumber x
 unfolding pairNumber

@@ -4,6 +4,7 @@
 --     owed-asked                               a call by its kind
 --     within-owed                              the total within a word
 --     makes-owed, links-owed                   a call between two counts, and a linked run between two of each end
+--     two-first, two-same, two-second          the test of a linked run, by those of its two modules
 --     owed-inside, owed-refused, owed-made     a call of one module of the list
 --     owed-insides, owed-pair-refused, owed-pair-made     a linked run of two
 -- Assumes nothing.
@@ -12,7 +13,7 @@ use mathlib.Core.Bool.{Bool, true, false, not, _||_}
 use mathlib.Core.List.{List, []}
 use mathlib.Core.Path.{_≡_, refl, sym, ap, ap₂, subst, _∙_}
 use native.Mathlib.Omega.{arith}
-use borrow.Author.Tests.{eqb-true, eqb-false, ltb-true, ltb-false}
+use borrow.Author.Tests.{eqb-true, eqb-false, eq-eqb, ltb-true, ltb-false}
 use lib.Dec.{T, eqb, ltb, lt→ltb, ltb→lt, nltb→le}
 use lib.Ieee.{Float}
 use lib.ListN.{length, length-set}
@@ -37,7 +38,7 @@ use Rattle.spi_numbers.specs.Told.{LinkTells}
 use Rattle.spi_board.specs.declared.Cells.{Cells}
 use Rattle.spi_board.specs.Boards.{modulesIn, numbersAt, withNumbers, askedOf, boardNumber, pairNumber, callFault, pairFault, MakeTells}
 use Rattle.spi_board.specs.Owing.{boardIn, bothIn, owedNumber, Asks, refusedNumber, refusedCall, refusedPair, MakesOwed, LinksOwed, OwedTells, OwedPairTells}
-use Rattle.spi_board.proofs.Asks.{bad}
+use Rattle.spi_board.proofs.Asks.{bad, pair-first, pair-twice, pair-second}
 use Rattle.spi_board.proofs.Boarding.{holds-at, some, none, row-is, inside, refused-number, refused-leaves, made-answer, made-leaves, pair-row-is, insides, pair-refused-number, pair-refused-leaves, pair-made-answer, pair-made-leaves}
 
 -- A begun word, by the tests one after the other.
@@ -137,6 +138,27 @@ module _ (owed why : ℕ) {r : ℕ} (e : r ≡ refusedNumber owed why) where
       by-test (eqb why 0)
       (λ on. nothing-refused why (eqb-true why 0 on))
       (λ off. absurd (omega (arith, nltb→le 0 r h, e ∙ if-false (eqb why 0) _ _ off, positive why off)))
+
+-- That of a linked run, by those of its two modules.
+none-told : (owed why : ℕ) {r : ℕ} → r ≡ refusedNumber owed why → r ≡ 0 → why ≡ 0
+unfolding refusedNumber bothIn
+none-told owed why e none =
+    by-test (eqb why 0) (λ on. eqb-true why 0 on) (λ off. absurd (omega (arith, none, e ∙ if-false (eqb why 0) _ _ off, positive why off)))
+
+none-is : (owed why : ℕ) → why ≡ 0 → refusedNumber owed why ≡ 0
+unfolding refusedNumber
+none-is owed why e = if-true (eqb why 0) _ _ (eq-eqb why 0 e)
+
+module _ (count owed a b : ℕ) {first : ℕ} (e : first ≡ refusedCall count owed a) where
+  pub two-first : (first ≡ 0 → ⊥) → first ≡ refusedPair count owed a b
+  two-first some = e ∙ ap (refusedNumber owed) (pair-first count a b refl (λ none. some (e ∙ none-is owed (callFault count a) none)))
+
+  pub two-same : {r : ℕ} → first ≡ 0 → a ≡ b → r ≡ bothIn (owed % 65536) 1441792 → r ≡ refusedPair count owed a b
+  unfolding refusedNumber if_then_else_
+  two-same none same t = t ∙ ap (refusedNumber owed) (pair-twice count a b refl (none-told owed (callFault count a) e none) same)
+
+  pub two-second : {r : ℕ} → first ≡ 0 → (a ≡ b → ⊥) → r ≡ refusedCall count owed b → r ≡ refusedPair count owed a b
+  two-second none other k = k ∙ ap (refusedNumber owed) (pair-second count a b refl (none-told owed (callFault count a) e none) other refl)
 
 -- A call of one module of the list.
 module _ (owed n : ℕ) (cs : List Cells) {r : ℕ} (t : r ≡ refusedCall (length cs) owed n) where

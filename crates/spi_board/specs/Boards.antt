@@ -12,14 +12,15 @@ use Rattle.spi_types.specs.declared.Call.the-variants.{Read, Write, Tick, Pin, 
 use Rattle.spi_rules.specs.RefusalTable.{firstNumber}
 use Rattle.spi_clock_rules.specs.Clock.{saidClock}
 use Rattle.spi_board_rules.specs.declared.BoardCall.{BoardCall}
-use Rattle.spi_board_rules.specs.declared.BoardCall.the-variants.{PowerUp, PowerUpAt, Make, Report, Look, StepAndLook}
+use Rattle.spi_board_rules.specs.declared.BoardCall.the-variants.{PowerUp, PowerUpAt, Make, Report, Look, StepAndLook, MakeWord}
 use Rattle.spi_board_rules.specs.declared.BoardAnswer.{BoardAnswer}
-use Rattle.spi_board_rules.specs.declared.BoardAnswer.the-variants.{Refused, Powered, Made, Told, Shown, Stepped}
+use Rattle.spi_board_rules.specs.declared.BoardAnswer.the-variants.{Refused, Powered, Made, Told, Shown, Stepped, Worded}
 use Rattle.spi_board_rules.specs.declared.PairAnswer.{PairAnswer}
 use Rattle.spi_board_rules.specs.Board.{boardNumberOf, answerAlone, afterAlone, boardOf, pairOf}
 use Rattle.spi_board_rules.specs.BoardDemands.{boardRows, pairRows}
 use Rattle.spi_memory.specs.Memory.{moduleIn}
 use Rattle.spi_module.specs.Answered.{untouching}
+use Rattle.spi_word.specs.Speaking.{wordNumber}
 use Rattle.spi_link.specs.Wire.{isRefused}
 use Rattle.spi_numbers.specs.Told.{answerNumber, levelIn, seenNumber, stepNumber, clockNumber, clockFloats, linkNumber}
 use Rattle.spi_board.specs.declared.Cells.{Cells}
@@ -40,7 +41,8 @@ numbersAt cs n = recordAt cs n .numbers
 abbrev pub withNumbers : List Cells → ℕ → List ℕ → List Cells
 withNumbers cs n ws = set cs n (record { numbers = ws })
 
--- A call by its kind and up to three numbers: a register and a value of which the low 16 bits count, levels, or an instruction rate.
+-- A call by its kind and up to three numbers: a register and a value of which the low 16 bits count, levels, an instruction rate, a depth, or a
+-- level and a word of which the low 16 bits count. Any other kind is a look.
 unfoldable pub askedOf : ℕ → ℕ → ℕ → ℕ → BoardCall
 askedOf kind x y z =
     if eqb kind 0 then PowerUp
@@ -52,10 +54,11 @@ askedOf kind x y z =
     else if eqb kind 6 then Report x
     else if eqb kind 8 then StepAndLook (levelIn x) (levelIn y) (levelIn z)
     else if eqb kind 9 then PowerUpAt x
+    else if eqb kind 10 then MakeWord (levelIn x) (y % 65536)
     else Look
 
--- An answer as one number: the upper 16 bits are the refusal number, 0 if it was not refused, the lower 16 bits what the same call
--- of one module tells.
+-- An answer as one number, that of the same call of one module: the upper 16 bits are the refusal number, 0 if it was not refused, the lower 16
+-- bits what the call tells; of a word at a time as `wordNumber` has it, which keeps a refusal where it is.
 unfoldable pub boardNumber : BoardAnswer → ℕ
 boardNumber (Refused w) = boardNumberOf w * 65536
 boardNumber Powered = 0
@@ -63,6 +66,7 @@ boardNumber (Made a) = answerNumber a
 boardNumber (Told r) = clockNumber (saidClock r)
 boardNumber (Shown s) = seenNumber (s .interrupt) (s .sck) (s .sdo) (s .ss)
 boardNumber (Stepped a s) = stepNumber a (seenNumber (s .interrupt) (s .sck) (s .sdo) (s .ss))
+boardNumber (Worded a count levels) = wordNumber a count levels
 
 unfoldable pub pairNumber : PairAnswer → ℕ
 pairNumber (pair.Refused w) = boardNumberOf w * 65536
@@ -76,6 +80,7 @@ floatsAfter (Made a) before = before
 floatsAfter (Told r) before = clockFloats (saidClock r) before
 floatsAfter (Shown s) before = before
 floatsAfter (Stepped a s) before = before
+floatsAfter (Worded a count levels) before = before
 
 -- The answers of calls that leave every number of every record as it was.
 abbrev pub keepsAll : BoardAnswer → Bool
@@ -85,6 +90,7 @@ keepsAll (Made a) = untouching a
 keepsAll (Told r) = true
 keepsAll (Shown s) = true
 keepsAll (Stepped a s) = untouching a
+keepsAll (Worded a count levels) = untouching a
 
 abbrev pub pairKeepsAll : PairAnswer → Bool
 pairKeepsAll (pair.Refused w) = true
@@ -105,8 +111,8 @@ pub record MakeTells (c : BoardCall) (r : ℕ) (floats floatsAt : List Float) (b
   pub untouched : keepsAll (answerAlone (moduleIn before) c) ≡ true → after ≡ before
 
 -- After a call of module `n` the list holds the definition's modules, and the lent memory the floats of a report. A call that is
--- refused, a tick or a clock step with no edge, a report and a look leave every number of the list as it was; any other call leaves those of every
--- other record.
+-- refused, a tick, a clock step or a word at a time with no edge, a report and a look leave every number of the list as it was; any other call
+-- leaves those of every other record.
 pub record BoardLeaves (n : ℕ) (c : BoardCall) (floats floatsAt : List Float) (before after : List Cells) : Type 0 where
   pub holds : modulesIn after ≡ boardOf (modulesIn before) n c .after
   pub report : floatsAt ≡ floatsAfter (boardOf (modulesIn before) n c .answer) floats

@@ -6,7 +6,7 @@ ghost use Prim.Native.Nat.{_+_, _-_, _≤_};
 ghost use mathlib.Core.Path.{_≡_};
 ghost use Rattle.spi_board_rules.specs.Owed.{inShift, countOf, atMost65535};
 ghost use Rattle.spi_memory.specs.Memory.{moduleIn};
-ghost use Rattle.spi_board.specs.Boards.{askedOf, callFault, pairFault, MakeTells};
+ghost use Rattle.spi_board.specs.Boards.{askedOf, MakeTells};
 ghost use Rattle.spi_board.specs.Owing.{bothIn, Asks, refusedCall, refusedPair, MakesOwed, LinksOwed};
 
 // A module's memory as a record of the board.
@@ -20,36 +20,6 @@ const BAD_LIST: u32 = 21 * 65536;
 
 const NO_MODULE: u32 = 22 * 65536;
 
-// Why a call of module `n` of a list of `count` is refused, as its answer's number: 0 if it is not.
-fn refusal(count: usize, n: u32) -> u32
-    ensures { λ r. ⌜ r ≡ callFault count n ⌝ }
-{
-    if count < 1 {
-        return BAD_LIST;
-    }
-    if count > 4 {
-        return BAD_LIST;
-    }
-    if n as usize >= count {
-        return NO_MODULE;
-    }
-    0
-}
-
-// The same of a linked run of modules `a` and `b`.
-fn refusal_of_two(count: usize, a: u32, b: u32) -> u32
-    ensures { λ r. ⌜ r ≡ pairFault count a b ⌝ }
-{
-    let first = refusal(count, a);
-    if first != 0 {
-        return first;
-    }
-    if a == b {
-        return NO_MODULE;
-    }
-    refusal(count, b)
-}
-
 // A call of one module by its kind and up to three numbers. A report's floats go into lent memory.
 fn make(w: &mut [u16; 96], kind: u32, x: u32, y: u32, z: u32, report: &mut [f64; 3]) -> u32
     ensures { λ r. ⌜ MakeTells (askedOf kind x y z) r (now (report .entry)) (now (report .exit)) (now (w .entry)) (now (w .exit)) ⌝ }
@@ -62,6 +32,9 @@ fn make(w: &mut [u16; 96], kind: u32, x: u32, y: u32, z: u32, report: &mut [f64;
     }
     if kind == 8 {
         return spi_numbers::clock_step(w, x != 0, y != 0, z != 0);
+    }
+    if kind == 10 {
+        return spi_word::told(w, x != 0, (y % 65536) as u16);
     }
     if kind == 1 {
         return spi_numbers::read(w, x);
@@ -207,15 +180,18 @@ pub fn refused(count: usize, owed: u32, n: u32) -> u64
     both(total, NO_MODULE)
 }
 
-// The same of a linked run of modules `a` and `b`.
+// The same of a linked run of modules `a` and `b`: the first is tested, then whether it is named twice, then the second.
 pub fn refused_two(count: usize, owed: u32, a: u32, b: u32) -> u64
     ensures { λ r. ⌜ r ≡ refusedPair count owed a b ⌝ }
 {
-    let why = refusal_of_two(count, a, b);
-    if why == 0 {
-        return 0;
+    let first = refused(count, owed, a);
+    if first != 0 {
+        return first;
     }
-    both(owed % 65536, why)
+    if a == b {
+        return both(owed % 65536, NO_MODULE);
+    }
+    refused(count, owed, b)
 }
 
 // The question: the words that a board of `count` modules owes, as a number.

@@ -160,8 +160,8 @@ pub extern "C" fn thurafeqa_prescalers(rate: u32, wanted: u32) -> u32
 
 // A call of module `n` of a board, by its kind: 0 power-up, 1 a read of register `x`, 2 a write of `y` to register `x`, 3 a tick with
 // the levels SDI `x` and SS `y`, 4 a pin call with SCK `x`, SDI `y` and SS `z`, 5 the clear call, 6 the clock report for the rate
-// `x`, any other a look at its levels. The low 16 bits of `owed` are the board's total; the total after the call comes back above
-// the answer.
+// `x`, 8 a clock step with SCK `x`, SDI `y` and SS `z`, 9 power-up with the depth `x`, 10 a word at a time with SS `x` and the word `y`,
+// any other a look at its levels. The low 16 bits of `owed` are the board's total; the total after the call comes back above the answer.
 #[no_mangle]
 pub extern "C" fn thurafeqa_board_call(
     board: &mut [Cells],
@@ -276,7 +276,7 @@ pub extern "C" fn thurafeqa_salvage(file: &[u8], salvaged: &mut [u8]) -> u64
 pub extern "C" fn thurafeqa_version() -> u32
     ensures { λ r. ⌜ r ≡ versionNumber ⌝ }
 {
-    393729
+    458752
 }
 
 // The number of the memory's format: it rises wherever the meaning of the 96 numbers changes.

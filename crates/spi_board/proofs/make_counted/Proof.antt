@@ -14,11 +14,18 @@ use Rattle.spi_board.proofs.make_counted.Tie as tie
 returns : tie.Need-returns
 unfolding askedOf if_then_else_ levelIn performOf answerNumber
 returns c =
-    owed-asked 3 _ _ (c .before .before .before .before .before .args .z) (c .before .before .before .before .if1 .taken) (makes-owed (made (told ((c .before .before .tick-within .ensures .taken) (c .before .if2 .taken)) refl)) refl refl (within-owed (c .before .before .before .before .before .args .owed) ((c .before .before .tick-within .ensures .goes) (c .before .if2 .taken))) (c .both .ensures))
+    let a = c .before .before .before .before .before .args in
+    let within = c .before .before .tick-within .ensures in
+    let taken = c .before .if2 .taken in
+    owed-asked 3 (a .x) (a .y) (a .z) (c .before .before .before .before .if1 .taken)
+    (makes-owed (made (told (within .taken taken) refl)) refl refl (within-owed (a .owed) (within .goes taken)) (c .both .ensures))
 
 returns-2 : tie.Need-returns-2
 returns-2 c =
-    owed-asked 3 _ _ (c .before .before .before .before .before .before .before .args .z) (c .before .before .before .before .before .before .if1 .taken) (rw ((c .before .before .before .before .tick-within .ensures .left) (c .before .before .before .if2 .left)) at (c .make-between .ensures))
+    let a = c .before .before .before .before .before .before .before .args in
+    let left = c .before .before .before .before .tick-within .ensures .left in
+    owed-asked 3 (a .x) (a .y) (a .z) (c .before .before .before .before .before .before .if1 .taken)
+    (rw (left (c .before .before .before .if2 .left)) at (c .make-between .ensures))
 
 returns-3 : tie.Need-returns-3
 returns-3 c = (c .make-between2 .ensures)

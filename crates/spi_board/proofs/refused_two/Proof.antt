@@ -1,19 +1,18 @@
--- No refusal, or its number under the total.
+-- The first module is tested, then whether it is named twice, then the second.
 use borrow.Author.Needs.{needs}
-use mathlib.Core.Path.{refl, sym, ap, _∙_}
-use Rattle.laws.proofs.Choices.{so-eq, not-so-eq}
-use Rattle.spi_board.specs.Owing.{bothIn, refusedNumber}
+use Rattle.spi_board.proofs.Owing.{two-first, two-same, two-second}
 use Rattle.spi_board.proofs.refused_two.Statement.{statement}
 use Rattle.spi_board.proofs.refused_two.Tie as tie
 
 returns : tie.Need-returns
-unfolding refusedNumber
-returns c = so-eq _ _ _ _ (sym (c .before .refusal-of-two .ensures) ∙ c .if1 .taken) refl
+returns c = two-first _ _ _ _ (c .before .refused .ensures) (search needs)
 
 returns-2 : tie.Need-returns-2
-unfolding refusedNumber
-returns-2 c =
-    not-so-eq _ _ _ _ (λ e. c .before .if1 .left (c .before .before .refusal-of-two .ensures ∙ e)) (c .both .ensures ∙ ap (bothIn _) (c .before .before .refusal-of-two .ensures))
+returns-2 c = two-same _ _ _ _ (c .before .before .before .refused .ensures) (search needs) (search needs) (c .both .ensures)
+
+returns-3 : tie.Need-returns-3
+returns-3 c = two-second _ _ _ _ (c .before .before .before .refused .ensures) (search needs) (search needs) (c .refused2 .ensures)
 
 pub refused-two-spec : {M : Type 1} → statement M
-refused-two-spec = tie.close (tie.spec (λ c κs. search needs) returns (λ c κs. search needs) returns-2)
+refused-two-spec =
+    tie.close (tie.spec (λ c κs. search needs) returns (λ c κs. search needs) returns-2 (λ c κs. search needs) returns-3)
