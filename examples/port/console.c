@@ -84,18 +84,27 @@ static void send_round(thurafeqa_board *b, uint8_t byte)
 }
 
 /* SPI4 takes words until its transmit buffer is full: one is in the shift
- * register and 16 wait, which SPIBEC shows as 7. Power-up drops them. */
+ * register and 16 wait, which SPIBEC shows as 7. The first is sent, all its
+ * edges in one call, while another comes in. Power-up drops the rest. */
 static void fill_deep(thurafeqa_board *b)
 {
-    uint32_t words = 0;
+    uint32_t words = 0, answer;
 
     told("power-up", thurafeqa_board_power_up_with(b, SPI4, 16));
     open_module(b, SPI4, THURAFEQA_CON1_MSTEN | THURAFEQA_CON1_MODE16,
                 THURAFEQA_CON2_SPIBEN);
     while (thurafeqa_refusal(thurafeqa_board_write(b, SPI4, THURAFEQA_BUF,
-                                                   words)) == 0)
+                                                   0x1000 + words)) == 0)
         words++;
     printf("SPI4 took %u words\n", (unsigned)words);
+    print_board(b);
+    answer = thurafeqa_board_word(b, SPI4, 0, 0x600D);
+    if (THURAFEQA_WORD_REFUSAL(answer) != 0)
+        printf("port: word refused with %u\n",
+               (unsigned)THURAFEQA_WORD_REFUSAL(answer));
+    printf("SPI4 sent %04X and read %04X in one call\n",
+           (unsigned)THURAFEQA_WORD_LEVELS(answer),
+           told("BUF read", thurafeqa_board_read(b, SPI4, THURAFEQA_BUF)));
     print_board(b);
     told("power-up", thurafeqa_board_power_up_with(b, SPI4, 16));
     print_board(b);

@@ -64,16 +64,19 @@ fn send_round(b: &mut Board, byte: u8) -> Result<(), Refusal> {
     Ok(())
 }
 
-/// SPI4 takes words until its transmit buffer is full: one is in the shift register and 16 wait, which SPIBEC shows as 7.
-/// Power-up drops them.
+/// SPI4 takes words until its transmit buffer is full: one is in the shift register and 16 wait, which SPIBEC shows as 7. The
+/// first is sent, all its edges in one call, while another comes in. Power-up drops the rest.
 fn fill_deep(b: &mut Board) -> Result<(), Refusal> {
     let mut words = 0;
     b.power_up_with(SPI4, 16)?;
     open(b, SPI4, CON1_MSTEN | CON1_MODE16, CON2_SPIBEN)?;
-    while b.write(SPI4, BUF, words).is_ok() {
+    while b.write(SPI4, BUF, 0x1000 + words).is_ok() {
         words += 1;
     }
     println!("SPI4 took {words} words");
+    print_board(b)?;
+    let sent = b.word(SPI4, false, 0x600D)?.levels;
+    println!("SPI4 sent {sent:04X} and read {:04X} in one call", b.read(SPI4, BUF)?);
     print_board(b)?;
     b.power_up_with(SPI4, 16)?;
     print_board(b)

@@ -1,6 +1,6 @@
 /* A board: one to four modules of the second model in a list, and beside it the
  * words that they still owe. Written from requests Seven, Eight and Twelve of
- * document 02 and from nothing else. */
+ * document 02, and from what a word at a time is asked to be. */
 #ifndef BOARD_H
 #define BOARD_H
 

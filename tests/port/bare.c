@@ -224,7 +224,8 @@ static void board(void)
     is(thurafeqa_board_power_up_with(&b, 3, 16), 0);
     is(thurafeqa_board_owes(&b), 0);
     is(thurafeqa_board_call(spi, 4, 7, 0, 9, 4, 0, 0, &report), (uint64_t)7 << 32);
-    is(thurafeqa_board_call(spi, 4, 7, 0, 10, 4, 0, 0, &report), (uint64_t)7 << 32);
+    is(thurafeqa_board_call(spi, 4, 7, 0, 10, 1, 4, 0, &report), (uint64_t)7 << 32 | 2u << 16);
+    is(thurafeqa_board_call(spi, 4, 7, 0, 11, 1, 4, 0, &report), (uint64_t)7 << 32);
     is(thurafeqa_board_call(spi, 4, 7, 0, 9, 17, 0, 0, &report), (uint64_t)7 << 32 | 25u << 16);
     is(thurafeqa_board_write(&b, 0, THURAFEQA_CON1, THURAFEQA_CON1_MSTEN), 0);
     is(thurafeqa_board_write(&b, 0, THURAFEQA_CON2, THURAFEQA_CON2_SPIBEN), 0);
@@ -232,6 +233,10 @@ static void board(void)
     while (b.owed < 9 && thurafeqa_board_write(&b, 0, THURAFEQA_BUF, 1) == 0)
         ;
     is(thurafeqa_board_owes(&b), 5);
+    is(thurafeqa_board_word(&b, 4, 0, 0x3C), THURAFEQA_NO_MODULE << 16);
+    is(thurafeqa_board_word(&b, 0, 0, 0xFF3C), 8u << 24 | 1u);
+    is(thurafeqa_board_owes(&b), 4);
+    is(thurafeqa_board_read(&b, 0, THURAFEQA_BUF), 0x3C);
 }
 
 int session(void)

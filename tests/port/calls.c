@@ -9,9 +9,9 @@
 #include <string.h>
 
 const char *const kind_name[KINDS] = {
-    "power-up",   "power-up with", "read",   "write", "tick",   "pins",
-    "clock step", "clear",         "linked", "clock", "levels", "play",
-    "save"};
+    "power-up",   "power-up with", "read",  "write",  "tick",  "pins",
+    "clock step", "word",          "clear", "linked", "clock", "levels",
+    "play",       "save"};
 const char *const view_name[VIEWS] = {"STAT", "CON1", "CON2", "BUF", "levels"};
 
 const thurafeqa_clock_report no_report = {-1, -2, -3};
@@ -19,6 +19,12 @@ const thurafeqa_clock_report no_report = {-1, -2, -3};
 int concerned(const struct call *c)
 {
     return c->kind == LINKED ? 2 : c->kind == SAVE ? 0 : 1;
+}
+
+uint32_t refusal_of(const struct call *c, uint32_t answer)
+{
+    return c->kind == WORD ? THURAFEQA_WORD_REFUSAL(answer)
+                           : thurafeqa_refusal(answer);
 }
 
 int is_given(uint32_t number)
@@ -88,6 +94,7 @@ uint32_t board_kind(enum kind kind)
     case TICK: return THURAFEQA_BOARD_TICK;
     case PINS: return THURAFEQA_BOARD_PINS;
     case STEP: return THURAFEQA_BOARD_CLOCK_STEP;
+    case WORD: return THURAFEQA_BOARD_WORD;
     case CLEAR: return THURAFEQA_BOARD_CLEAR;
     case CLOCK: return THURAFEQA_BOARD_CLOCK;
     default: return THURAFEQA_BOARD_LEVELS;
@@ -96,9 +103,9 @@ uint32_t board_kind(enum kind kind)
 
 void put_on_board(struct call *c, int first, size_t count)
 {
-    static const uint32_t look[] = {10,      11,      255,         256,
-                                    0x10000, 0x10009, 0x80000000u, 0xFFFFFFFFu};
-    static const int arguments[] = {0, 1, 1, 2, 2, 3, 3, 0, 1, 1, 0};
+    static const uint32_t look[] = {11,      12,      255,         256,
+                                    0x10000, 0x1000A, 0x80000000u, 0xFFFFFFFFu};
+    static const int arguments[] = {0, 1, 1, 2, 2, 3, 3, 2, 0, 1, 1, 0};
 
     c->board = 1;
     c->first = first;
@@ -166,6 +173,7 @@ static uint32_t ask_header(thurafeqa_board *b, const struct call *c,
     case TICK: return thurafeqa_board_tick(b, c->n, c->x, c->y);
     case PINS: return thurafeqa_board_pins(b, c->n, c->x, c->y, c->z);
     case STEP: return thurafeqa_board_clock_step(b, c->n, c->x, c->y, c->z);
+    case WORD: return thurafeqa_board_word(b, c->n, c->x, c->y);
     case CLEAR: return thurafeqa_board_clear(b, c->n);
     case LINKED: return thurafeqa_board_run(b, c->n, c->n_other, c->x);
     case CLOCK: return thurafeqa_board_clock(b, c->n, c->x, &o->report);
@@ -238,6 +246,7 @@ void print_call(const struct call *c)
     case READ:
     case CLOCK: printf(" %" PRIu32, c->x); break;
     case TICK: printf(" %" PRIu32 " %" PRIu32, c->x, c->y); break;
+    case WORD:
     case WRITE: printf(" %" PRIu32 " %04" PRIX32, c->x, c->y); break;
     case PINS:
     case STEP:
@@ -269,6 +278,7 @@ void ask_library(thurafeqa *m, thurafeqa *other, const struct call *c,
     case TICK: o->answer = thurafeqa_tick(m, c->x, c->y); break;
     case PINS: o->answer = thurafeqa_pins(m, c->x, c->y, c->z); break;
     case STEP: o->answer = thurafeqa_clock_step(m, c->x, c->y, c->z); break;
+    case WORD: o->answer = thurafeqa_word(m, c->x, c->y); break;
     case CLEAR: thurafeqa_clear(m); break;
     case LINKED: o->answer = thurafeqa_linked(m, other, c->x); break;
     case CLOCK: o->answer = thurafeqa_clock(m, c->x, &o->report); break;

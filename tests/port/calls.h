@@ -15,6 +15,7 @@ enum kind {
     TICK,
     PINS,
     STEP,
+    WORD, /* at a time */
     CLEAR,
     LINKED,
     CLOCK,
@@ -79,6 +80,10 @@ void fill_lent(uint8_t *lent, size_t room, uint32_t number);
 
 /* How many modules a call is made on. */
 int concerned(const struct call *c);
+
+/* The refusal number of what such a call answers, 0 if none. That of a word at a
+ * time has more above it. */
+uint32_t refusal_of(const struct call *c, uint32_t answer);
 
 /* Refusal numbers are below this. Does any call give that one? Not 4 and 12,
  * which are gone, not 9, which is of scripts, and not 23 and 24, which are of

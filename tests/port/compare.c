@@ -134,11 +134,18 @@ static unsigned as_step(int r, unsigned levels)
     return levels | (r == REF_NO_EDGE ? THURAFEQA_NO_EDGE : 0u);
 }
 
+/* What a word at a time tells, unless it is refused. */
+static unsigned as_word(int r, unsigned levels, int count)
+{
+    return levels | (unsigned)count << 24 |
+           (r == REF_NO_EDGE ? 0x20000000u : 0u);
+}
+
 static void ask_model(struct ref_spi *m, struct ref_spi *other,
                       const struct call *c, struct outcome *o)
 {
-    unsigned value = 0;
-    int r = 0;
+    unsigned value = 0, levels = 0;
+    int r = 0, count = 0;
 
     o->report = no_report;
     switch (c->kind) {
@@ -154,6 +161,10 @@ static void ask_model(struct ref_spi *m, struct ref_spi *other,
     case STEP:
         r = ref_step(m, c->x != 0, c->y != 0, c->z != 0);
         value = as_step(r, model_levels(m));
+        break;
+    case WORD:
+        r = ref_word(m, c->x != 0, c->y & 0xFFFFu, &levels, &count);
+        value = as_word(r, levels, count);
         break;
     case CLEAR: ref_clear(m); break;
     case LINKED: r = ref_linked(m, other, c->x, &value); break;
@@ -173,8 +184,8 @@ static void ask_model_board(struct ref_spi *list, uint32_t owed,
     struct board b = {list, c->count, owed & 0xFFFFu};
     struct board_levels seen;
     double rate = 0, bit_time = 0;
-    unsigned value = 0;
-    int r = 0, which = 0;
+    unsigned value = 0, levels = 0;
+    int r = 0, which = 0, count = 0;
 
     o->report = no_report;
     switch (c->kind) {
@@ -193,6 +204,10 @@ static void ask_model_board(struct ref_spi *list, uint32_t owed,
         r = board_step(&b, c->n, c->x != 0, c->y != 0, c->z != 0);
         if (board_see(&b, c->n, &seen) == 0)
             value = as_step(r, as_levels(&seen));
+        break;
+    case WORD:
+        r = board_word(&b, c->n, c->x != 0, c->y & 0xFFFFu, &levels, &count);
+        value = as_word(r, levels, count);
         break;
     case CLEAR: r = board_clear(&b, c->n); break;
     case LINKED:
@@ -348,7 +363,7 @@ static int find_changed(const struct sides *was, const struct sides *is,
     for (i = 0; i < MODULES; i++) {
         int named = i == c->module || (c->kind == LINKED && i == c->other);
 
-        if (named && thurafeqa_refusal(answer) == 0)
+        if (named && refusal_of(c, answer) == 0)
             continue;
         if (memcmp(&was->library[i], &is->library[i], sizeof(thurafeqa)) != 0 ||
             memcmp(&was->model[i], &is->model[i], sizeof(struct ref_spi)) != 0)
@@ -600,6 +615,18 @@ static struct {
     unsigned long edge, no_edge, linked_edges, clock[3];
     /* clock steps by role: unframed, frame host, frame client; no edge */
     unsigned long step[ROLES][3], step_no_edge;
+    /* words at a time, on a module alone and on a board: by role, 16 bits, CKE
+     * and CKP, with a word to make; of framed modules, by role; by the depth.
+     * On a board by 16 bits and the edges that the word under way has had, which
+     * tests/words does on a module. Words that are fillers, with an edge to the
+     * idle level first, that are lost, with a further one loaded. Without a
+     * word: no edge, not selected, of these with a word aborted, nothing to send
+     * under DISSCK */
+    unsigned long word[2][ROLES][2][2][2], word_framed[2][ROLES];
+    unsigned long word_depth[2][DEPTHS], word_edge[2][32];
+    unsigned long word_filler[2], word_idle[2], word_lost[2], word_next[2];
+    unsigned long word_no_edge[2], word_unselected[2], word_aborted[2];
+    unsigned long word_nothing[2];
     /* finished words: enhanced, role, 16 bits, CKE, CKP */
     unsigned long words[2][ROLES][2][2][2];
     /* those of framed modules: role, frame client, 16 bits, FRMDLY, FRMPOL;
@@ -940,6 +967,42 @@ static void count_edge(const struct ref_spi *before,
         count_framed(before, after);
 }
 
+/* A word at a time that was not refused, with this level at SS. */
+static void count_word(const struct call *c, const struct ref_spi *before,
+                       const struct ref_spi *after)
+{
+    enum role role = role_of(before);
+    int b = c->board;
+
+    reached.word_depth[b][depth_of(before)]++;
+    if (before->frmen) {
+        reached.word_framed[b][role]++;
+        count_edge(before, after);
+        return;
+    }
+    if (role == SSEN_CLIENT && c->x != 0) {
+        reached.word_unselected[b]++;
+        reached.word_aborted[b] += before->begun && !before->filler;
+        return;
+    }
+    if (before->msten && !before->loaded) {
+        reached.word_no_edge[b] += role == OWN_CLOCK;
+        reached.word_nothing[b] += role == DISSCK_HOST;
+        return;
+    }
+    reached.word[b][role][before->mode16][before->cke][before->ckp]++;
+    if (b)
+        reached.word_edge[before->mode16][before->begun ? before->edges : 0]++;
+    reached.word_filler[b] +=
+        is_filler(before) ||
+        (!before->begun && !before->loaded && before->tx.n == 0);
+    reached.word_idle[b] += !before->begun && before->sck != before->ckp;
+    reached.word_lost[b] += !before->spirov && after->spirov;
+    reached.word_next[b] += (unsigned long)after->loaded;
+    count_words(before, 1);
+    count_lost(before);
+}
+
 /* A linked run refused with 7: are both ends in their roles, and framed? */
 static void count_unlinked(const struct ref_spi *host,
                            const struct ref_spi *client)
@@ -1086,7 +1149,8 @@ static uint32_t refusal_behind(const struct call *c, const struct ref_spi *pool)
     case READ:
     case WRITE: return c->x > THURAFEQA_BUF ? THURAFEQA_NO_SUCH_REGISTER : 0;
     case CLOCK: return c->x == 0 ? THURAFEQA_NO_RATE : 0;
-    case STEP: return there && !m->spien ? THURAFEQA_DISABLED : 0;
+    case STEP:
+    case WORD: return there && !m->spien ? THURAFEQA_DISABLED : 0;
     case TICK:
     case PINS:
         if (!there)
@@ -1164,7 +1228,7 @@ static void count_total(const struct call *c, const struct outcome *o,
                         const struct ref_spi *before,
                         const struct ref_spi *pool)
 {
-    uint32_t number = thurafeqa_refusal(o->answer);
+    uint32_t number = refusal_of(c, o->answer);
     int off = number == THURAFEQA_BAD_LIST || number == THURAFEQA_NO_MODULE;
     uint32_t own;
 
@@ -1190,7 +1254,7 @@ static void count_board(const struct call *c, uint32_t number)
 {
     reached.direct[c->direct]++;
     reached.far_kind += c->kind == LOOK && c->direct &&
-                        c->of_kind > THURAFEQA_BOARD_POWER_UP_WITH;
+                        c->of_kind > THURAFEQA_BOARD_WORD;
     reached.board[c->kind][c->count][c->n]++;
     if (c->kind == LINKED && number == 0)
         reached.board_linked[c->n][c->n_other]++;
@@ -1200,7 +1264,7 @@ static void count(const struct call *c, const struct outcome *o,
                   const struct ref_spi *before, const struct ref_spi *pool)
 {
     const struct ref_spi *m = &pool[c->module];
-    uint32_t number = thurafeqa_refusal(o->answer);
+    uint32_t number = refusal_of(c, o->answer);
     unsigned edges = thurafeqa_value(o->answer);
 
     reached.kinds[c->kind]++;
@@ -1265,6 +1329,7 @@ static void count(const struct call *c, const struct outcome *o,
         reached.step_no_edge += (o->answer & THURAFEQA_NO_EDGE) != 0;
         count_edge(&before[0], m);
         break;
+    case WORD: count_word(c, &before[0], m); break;
     case LINKED:
         reached.linked_edges += edges;
         count_words(m, ((unsigned)before[0].edges + edges) /
@@ -1525,7 +1590,7 @@ static const struct row board_call_rows[] = {
     {"\ncalls on boards:", 0},
     {"through the header", &reached.direct[0]},
     {"direct", &reached.direct[1]},
-    {"levels by a kind above 9", &reached.far_kind},
+    {"levels by a kind above 10", &reached.far_kind},
 };
 
 static const struct row no_module_rows[] = {
@@ -1605,7 +1670,7 @@ static const struct row totals_rows[] = {
 static void print_totals(void)
 {
     static const enum kind falls[] = {POWER_UP, POWER_UP_WITH, WRITE, TICK,
-                                      PINS,     STEP,          LINKED};
+                                      PINS,     STEP,          WORD,  LINKED};
     int k;
 
     printf("\nwords owed, handed from call to call:");
@@ -1613,7 +1678,7 @@ static void print_totals(void)
         print_count(kind_name[k], reached.carried[k]);
     PRINT(carried_rows);
     printf(" fell by");
-    for (k = 0; k < 7; k++)
+    for (k = 0; k < (int)(sizeof falls / sizeof falls[0]); k++)
         print_count(kind_name[falls[k]], reached.fell[falls[k]]);
     PRINT(totals_rows);
 }
@@ -1631,6 +1696,40 @@ static void print_steps(void)
         print_count("as frame client", reached.step[i][2]);
     }
     print_count("no edge", reached.step_no_edge);
+}
+
+/* Words at a time, on modules alone and on boards. */
+static void print_word_calls(int b)
+{
+    int i, k;
+
+    printf("\nwords at a time, on %s:", b ? "boards" : "modules");
+    for (i = 0; i < ROLES; i++) {
+        printf("\n  %-19s by width, CKE and CKP", role_name[i]);
+        for (k = 0; k < 8; k++) {
+            if (i != CLIENT || k / 2 % 2 == 0) /* CKE without SSEN is refused */
+                print_count("", reached.word[b][i][k / 4][k / 2 % 2][k % 2]);
+        }
+        if (i != SSEN_CLIENT) /* SSEN does not count in a framed module */
+            print_count("framed", reached.word_framed[b][i]);
+    }
+    for (i = 0; i < 2 && b; i++) {
+        printf("\n  of %d bits, by the edges before:", i ? 16 : 8);
+        for (k = 0; k < (i ? 32 : 16); k++)
+            print_count("", reached.word_edge[i][k]);
+    }
+    printf("\n  of depth");
+    for (i = 0; i < DEPTHS; i++)
+        print_numbered("", (int)depths[i], reached.word_depth[b][i]);
+    print_count("fillers", reached.word_filler[b]);
+    print_count("with an idle edge", reached.word_idle[b]);
+    print_count("lost", reached.word_lost[b]);
+    print_count("with the next loaded", reached.word_next[b]);
+    printf("\n  without a word:");
+    print_count("no edge", reached.word_no_edge[b]);
+    print_count("not selected", reached.word_unselected[b]);
+    print_count("aborted", reached.word_aborted[b]);
+    print_count("nothing to send", reached.word_nothing[b]);
 }
 
 /* One line for each depth. */
@@ -1730,6 +1829,8 @@ static void print_reached(void)
     print_marks();
     PRINT(tick_rows);
     print_steps();
+    print_word_calls(0);
+    print_word_calls(1);
     PRINT(clock_rows);
     print_framed();
     print_traces();
@@ -1890,10 +1991,10 @@ static void make(enum kind kind, int module, int other, uint32_t x, uint32_t y,
         tell(sequence, length, noise);
         exit(1);
     }
-    if (thurafeqa_refusal(l.answer) != 0 &&
-        !is_given(thurafeqa_refusal(l.answer))) {
+    if (refusal_of(&c, l.answer) != 0 &&
+        !is_given(refusal_of(&c, l.answer))) {
         printf("call %lu of seed %lu: no call gives the refusal number %d\n  ",
-               made, seed, (int)thurafeqa_refusal(l.answer));
+               made, seed, (int)refusal_of(&c, l.answer));
         print_call(&c);
         printf("\n");
         exit(1);
@@ -1947,6 +2048,11 @@ static void clock_step(int i, int sck, int ss)
 static void pins(int i, int sck, int ss)
 {
     make(PINS, i, i, some_level(sck), any_level(), some_level(ss));
+}
+
+static void word_at_a_time(int i, int ss)
+{
+    make(WORD, i, i, some_level(ss), any_number(), 0);
 }
 
 /* ---- random settings ------------------------------------------------- */
@@ -2129,19 +2235,36 @@ static int edges_left(const struct ref_spi *m)
     return n;
 }
 
+/* Words at a time: the rest of the word under way, and some more; an SSEN client
+ * is seldom not selected. */
+static void give_words(int i)
+{
+    uint32_t n = 1 + below(3);
+
+    while (n-- > 0) {
+        if (one_in(2))
+            write_register(i, THURAFEQA_BUF, some_word());
+        word_at_a_time(i, one_in(10));
+    }
+}
+
 static void give_edges(int i)
 {
     const struct ref_spi *m = &now.model[i];
-    int word = word_edges(m);
+    int word = word_edges(m), words = 0;
     uint32_t apart = 2 + below(7);
     int n;
 
     if ((m->msten || m->frmen) && !m->loaded && one_in(2))
         write_register(i, THURAFEQA_BUF, some_word());
-    switch (below(8)) {
+    switch (below(12)) {
     case 0: case 1: n = 1 + (int)below(3); break;
     case 2: n = (int)below((uint32_t)word); break;
     case 3: n = word * (1 + (int)below(one_in(4) ? 17 : 6)); break;
+    case 4: case 5: case 6: case 7:
+        n = (int)below((uint32_t)word);
+        words = 1;
+        break;
     default: n = edges_left(m); break;
     }
     while (n-- > 0) {
@@ -2149,6 +2272,8 @@ static void give_edges(int i)
         if (role_of(m) == OWN_CLOCK && !m->loaded && !m->frmen && !one_in(4))
             return;
     }
+    if (words)
+        give_words(i);
 }
 
 /* A marked module: firmware clears SPIROV alone and goes on, or it disables the
@@ -2218,8 +2343,9 @@ static void write_setting(int i)
 /* Any call, sensible or not. */
 static void do_anything(int i)
 {
-    switch (below(9)) {
+    switch (below(10)) {
     case 0: clock_report(i, some_rate(&now.model[i])); break;
+    case 8: word_at_a_time(i, (int)below(2)); break;
     case 1: read_register(i, some_register()); break;
     case 7: look(i); break;
     case 2: write_register(i, some_register(), any_number()); break;

@@ -38,8 +38,8 @@
  *   before, moved by as much as on a board of the named modules alone with a
  *   total that has room both ways, but not below 0 and not above 65,535. A
  *   refused call, a look and a read do not move it, a BUF write that is done
- *   moves it up by one, an edge by none or down by one, a linked run, disabling
- *   and power-up never up. The question answers it, or 21.
+ *   moves it up by one, an edge by none or down by one, a word at a time, a
+ *   linked run, disabling and power-up never up. The question answers it, or 21.
  * Exit 0: all held. Exit 1: something did not, or a refusal was not reached.
  * Exit 2: bad usage. */
 #define _DEFAULT_SOURCE
@@ -542,7 +542,8 @@ static uint32_t table_refusal(const struct call *c,
         return is_depth(c->x) ? 0 : THURAFEQA_NO_SUCH_DEPTH;
     case READ:
     case WRITE: return register_refusal(c, seen[0]);
-    case STEP: return enabled(seen[0]) ? 0 : THURAFEQA_DISABLED;
+    case STEP:
+    case WORD: return enabled(seen[0]) ? 0 : THURAFEQA_DISABLED;
     case TICK:
     case PINS:
         if (!enabled(seen[0]))
@@ -618,10 +619,27 @@ static void hold_report(const struct call *c, const struct outcome *o,
          "a clock report carries the wrong bound");
 }
 
+/* A word at a time tells no edge and nothing else, one level of a framed module,
+ * and of any other as many levels as its word has bits at the most. */
+static void hold_word(uint32_t answer, const uint32_t *seen)
+{
+    uint32_t count = THURAFEQA_WORD_COUNT(answer);
+    uint32_t most = seen[CON1] & THURAFEQA_CON1_MODE16 ? 16 : 8;
+
+    if (THURAFEQA_WORD_NO_EDGE(answer)) {
+        hold(answer == 1u << 29, "no edge, and something else is told");
+        hold(own_clock(seen) && !framed(seen), "a word tells no edge");
+        return;
+    }
+    hold(answer >> 30 == 0, "a word tells other bits");
+    hold(framed(seen) ? count == 1 : count <= most, "a word of other levels");
+    hold(THURAFEQA_WORD_LEVELS(answer) >> count == 0, "levels beside a word's");
+}
+
 static void hold_answer(const struct call *c, const struct outcome *o,
                         uint32_t seen[2][VIEWS])
 {
-    uint32_t number = thurafeqa_refusal(o->answer);
+    uint32_t number = refusal_of(c, o->answer);
     uint16_t value = thurafeqa_value(o->answer);
 
     hold(number == 0 || is_given(number),
@@ -635,7 +653,7 @@ static void hold_answer(const struct call *c, const struct outcome *o,
         hold(memcmp(&o->report, &no_report, sizeof no_report) == 0,
              "a call that is no clock report wrote one");
     if (number == THURAFEQA_BAD_LIST || number == THURAFEQA_NO_MODULE) {
-        hold(value == 0, "a refused call tells a value");
+        hold(o->answer == number << 16, "a refused call tells a value");
         return;
     }
     if (c->kind == READ && c->x == THURAFEQA_BUF)
@@ -643,7 +661,9 @@ static void hold_answer(const struct call *c, const struct outcome *o,
     if (c->kind == LOOK)
         hold(o->answer == seen[0][LEVELS], "a look at the levels is another");
     else if (number != 0)
-        hold(value == 0, "a refused call tells a value");
+        hold(o->answer == number << 16, "a refused call tells a value");
+    else if (c->kind == WORD)
+        hold_word(o->answer, seen[0]);
     else if (c->kind == TICK && framed(seen[0]))
         hold(value == 1, "a framed host's tick made no edge");
     else if (c->kind == TICK)
@@ -700,7 +720,7 @@ static void hold_mark(const struct call *c, const uint32_t *before,
         return;
     hold(marked(after), "a mark went without disabling");
     hold(c->kind == TICK || c->kind == PINS || c->kind == STEP ||
-             c->kind == LINKED,
+             c->kind == WORD || c->kind == LINKED,
          "a call without an edge set the mark");
     hold((after[STAT] & THURAFEQA_STAT_SPIROV) &&
              (after[CON2] & THURAFEQA_CON2_SPIBEN),
@@ -744,13 +764,15 @@ static void hold_copies(void)
 /* Does a call that was answered like this leave its modules as they were? */
 static int no_effect(const struct call *c, const struct outcome *o)
 {
-    if (thurafeqa_refusal(o->answer) != 0 || c->kind == CLOCK ||
+    if (refusal_of(c, o->answer) != 0 || c->kind == CLOCK ||
         c->kind == LOOK || c->kind == SAVE)
         return 1;
     if (c->kind == READ)
         return c->x != THURAFEQA_BUF;
     if (c->kind == STEP)
         return (o->answer & THURAFEQA_NO_EDGE) != 0;
+    if (c->kind == WORD)
+        return THURAFEQA_WORD_NO_EDGE(o->answer) != 0;
     return c->kind == TICK && thurafeqa_value(o->answer) == 0;
 }
 
@@ -800,10 +822,10 @@ static void make(void)
                  "memory changed, and should not have");
     }
     memcpy(seen, after, sizeof seen);
-    if (thurafeqa_refusal(o[0].answer) == 0)
+    if (refusal_of(&now, o[0].answer) == 0)
         done[now.kind]++;
     else
-        refused[thurafeqa_refusal(o[0].answer)]++;
+        refused[refusal_of(&now, o[0].answer)]++;
 }
 
 static uint32_t some_argument(void)
@@ -975,7 +997,7 @@ static long moved_alone(const thurafeqa *before)
 /* What a call may move the total by, as far as that is told by its kind. */
 static void hold_move(const struct outcome *o, const uint32_t *shown, long move)
 {
-    int refused_or_looks = thurafeqa_refusal(o->answer) != 0 ||
+    int refused_or_looks = refusal_of(&now, o->answer) != 0 ||
                            now.kind == READ || now.kind == CLEAR ||
                            now.kind == CLOCK || now.kind == LOOK;
 
@@ -985,6 +1007,8 @@ static void hold_move(const struct outcome *o, const uint32_t *shown, long move)
         hold(move == 1, "an accepted word did not move the total by one");
     else if (now.kind == TICK || now.kind == PINS || now.kind == STEP)
         hold(move == 0 || move == -1, "an edge moved the total by more");
+    else if (now.kind == WORD) /* -2: memory of an SSEN client with one loaded */
+        hold(move <= 0 && move >= -2, "a word moved the total by more");
     else if (now.kind == LINKED || powers_up(&now))
         hold(move <= 0, "the total rose without an accepted word");
     else if (now.x == THURAFEQA_STAT && enabled(shown))
@@ -1038,7 +1062,7 @@ static void make_on_board(void)
     hold(guarded(&lists[0]) && guarded(&lists[1]),
          "a number beside the list was changed");
     hold_answer(&now, &o[0], shown);
-    number = thurafeqa_refusal(o[0].answer);
+    number = refusal_of(&now, o[0].answer);
     spared = no_effect(&now, &o[0]);
     if (!spared) {
         ask_library(&alone[now.n], &alone[now.kind == LINKED ? now.n_other : 0],
