@@ -18,7 +18,7 @@ ghost use Rattle.spi_link_words.proofs.Begins.{firstLevels};
 ghost use Rattle.spi_memory.specs.Memory.{settingsIn, engineIn, moduleIn, Steps};
 ghost use Rattle.spi_link.specs.Wire.{openLevel, runIn, Links};
 
-// The most edges that a run may be asked for: two for each of 16 bits, for a full buffer of 16 words and the one in the shift register.
+// The most edges that a run may be asked for: two for each of 16 bits of 17 words.
 const MOST_EDGES: u32 = 2 * 16 * (16 + 1);
 
 // The level that the other end reads, of an SDO that is driven unless DISSDO is set.
