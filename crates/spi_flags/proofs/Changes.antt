@@ -23,7 +23,7 @@ use Rattle.spi_rules.specs.Watch.{Watched, watchedCall, sightOf, entryOf}
 use Rattle.spi_rules.specs.Flags.{Seen, seen, raised}
 use Rattle.spi_rules.specs.Demands.{CallChanges}
 use Rattle.spi_rules.proofs.BuffersOrder.{waiting-length, unread-length}
-use Rattle.spi_rules.proofs.RefusalsKinds.{Fitting, call-fits}
+use Rattle.spi_invariant.proofs.RefusalsKinds.{Fitting, call-fits}
 use Rattle.spi_invariant.proofs.Holds.{call-keeps}
 use Rattle.spi_order.proofs.Order.{Lives, lives-on}
 use Rattle.spi_flags.proofs.Raised.{raised-none}

@@ -21,3 +21,9 @@ pub mod Pulse
 -- What the invariant is good for:
 pub mod Uses
 pub mod Words
+-- Refusals: a refused call changes nothing, refusals are those of the table, and answers are in kind:
+pub mod RefusalsUnchanged
+pub mod RefusalsExact
+pub mod RefusalsKinds
+-- Power-up with a depth:
+pub mod PowersUp

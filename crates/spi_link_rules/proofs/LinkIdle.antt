@@ -32,7 +32,7 @@ use Rattle.spi_rules.specs.Demands.{edgesMade, IsIdle}
 use Rattle.spi_rules.proofs.Sizes.{width-most, depth-most}
 use Rattle.spi_rules.proofs.BuffersOrder.{waiting-length}
 use Rattle.spi_rules.proofs.ClockSteps.{stands, tick-cases, tick-stands, tick-own}
-use Rattle.spi_rules.proofs.RefusalsUnchanged.{no-edge-unchanged}
+use Rattle.spi_invariant.proofs.RefusalsUnchanged.{no-edge-unchanged}
 use Rattle.spi_invariant.proofs.Holds.{call-keeps}
 use Rattle.spi_owed.proofs.Parts.{givenIn, owedIn, AllUndisturbing}
 use Rattle.spi_owed.proofs.Calls.{calls-pay, calls-leave, none-owed-idle, no-edge-owes-none}

@@ -7,10 +7,10 @@ use Rattle.spi_rules.specs.Demands.{OneModule}
 use Rattle.spi_rules.specs.Examples.{paperExamples}
 use Rattle.spi_rules.proofs.ExamplesHold.{examples-hold, further-examples-hold, frame-examples-hold, mark-examples-hold, step-examples-hold, depth-examples-hold, figures-hold}
 use Rattle.spi_rules.proofs.ClockSteps.{clock-steps}
-use Rattle.spi_rules.proofs.PowersUp.{powers-up}
-use Rattle.spi_rules.proofs.RefusalsKinds.{call-fits}
-use Rattle.spi_rules.proofs.RefusalsExact.{never-given, refused-exactly}
-use Rattle.spi_rules.proofs.RefusalsUnchanged.{refused-unchanged}
+use Rattle.spi_invariant.proofs.PowersUp.{powers-up}
+use Rattle.spi_invariant.proofs.RefusalsKinds.{call-fits}
+use Rattle.spi_invariant.proofs.RefusalsExact.{never-given, refused-exactly}
+use Rattle.spi_invariant.proofs.RefusalsUnchanged.{refused-unchanged}
 use Rattle.spi_order.proofs.Order.{life-holds}
 use Rattle.spi_flags.proofs.Changes.{call-changes}
 use Rattle.spi_flags.proofs.LastEdge.{last-edge-drops}

@@ -6,12 +6,6 @@ pub mod Sizes
 pub mod BuffersOrder
 -- The clock step, and the tick and the pin call that are made of it:
 pub mod ClockSteps
--- Refusals: a refused call changes nothing, refusals are those of the table, and answers are in kind:
-pub mod RefusalsUnchanged
-pub mod RefusalsExact
-pub mod RefusalsKinds
--- Power-up with a depth:
-pub mod PowersUp
 -- The module of a life is the one that its calls reach:
 pub mod LivesReach
 -- The page, run at concrete calls:

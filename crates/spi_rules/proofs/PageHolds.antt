@@ -2,7 +2,7 @@
 -- seen to be false of the page. Longer lists run in crates/spi_one_module.
 --     unframed-runs, framed-runs   lists without frames, and of both ends of a frame
 --     step-runs        lists with clock steps, of every kind of module
---     marked-run       the last edge of a word at a record made otherwise
+--     marked-run, marked-read   the last edge of a word, and a read of BUF, at records made otherwise
 --     hypotheses-met   no hypothesis of the page is empty
 -- Assumes nothing.
 use Prim.Native.Nat.{ℕ, zero, suc, _+_}
@@ -23,7 +23,7 @@ use Rattle.spi_rules.specs.Edge.{begun, shifted, advanced, advancedIfBeg
 use Rattle.spi_rules.specs.Finish.{overflowed, wordAppended, isLost, delivered, sentDropped, freed, finished}
 use Rattle.spi_rules.specs.Interrupts.{raises, noted}
 use Rattle.spi_rules.specs.Loading.{wordLeaves, moved, canLoad, loaded, nextTop, sdoAt, rested}
-use Rattle.spi_rules.specs.Refusals.{numberOf}
+use Rattle.spi_rules.specs.Refusals.{numberOf, saidOf}
 use Rattle.spi_rules.specs.Registers.{weighed, con1From, con1Value, con2From, con2Value, spitbf, spirbf, srxmpt, srmpt, atMost7, spibec, statValue, statSettings, spirovAfter, statEngine, enabledEngine, disabledEngine}
 use Rattle.spi_rules.specs.Select.{selectRemembered, aborted, selectSeen}
 use Rattle.spi_types.specs.declared.Depth.the-variants.{Eight}
@@ -242,6 +242,11 @@ nearlyDone = marked (life (powerUp Eight) (one-by-one (enabled 32 1 ∷ words (1
 marked-run : allJudged (lastEdges nearlyDone (performOf nearlyDone (Tick true true) .after)) ≡ true
 unfolding shiftedIn receivedAfter shownBit sdoAfter progressed emptyTransmit emptyReceive firstWaiting firstUnread written departed appended taken overrun refuse answering poweredAt wordTaken readBuf readOf turnsOn turnsOff statWritten writeStat withCon1 withCon2 configured wordWritten writeBuf writeOf clockStepOf edgeTold tickOf pinsOf clearOf performOf interruptOf sckOf undriven sdoOf ssOf if_then_else_ begun shifted advanced advancedIfBegun awaitsPulse underWay pulseDue pulseAfter pulsed clocked edged stepped overflowed wordAppended isLost delivered sentDropped freed finished raises noted wordLeaves moved canLoad loaded nextTop sdoAt rested numberOf bitOf weighed con1From con1Value con2From con2Value spitbf spirbf srxmpt srmpt atMost7 spibec statValue statSettings spirovAfter statEngine enabledEngine disabledEngine next selectRemembered aborted selectSeen opened leftToSend loses firstOnWire counted closed given unless judged told-of entered-as seen-as made run waiting unread contents
 marked-run = refl
+
+-- A marked buffer with nothing unread, which no calls reach either: a read is refused with 16, not with 6.
+marked-read : saidOf (performOf (marked (life (powerUp Eight) (enabled 32 1) .now)) (Read 3) .answer) .number ≡ 16
+unfolding shiftedIn receivedAfter shownBit sdoAfter progressed emptyTransmit emptyReceive firstWaiting firstUnread written departed appended taken overrun refuse answering poweredAt wordTaken readBuf readOf turnsOn turnsOff statWritten writeStat withCon1 withCon2 configured wordWritten writeBuf writeOf clockStepOf edgeTold tickOf pinsOf clearOf performOf interruptOf sckOf undriven sdoOf ssOf if_then_else_ begun shifted advanced advancedIfBegun awaitsPulse underWay pulseDue pulseAfter pulsed clocked edged stepped overflowed wordAppended isLost delivered sentDropped freed finished raises noted wordLeaves moved canLoad loaded nextTop sdoAt rested numberOf bitOf weighed con1From con1Value con2From con2Value spitbf spirbf srxmpt srmpt atMost7 spibec statValue statSettings spirovAfter statEngine enabledEngine disabledEngine next selectRemembered aborted selectSeen opened leftToSend loses firstOnWire counted closed given unless judged told-of entered-as seen-as made run waiting unread contents
+marked-read = refl
 
 -- No hypothesis of the page is empty: each is met after these calls.
 abbrev settingsAfter : List Call → Settings

@@ -39,7 +39,7 @@ use Rattle.spi_rules.specs.Calls.{answering, toldSelect, undriven, sckOf, sdoOf
 use Rattle.spi_rules.specs.Invariant.{ShiftHolds}
 use Rattle.spi_rules.specs.Words.{unfinished}
 use Rattle.spi_rules.specs.Watch.{terms, wayOf, portIn, Sight, sightOf, Memory, levelOps, entryOf, Watched, watchedCall}
-use Rattle.spi_rules.proofs.RefusalsUnchanged.{no-edge-unchanged}
+use Rattle.spi_invariant.proofs.RefusalsUnchanged.{no-edge-unchanged}
 use Rattle.spi_invariant.proofs.CallsWhen.{own-not-client, not-unlike, tick-when, tick-is, pin-is, told-elsewhere, unframed-told, host-unframed, unframed-begins, own-edge}
 use Rattle.spi_invariant.proofs.Engine.{engine-of}
 use Rattle.spi_order.proofs.Ports.{whole-terms, begun-port}
