@@ -24,7 +24,7 @@ use Rattle.spi_board_rules.specs.declared.BoardCall.{BoardCall}
 use Rattle.spi_board_rules.specs.declared.BoardCall.the-variants.{PowerUp, PowerUpAt, Make, Report, Look, StepAndLook, MakeWord}
 use Rattle.spi_board_rules.specs.Board.{answerAlone, afterAlone, seenOf}
 use Rattle.spi_board_rules.specs.BoardDemands.{boardRows}
-use Rattle.spi_memory.specs.Memory.{moduleIn}
+use Rattle.spi_layout.specs.Memory.{moduleIn}
 use Rattle.spi_word_rules.specs.Word.{wordOf}
 use Rattle.spi_word.specs.Speaking.{WordTells}
 use Rattle.spi_numbers.specs.Told.{Tells, levelsNumber, StepTells, ClockTells}

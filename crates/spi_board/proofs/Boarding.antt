@@ -23,7 +23,7 @@ use Rattle.spi_board_rules.specs.declared.PairAnswer.{PairAnswer}
 use Rattle.spi_board_rules.specs.Board.{Paired, moduleAt, answerAlone, afterAlone, boardOf, ranOf, pairOf}
 use Rattle.spi_board_rules.specs.BoardDemands.{faultIn, pairFaultIn, boardRows, pairRows}
 use Rattle.spi_board_rules.proofs.BoardCalls.{call-refused-exactly, call-refused-unchanged, call-is, pair-refused-exactly, pair-refused-unchanged, pair-is, named-below, places}
-use Rattle.spi_memory.specs.Memory.{moduleIn}
+use Rattle.spi_layout.specs.Memory.{moduleIn}
 use Rattle.spi_numbers.specs.Told.{LinkTells}
 use Rattle.spi_board.specs.declared.Cells.{Cells}
 use Rattle.spi_board.specs.Boards.{modulesIn, recordAt, numbersAt, withNumbers, boardNumber, pairNumber, floatsAfter, keepsAll, pairKeepsAll, callFault, pairFault, MakeTells, BoardLeaves, PairLeaves}

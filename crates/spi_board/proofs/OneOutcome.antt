@@ -12,7 +12,7 @@ use lib.ListN.{replicate, length-replicate}
 use Rattle.spi_types.specs.declared.Module.{Module}
 use Rattle.spi_rules.specs.Calls.{poweredUp}
 use Rattle.spi_board_rules.specs.declared.BoardCall.{BoardCall}
-use Rattle.spi_memory.specs.Memory.{moduleIn}
+use Rattle.spi_layout.specs.Memory.{moduleIn}
 use Rattle.spi_board.specs.declared.Cells.{Cells}
 use Rattle.spi_board.specs.Boards.{modulesIn}
 use Rattle.spi_board.specs.Owing.{Asks, MakesOwed, LinksOwed, OwedTells, OwedPairTells}

@@ -32,8 +32,8 @@ use Rattle.spi_board_rules.specs.declared.BoardCall.{BoardCall}
 use Rattle.spi_board_rules.specs.Board.{boardNumberOf, badList, moduleAt, boardOf, pairOf}
 use Rattle.spi_board_rules.specs.Owed.{inShift, countOf, atMost65535, totalMoved, owesOf}
 use Rattle.spi_board_rules.proofs.OwedMoves.{call-total-stays, call-total-moves, run-total-stays, run-total-moves}
-use Rattle.spi_memory.specs.Memory.{settingsIn, engineIn, moduleIn, wentOn}
-use Rattle.spi_module.specs.Answered.{GoesOn}
+use Rattle.spi_layout.specs.Memory.{settingsIn, engineIn, moduleIn, wentOn}
+use Rattle.spi_calls.specs.Answered.{GoesOn}
 use Rattle.spi_numbers.specs.Told.{LinkTells}
 use Rattle.spi_board.specs.declared.Cells.{Cells}
 use Rattle.spi_board.specs.Boards.{modulesIn, numbersAt, withNumbers, askedOf, boardNumber, pairNumber, callFault, pairFault, MakeTells}

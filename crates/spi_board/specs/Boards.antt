@@ -18,8 +18,8 @@ use Rattle.spi_board_rules.specs.declared.BoardAnswer.the-variants.{Refused, Po
 use Rattle.spi_board_rules.specs.declared.PairAnswer.{PairAnswer}
 use Rattle.spi_board_rules.specs.Board.{boardNumberOf, answerAlone, afterAlone, boardOf, pairOf}
 use Rattle.spi_board_rules.specs.BoardDemands.{boardRows, pairRows}
-use Rattle.spi_memory.specs.Memory.{moduleIn}
-use Rattle.spi_module.specs.Answered.{untouching}
+use Rattle.spi_layout.specs.Memory.{moduleIn}
+use Rattle.spi_calls.specs.Answered.{untouching}
 use Rattle.spi_word.specs.Speaking.{wordNumber}
 use Rattle.spi_link.specs.Wire.{isRefused}
 use Rattle.spi_numbers.specs.Told.{answerNumber, levelIn, seenNumber, stepNumber, clockNumber, clockFloats, linkNumber}

@@ -13,7 +13,7 @@ use Rattle.spi_board_rules.specs.declared.OwedAnswer.{OwedAnswer}
 use Rattle.spi_board_rules.specs.declared.OwedAnswer.the-variants.{Refused, Owes}
 use Rattle.spi_board_rules.specs.Board.{boardNumberOf, answerAlone, boardOf, pairOf}
 use Rattle.spi_board_rules.specs.Owed.{Board, totalMoved, owedCall, owedRun, owesOf}
-use Rattle.spi_memory.specs.Memory.{moduleIn}
+use Rattle.spi_layout.specs.Memory.{moduleIn}
 use Rattle.spi_numbers.specs.Told.{linkNumber, LinkTells}
 use Rattle.spi_board.specs.declared.Cells.{Cells}
 use Rattle.spi_board.specs.Boards.{modulesIn, boardNumber, pairNumber, callFault, pairFault, MakeTells, BoardLeaves, PairLeaves}

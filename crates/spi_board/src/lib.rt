@@ -5,7 +5,7 @@ use spi_types::Shift;
 ghost use Prim.Native.Nat.{_+_, _-_, _≤_};
 ghost use mathlib.Core.Path.{_≡_};
 ghost use Rattle.spi_board_rules.specs.Owed.{inShift, countOf, atMost65535};
-ghost use Rattle.spi_memory.specs.Memory.{moduleIn};
+ghost use Rattle.spi_layout.specs.Memory.{moduleIn};
 ghost use Rattle.spi_board.specs.Boards.{askedOf, MakeTells};
 ghost use Rattle.spi_board.specs.Owing.{bothIn, Asks, refusedCall, refusedPair, MakesOwed, LinksOwed};
 
@@ -49,7 +49,7 @@ fn make(w: &mut [u16; 96], kind: u32, x: u32, y: u32, z: u32, report: &mut [f64;
         return spi_numbers::clock(w, x, report);
     }
     if kind == 0 {
-        spi_memory::power_up(w);
+        spi_stores::power_up(w);
         return 0;
     }
     if kind == 9 {
@@ -144,7 +144,7 @@ pub fn make_counted(
     ensures { λ r. ⌜ MakesOwed owed (askedOf kind x y z) r (now (report .entry)) (now (report .exit)) (now (w .entry)) (now (w .exit)) ⌝ }
 {
     if kind == 3 {
-        if spi_module::tick_within(w, x != 0, y != 0) {
+        if spi_short::tick_within(w, x != 0, y != 0) {
             return both(owed % 65536, 1);
         }
         return make_between(w, owed, 3, x, y, z, report);

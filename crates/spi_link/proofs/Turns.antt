@@ -33,8 +33,8 @@ use Rattle.spi_link_rules.proofs.LinkLevels.{level-read}
 use Rattle.spi_word_rules.specs.Word.{wordOf}
 use Rattle.spi_link_words.specs.LinkWords.{Matched, Running, atBeginning, heardOf, further, wordThenTurns}
 use Rattle.spi_link_words.proofs.WordTurns.{word-at-once}
-use Rattle.spi_module.specs.Answered.{turned}
-use Rattle.spi_module.proofs.Edges.{own-turn}
+use Rattle.spi_calls.specs.Answered.{turned}
+use Rattle.spi_calls.proofs.Edges.{own-turn}
 use Rattle.spi_link.specs.Wire.{openLevel}
 
 -- A module after a step of its engine.

@@ -8,7 +8,7 @@ use Rattle.spi_link_rules.specs.declared.Run.{Run}
 use Rattle.spi_link_rules.specs.declared.LinkAnswer.{LinkAnswer}
 use Rattle.spi_link_rules.specs.declared.LinkAnswer.the-variants.{Refused, Used}
 use Rattle.spi_link_rules.specs.declared.Linked.{Linked}
-use Rattle.spi_memory.specs.Memory.{moduleIn}
+use Rattle.spi_layout.specs.Memory.{moduleIn}
 
 -- The level of an SDO that is driven unless DISSDO is set.
 unfoldable pub openLevel : Module → Bool

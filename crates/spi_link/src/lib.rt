@@ -15,7 +15,7 @@ ghost use Rattle.spi_word_rules.specs.Word.{wordOf};
 ghost use Rattle.spi_link_rules.specs.Link.{clientSees, hostTurn, clientTurn, eitherDisabled, wrongRoles, differentModes, linkedOf, linkSaidOf};
 ghost use Rattle.spi_link_words.specs.LinkWords.{Matched, Running, between, atBeginning, heardOf};
 ghost use Rattle.spi_link_words.proofs.Begins.{firstLevels};
-ghost use Rattle.spi_memory.specs.Memory.{settingsIn, engineIn, moduleIn, Steps};
+ghost use Rattle.spi_layout.specs.Memory.{settingsIn, engineIn, moduleIn, Steps};
 ghost use Rattle.spi_link.specs.Wire.{openLevel, runIn, Links};
 
 // The most edges that a run may be asked for: two for each of 16 bits of 17 words.
@@ -104,7 +104,7 @@ fn heard(w: &[u16; 96], word: u16) -> u16
 fn make_word(w: &mut [u16; 96], filler: bool, word: u16, heard: u16)
     ensures { λ _. ⌜ Steps (λ s n. finished s filler heard (withSdo (bitOf word 0) n)) (now (w .entry)) (now (w .exit)) ⌝ }
 {
-    spi_memory::store_sdo(w, spi_bits::bit(word, 0));
+    spi_stores::store_sdo(w, spi_bits::bit(word, 0));
     spi_words::finish(w, filler, heard);
 }
 

@@ -15,8 +15,8 @@ use Rattle.spi_types.specs.declared.Outcome.{Outcome}
 use Rattle.spi_link_rules.specs.declared.LinkAnswer.{LinkAnswer}
 use Rattle.spi_link_rules.specs.declared.Linked.{Linked}
 use Rattle.spi_clock_rules.specs.declared.ClockSaid.{ClockSaid}
-use Rattle.spi_memory.specs.Memory.{moduleIn}
-use Rattle.spi_module.specs.Answered.{untouching, Answers}
+use Rattle.spi_layout.specs.Memory.{moduleIn}
+use Rattle.spi_calls.specs.Answered.{untouching, Answers}
 use Rattle.spi_link.specs.Wire.{isRefused, Links}
 use Rattle.spi_numbers.specs.Told.{answerNumber, Tells, levelsNumber, stepNumber, StepTells, linkNumber, LinkTells, kindNumber, clockNumber, clockFloats, ClockTells}
 

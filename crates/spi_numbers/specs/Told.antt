@@ -18,8 +18,8 @@ use Rattle.spi_link_rules.specs.declared.LinkAnswer.{LinkAnswer}
 use Rattle.spi_link_rules.specs.declared.Linked.{Linked}
 use Rattle.spi_link_rules.specs.Link.{linkSaidOf}
 use Rattle.spi_clock_rules.specs.declared.ClockSaid.{ClockSaid}
-use Rattle.spi_memory.specs.Memory.{moduleIn}
-use Rattle.spi_module.specs.Answered.{untouching}
+use Rattle.spi_layout.specs.Memory.{moduleIn}
+use Rattle.spi_calls.specs.Answered.{untouching}
 use Rattle.spi_link.specs.Wire.{isRefused}
 
 -- An answer as one number: the upper 16 bits are the refusal number, 0 if the call was not refused; the lower 16 bits are

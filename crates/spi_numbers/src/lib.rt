@@ -7,7 +7,7 @@ ghost use Rattle.laws.specs.Choice.{if_then_else_};
 ghost use Rattle.spi_rules.specs.Calls.{powerUpOf, readOf, writeOf, tickOf, pinsOf, clockStepOf, clearOf, sdoOf, ssOf};
 ghost use Rattle.spi_link_rules.specs.Link.{linkedOf};
 ghost use Rattle.spi_clock_rules.specs.Clock.{reportOf, saidClock};
-ghost use Rattle.spi_memory.specs.Memory.{moduleIn};
+ghost use Rattle.spi_layout.specs.Memory.{moduleIn};
 ghost use Rattle.spi_numbers.specs.Told.{answerNumber, Tells, outputBits, levelsNumber, stepNumber, StepTells, kindNumber, ClockTells, linkNumber, LinkTells};
 
 // An answer as a number.
@@ -27,7 +27,7 @@ fn answer_number(a: Answer) -> u32
 pub fn power_up_with(w: &mut [u16; 96], words: u32) -> u32
     ensures { λ r. ⌜ Tells (powerUpOf (moduleIn (now (w .entry))) words) r (now (w .entry)) (now (w .exit)) ⌝ }
 {
-    let answer = spi_module::power_up_with(w, words);
+    let answer = spi_access::power_up_with(w, words);
     answer_number(answer)
 }
 
@@ -35,7 +35,7 @@ pub fn power_up_with(w: &mut [u16; 96], words: u32) -> u32
 pub fn read(w: &mut [u16; 96], register: u32) -> u32
     ensures { λ r. ⌜ Tells (readOf (moduleIn (now (w .entry))) register) r (now (w .entry)) (now (w .exit)) ⌝ }
 {
-    let answer = spi_module::read(w, register);
+    let answer = spi_access::read(w, register);
     answer_number(answer)
 }
 
@@ -43,7 +43,7 @@ pub fn read(w: &mut [u16; 96], register: u32) -> u32
 pub fn write(w: &mut [u16; 96], register: u32, v: u16) -> u32
     ensures { λ r. ⌜ Tells (writeOf (moduleIn (now (w .entry))) register v) r (now (w .entry)) (now (w .exit)) ⌝ }
 {
-    let answer = spi_module::write(w, register, v);
+    let answer = spi_access::write(w, register, v);
     answer_number(answer)
 }
 
@@ -51,7 +51,7 @@ pub fn write(w: &mut [u16; 96], register: u32, v: u16) -> u32
 pub fn tick(w: &mut [u16; 96], sdi: bool, ss: bool) -> u32
     ensures { λ r. ⌜ Tells (tickOf (moduleIn (now (w .entry))) sdi ss) r (now (w .entry)) (now (w .exit)) ⌝ }
 {
-    if spi_module::frame_within(w, sdi, ss) {
+    if spi_short::frame_within(w, sdi, ss) {
         return 1;
     }
     let answer = spi_module::tick(w, sdi, ss);
@@ -70,7 +70,7 @@ pub fn pins(w: &mut [u16; 96], sck: bool, sdi: bool, ss: bool) -> u32
 pub fn clear(w: &mut [u16; 96]) -> u32
     ensures { λ r. ⌜ Tells (clearOf (moduleIn (now (w .entry)))) r (now (w .entry)) (now (w .exit)) ⌝ }
 {
-    let answer = spi_module::clear(w);
+    let answer = spi_access::clear(w);
     answer_number(answer)
 }
 
@@ -146,10 +146,10 @@ fn step_number(a: Answer, seen: u32) -> u32
 pub fn clock_step(w: &mut [u16; 96], sck: bool, sdi: bool, ss: bool) -> u32
     ensures { λ r. ⌜ StepTells (clockStepOf (moduleIn (now (w .entry))) sck sdi ss) r (now (w .entry)) (now (w .exit)) ⌝ }
 {
-    if spi_module::step_within(w, sck, sdi, ss) {
+    if spi_short::step_within(w, sck, sdi, ss) {
         return levels(w);
     }
-    let answer = spi_module::clock_step(w, sck, sdi, ss);
+    let answer = spi_edges::clock_step(w, sck, sdi, ss);
     let seen = levels(w);
     step_number(answer, seen)
 }

@@ -56,11 +56,11 @@ fn print_read(a: Answer) {
 // The registers and the interrupt flag, a line each.
 fn print_module(w: &mut [u16; 96]) {
     print(b"STAT ");
-    print_read(spi_module::read(w, 0));
+    print_read(spi_access::read(w, 0));
     print(b"CON1 ");
-    print_read(spi_module::read(w, 1));
+    print_read(spi_access::read(w, 1));
     print(b"CON2 ");
-    print_read(spi_module::read(w, 2));
+    print_read(spi_access::read(w, 2));
     if spi_memory::interrupt_in(w) {
         print(b"interrupt 1\n");
     } else {

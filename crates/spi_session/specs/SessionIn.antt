@@ -3,7 +3,7 @@ use Prim.Native.Nat.{ℕ}
 use mathlib.Core.List.{List}
 use Rattle.spi_script_rules.specs.declared.Bookmark.{Bookmark}
 use Rattle.spi_script_rules.specs.declared.Session.{Session}
-use Rattle.spi_memory.specs.Memory.{moduleIn}
+use Rattle.spi_layout.specs.Memory.{moduleIn}
 
 -- Where a script stands, with the module that memory holds.
 abbrev pub sessionIn : List ℕ → Bookmark → Session

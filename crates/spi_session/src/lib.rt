@@ -14,14 +14,14 @@ ghost use lib.ListN.{length};
 ghost use Rattle.spi_script_rules.specs.Script.{decimalOf, hexOf, fourHexOf, levelOf, sdoLetter, refusedText, okText, ssText, pinText, edgeText, doneText, answerText, lineAfter, answerLine, readFrom};
 ghost use Rattle.spi_script_rules.specs.Session.{started, played, answers, pieceAfter, pieceText};
 ghost use Rattle.spi_script_rules.specs.Texts.{Written};
-ghost use Rattle.spi_memory.specs.Memory.{moduleIn};
+ghost use Rattle.spi_layout.specs.Memory.{moduleIn};
 ghost use Rattle.spi_session.specs.SessionIn.{sessionIn};
 
 // A script starts with a module at power-up.
 pub fn start(w: &mut [u16; 96]) -> Bookmark
     ensures { λ r. ⌜ sessionIn (now (w .exit)) r ≡ started ⌝ }
 {
-    spi_memory::power_up(w);
+    spi_stores::power_up(w);
     Bookmark { lines: 0, at: 0 }
 }
 

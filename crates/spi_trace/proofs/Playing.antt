@@ -37,7 +37,7 @@ use Rattle.spi_trace_files.specs.Places.{entryAt, entriesAt}
 use Rattle.spi_trace_files.specs.Idle.{idle, landingOf, PassedFrom}
 use Rattle.spi_trace_files.proofs.Records.{entries-more, entries-none, section-at, section-places, record-right}
 use Rattle.spi_trace_files.proofs.Idle.{landing-step, Lands, lands, passing}
-use Rattle.spi_memory.specs.Memory.{moduleIn}
+use Rattle.spi_layout.specs.Memory.{moduleIn}
 use Rattle.spi_trace.specs.Playing.{entryCalls, Plays}
 
 -- What the call of a record leaves.

@@ -8,7 +8,7 @@ use Rattle.spi_types.specs.declared.Call.{Call}
 use Rattle.spi_trace_rules.specs.declared.Entry.{Entry}
 use Rattle.spi_trace_rules.specs.declared.Played.{Played}
 use Rattle.spi_trace_rules.specs.Trace.{isPlay, callOf, times, callsOf, playedOf, isMade, playedModule}
-use Rattle.spi_memory.specs.Memory.{moduleIn}
+use Rattle.spi_layout.specs.Memory.{moduleIn}
 
 -- The calls of one record, with so many levels left for the section that it may play.
 unfoldable pub entryCalls : List ℕ → ℕ → Entry → List Call

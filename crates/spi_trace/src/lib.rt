@@ -8,7 +8,7 @@ ghost use mathlib.Core.Path.{_≡_};
 ghost use Rattle.spi_rules.specs.Calls.{performOf, afterCalls};
 ghost use Rattle.spi_trace_rules.specs.Trace.{sectionCount, contentsRight, recordsRight, isPlay, callOf, callsOf, fileCalls, faultNumberOf};
 ghost use Rattle.spi_trace_files.specs.Idle.{PassedFrom};
-ghost use Rattle.spi_memory.specs.Memory.{moduleIn};
+ghost use Rattle.spi_layout.specs.Memory.{moduleIn};
 ghost use Rattle.spi_trace.specs.Playing.{entryCalls, Plays};
 
 // Makes the call of a record that plays no section.
@@ -33,14 +33,14 @@ fn make(w: &mut [u16; 96], e: Entry)
         return;
     }
     if kind == 2 {
-        if spi_module::tick_within(w, sdi, ss) {
+        if spi_short::tick_within(w, sdi, ss) {
             return;
         }
         spi_numbers::tick(w, sdi, ss);
         return;
     }
     if kind == 3 {
-        if spi_module::pins_within(w, sck, sdi, ss) {
+        if spi_short::pins_within(w, sck, sdi, ss) {
             return;
         }
         spi_numbers::pins(w, sck, sdi, ss);
@@ -116,7 +116,7 @@ pub fn play(f: &[u8], w: &mut [u16; 96]) -> Played
     match answer {
         Played::Refused(fault) => Played::Refused(fault),
         Played::Made(count) => {
-            spi_memory::power_up(w);
+            spi_stores::power_up(w);
             if count == 0 {
                 return Played::Made(count);
             }

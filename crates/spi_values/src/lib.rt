@@ -13,7 +13,7 @@ pub fn power_up() -> Module
     ensures { λ r. ⌜ r ≡ poweredUp ⌝ }
 {
     let mut w = [0; 96];
-    spi_memory::power_up(&mut w);
+    spi_stores::power_up(&mut w);
     spi_memory::module_in(&w)
 }
 
@@ -21,7 +21,7 @@ pub fn power_up() -> Module
 pub fn perform(m: Module, c: Call) -> Outcome
     ensures { λ r. ⌜ r ≡ performOf m c ⌝ }
 {
-    let mut w = spi_memory::memory_of(m);
+    let mut w = spi_stores::memory_of(m);
     let answer = spi_module::perform(&mut w, c);
     let after = spi_memory::module_in(&w);
     Outcome {
@@ -78,8 +78,8 @@ pub fn clear(m: Module) -> Outcome
 pub fn linked(host: Module, client: Module, limit: u32) -> Linked
     ensures { λ r. ⌜ r ≡ linkedOf host client limit ⌝ }
 {
-    let mut h = spi_memory::memory_of(host);
-    let mut c = spi_memory::memory_of(client);
+    let mut h = spi_stores::memory_of(host);
+    let mut c = spi_stores::memory_of(client);
     let answer = spi_link::linked(&mut h, &mut c, limit);
     let host_after = spi_memory::module_in(&h);
     let client_after = spi_memory::module_in(&c);

@@ -9,7 +9,7 @@ ghost use mathlib.Core.Path.{_≡_};
 ghost use lib.ListN.{length};
 ghost use Rattle.spi_rules.specs.Calls.{poweredUp};
 ghost use Rattle.spi_script_rules.specs.Script.{lineAfter, scriptEnd};
-ghost use Rattle.spi_memory.specs.Memory.{moduleIn};
+ghost use Rattle.spi_layout.specs.Memory.{moduleIn};
 
 fn print(text: &[u8]) {
     io::write_all(STDOUT_FILENO, text);

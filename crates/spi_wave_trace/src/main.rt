@@ -13,7 +13,7 @@ ghost use mathlib.Core.Path.{_≡_};
 ghost use Rattle.spi_rules.specs.Calls.{poweredUp, performOf, afterCalls};
 ghost use Rattle.spi_trace_rules.specs.Trace.{sectionCount, contentsRight, recordsRight, isPlay, callOf, callsOf};
 ghost use Rattle.spi_trace_files.specs.Idle.{PassedFrom};
-ghost use Rattle.spi_memory.specs.Memory.{moduleIn};
+ghost use Rattle.spi_layout.specs.Memory.{moduleIn};
 ghost use Rattle.spi_trace.specs.Playing.{entryCalls};
 
 // Where the waveform stands: what it shows, and the time of the next step. A trace makes at most 65,535 calls.

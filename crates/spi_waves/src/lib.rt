@@ -12,7 +12,7 @@ ghost use lib.ListN.{length};
 ghost use Rattle.spi_script_rules.specs.Script.{decimalOf, levelOf, lineAfter};
 ghost use Rattle.spi_script_rules.specs.Texts.{Written};
 ghost use Rattle.spi_rules.specs.Calls.{poweredUp};
-ghost use Rattle.spi_memory.specs.Memory.{moduleIn};
+ghost use Rattle.spi_layout.specs.Memory.{moduleIn};
 ghost use Rattle.spi_waves.specs.Wave.{levelIf, drivenOr, leavingOf, arrivingOf, shownOf, brought, sdiAfter, lineShown, binaryOf, valueOf, levelChange, numberChange, levelChanges, numberChanges, changes, stepText, headText, unshown, unknown};
 
 // What a waveform shows of a module. A level is its byte in the file: 0, 1, z where nobody drives it, x before it is known. A word that
@@ -315,7 +315,7 @@ pub fn start(w: &mut [u16; 96], out: &mut [u8; 128]) -> Stepped
     ensures { λ r. ⌜ Written (changes unshown (r .shown)) (now (out .entry)) 0 (now (out .exit)) (r .written) ⌝ }
     ensures { λ r. ⌜ (r .written ≤ 128) × (length (now (out .exit)) ≡ length (now (out .entry))) ⌝ }
 {
-    spi_memory::power_up(w);
+    spi_stores::power_up(w);
     let shown = look(w, b'x');
     let old = nothing();
     let written = put_changes(out, 0, old, shown);

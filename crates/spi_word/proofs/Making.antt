@@ -41,8 +41,8 @@ use Rattle.spi_word_rules.specs.Word.{bitsSampled, current, resting, hasWord, i
 use Rattle.spi_word_rules.proofs.Closed.{behind, lastSck, lastSdo, allLevels, wordMade, remembered, readied}
 use Rattle.spi_word_rules.proofs.Values.{fewer, as-many}
 use Rattle.spi_word_rules.proofs.WordHolds.{started, whole-word}
-use Rattle.spi_memory.specs.Memory.{settingsIn, engineIn, moduleIn}
-use Rattle.spi_module.specs.Answered.{untouching, Answers}
+use Rattle.spi_layout.specs.Memory.{settingsIn, engineIn, moduleIn}
+use Rattle.spi_calls.specs.Answered.{untouching, Answers}
 use Rattle.spi_word.specs.Speaking.{Speaks, wordNumber, WordTells, nextNumber}
 
 module _ (s : Settings) (p : Progress) (left : ℕ) (is : left ≡ bitsLeft s (p .edges)) (short : p .edges < wordEdges s) (sdo : Bool) where

@@ -10,8 +10,8 @@ use Rattle.spi_types.specs.declared.Answer.the-variants.{Refused, Done, Value, 
 use Rattle.spi_rules.specs.Refusals.{numberOf}
 use Rattle.spi_word_rules.specs.declared.Worded.{Worded}
 use Rattle.spi_word_rules.specs.Word.{current, sendsNext}
-use Rattle.spi_memory.specs.Memory.{moduleIn}
-use Rattle.spi_module.specs.Answered.{untouching}
+use Rattle.spi_layout.specs.Memory.{moduleIn}
+use Rattle.spi_calls.specs.Answered.{untouching}
 
 -- It answers as the definition says, and memory then holds the definition's module. A refusal and "no edge" leave every number as it was.
 pub record Speaks (o : Worded) (a : Answer) (n v : ℕ) (before after : List ℕ) : Type 0 where

@@ -9,7 +9,7 @@ ghost use mathlib.Core.Bool.{true, false};
 ghost use mathlib.Core.Path.{_≡_};
 ghost use Rattle.spi_types.specs.declared.Shift.the-variants.{Free};
 ghost use Rattle.spi_rules.specs.Edge.{wordEdges};
-ghost use Rattle.spi_memory.specs.Memory.{settingsIn, engineIn, moduleIn, Steps};
+ghost use Rattle.spi_layout.specs.Memory.{settingsIn, engineIn, moduleIn, Steps};
 ghost use Rattle.spi_word_rules.specs.Word.{current, resting, hasWord, idleFirst, bitsLeft, stepLevel, oneStep, wordOf, wordsIn, edgesIn, edgesOwed};
 ghost use Rattle.spi_word_rules.proofs.Closed.{lastSdo, allLevels, remembered, readied};
 ghost use Rattle.spi_word.specs.Speaking.{Speaks, wordNumber, WordTells, nextNumber};
@@ -156,7 +156,7 @@ fn hear(w: &mut [u16; 96], ss: bool)
     if spi_settings::own_clock(s) {
         return;
     }
-    spi_memory::store_ss(w, ss);
+    spi_stores::store_ss(w, ss);
 }
 
 // The module where its word goes on or begins.
@@ -167,7 +167,7 @@ fn make_ready(w: &mut [u16; 96], ss: bool)
     let pins = spi_memory::pins_in(w);
     hear(w, ss);
     if idle {
-        spi_memory::store_sck(w, !pins.sck);
+        spi_stores::store_sck(w, !pins.sck);
     }
 }
 
@@ -185,8 +185,8 @@ fn make_word(w: &mut [u16; 96], ss: bool, word: u16) -> Spoken
     let received = behind(p.received, left, word) % 65536;
     make_ready(w, ss);
     let sck = spi_memory::pins_in(w).sck;
-    spi_memory::store_sck(w, (p.edges % 2 == 0) == sck);
-    spi_memory::store_sdo(w, last);
+    spi_stores::store_sck(w, (p.edges % 2 == 0) == sck);
+    spi_stores::store_sdo(w, last);
     spi_words::finish(w, p.filler, received as u16);
     Spoken {
         answer: Answer::Done,
@@ -218,7 +218,7 @@ fn make_step(w: &mut [u16; 96], ss: bool, word: u16) -> Spoken
     let pins = spi_memory::pins_in(w);
     let shows = s.spien & spi_settings::is_framed(s);
     let sck = step_level(w, ss);
-    let answer = spi_module::clock_step(w, sck, spi_bits::bit(word, 0), ss);
+    let answer = spi_edges::clock_step(w, sck, spi_bits::bit(word, 0), ss);
     Spoken {
         answer: answer,
         count: shows as u8,

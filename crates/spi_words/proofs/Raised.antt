@@ -14,8 +14,8 @@ use Rattle.spi_types.specs.declared.Event.{Event}
 use Rattle.spi_rules.specs.Changes.{withInterrupt}
 use Rattle.spi_rules.specs.Settings.{depthOf}
 use Rattle.spi_rules.specs.Interrupts.{standardRaises, enhancedRaises, raises, noted}
-use Rattle.spi_memory.specs.Memory.{settingsIn, engineIn, Steps}
-use Rattle.spi_memory.proofs.Taken.{alike}
+use Rattle.spi_layout.specs.Memory.{settingsIn, engineIn, Steps}
+use Rattle.spi_layout.proofs.Taken.{alike}
 
 module _ (s : Settings) (e : Event) {b : Bool} where
   pub standard : s .con2 .spiben ≡ false → b ≡ standardRaises e → b ≡ raises s e

@@ -11,7 +11,7 @@ use Rattle.spi_types.specs.declared.Receive.{Receive}
 use Rattle.ring.specs.Ring.{next}
 use Rattle.spi_rules.specs.Buffers.{written, departed, appended, taken}
 use Rattle.laws.proofs.Choices.{so-le, not-so-le, so-eq, not-so-eq}
-use Rattle.spi_memory.specs.Memory.{pushed, popped, arrived, fetched}
+use Rattle.spi_layout.specs.Memory.{pushed, popped, arrived, fetched}
 
 module _ (depth : ℕ) (b : Transmit) where
   pub pushed-written : (v on count : ℕ) → b .count < depth → on ≡ next depth (b .write .0) → count ≡ b .count + 1 →

@@ -11,7 +11,7 @@ ghost use Rattle.spi_rules.specs.Interrupts.{raises};
 ghost use Rattle.spi_rules.specs.Loading.{wordLeaves, loaded, nextTop, rested};
 ghost use Rattle.spi_rules.specs.Finish.{delivered, sentDropped, freed, finished};
 ghost use Rattle.spi_rules.specs.Calls.{wordTaken, wordWritten};
-ghost use Rattle.spi_memory.specs.Memory.{settingsIn, engineIn, Steps};
+ghost use Rattle.spi_layout.specs.Memory.{settingsIn, engineIn, Steps};
 
 // Whether an event raises the interrupt flag, by how many words it leaves: a word is taken from the receive buffer or appended to it,
 // leaves the transmit buffer, is finished, is written. The depth is looked up only where SISEL asks for it.
@@ -85,7 +85,7 @@ fn raise(w: &mut [u16; 96], raised: bool)
     ensures { λ _. ⌜ Steps (λ _ n. withInterrupt (n .interrupt || raised) n) (now (w .entry)) (now (w .exit)) ⌝ }
 {
     if raised {
-        spi_memory::store_interrupt(w, true);
+        spi_stores::store_interrupt(w, true);
     }
 }
 
@@ -98,7 +98,7 @@ fn push(w: &mut [u16; 96], word: u16)
     let at = spi_memory::cpu_write_in(w);
     if count < depth {
         let on = spi_buffers::next_position(depth, at);
-        spi_memory::store_written(w, word, on, count + 1);
+        spi_stores::store_written(w, word, on, count + 1);
     }
 }
 
@@ -110,7 +110,7 @@ fn pop(w: &mut [u16; 96])
     let at = spi_memory::spi_read_in(w);
     if 0 < count {
         let on = spi_buffers::next_position(depth, at);
-        spi_memory::store_departed(w, on, count - 1);
+        spi_stores::store_departed(w, on, count - 1);
     }
 }
 
@@ -122,7 +122,7 @@ fn append(w: &mut [u16; 96], word: u16)
     let at = spi_memory::spi_write_in(w);
     if count < depth {
         let on = spi_buffers::next_position(depth, at);
-        spi_memory::store_appended(w, word, on, count + 1);
+        spi_stores::store_appended(w, word, on, count + 1);
     }
 }
 
@@ -134,7 +134,7 @@ fn fetch(w: &mut [u16; 96])
     let at = spi_memory::cpu_read_in(w);
     if 0 < count {
         let on = spi_buffers::next_position(depth, at);
-        spi_memory::store_taken(w, on, count - 1);
+        spi_stores::store_taken(w, on, count - 1);
     }
 }
 
@@ -164,7 +164,7 @@ fn load(w: &mut [u16; 96])
         return;
     }
     let word = spi_memory::first_waiting_in(w);
-    spi_memory::store_loaded(w, word);
+    spi_stores::store_loaded(w, word);
     leave(w);
 }
 
@@ -197,7 +197,7 @@ pub fn rest(w: &mut [u16; 96])
         return;
     }
     let level = next_top(w);
-    spi_memory::store_sdo(w, level);
+    spi_stores::store_sdo(w, level);
 }
 
 // A word is accepted for sending.
@@ -222,8 +222,8 @@ fn deliver(w: &mut [u16; 96], word: u16)
     let count = spi_memory::unread_in(w);
     let marked = spi_memory::marked_in(w);
     if (depth <= count) | marked {
-        spi_memory::store_mark(w, marked | s.con2.spiben);
-        spi_memory::store_spirov(w, true);
+        spi_stores::store_mark(w, marked | s.con2.spiben);
+        spi_stores::store_spirov(w, true);
     } else {
         append(w, word);
         let more = spi_memory::unread_in(w);
@@ -247,7 +247,7 @@ fn free_after_finish(w: &mut [u16; 96])
     ensures { λ _. ⌜ Steps freed (now (w .entry)) (now (w .exit)) ⌝ }
 {
     let count = spi_memory::waiting_in(w);
-    spi_memory::store_free(w);
+    spi_stores::store_free(w);
     let raised = finished_raises(w, count);
     raise(w, raised);
 }
@@ -271,5 +271,5 @@ pub fn take_word(w: &mut [u16; 96])
     let less = spi_memory::unread_in(w);
     let raised = taken_raises(w, less);
     let flag = spi_memory::interrupt_in(w) | raised;
-    spi_memory::store_interrupt(w, flag);
+    spi_stores::store_interrupt(w, flag);
 }

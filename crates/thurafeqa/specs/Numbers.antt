@@ -14,7 +14,7 @@ use Rattle.spi_salvage_rules.specs.declared.Salvaged.{Salvaged}
 use Rattle.spi_salvage_rules.specs.Salvage as salvage
 use Rattle.spi_salvage_rules.specs.Salvage.{salvagedOf, salvageNumberOf}
 use Rattle.spi_salvage_rules.specs.SalvageDemands.{cutIn, lostIn, lengthIn}
-use Rattle.spi_memory.specs.Memory.{moduleIn}
+use Rattle.spi_layout.specs.Memory.{moduleIn}
 
 -- What playing a trace file answers: the upper 16 bits are the refusal number, 0 if the file is played, the lower 16 bits the calls
 -- made.

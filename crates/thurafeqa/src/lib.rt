@@ -13,7 +13,7 @@ ghost use Rattle.spi_word.specs.Speaking.{WordTells, nextNumber};
 ghost use Rattle.spi_link_rules.specs.Link.{linkedOf};
 ghost use Rattle.spi_clock_rules.specs.Clock.{reportOf, saidClock};
 ghost use Rattle.spi_rate_rules.specs.Rate.{prescalersFor};
-ghost use Rattle.spi_memory.specs.Memory.{moduleIn};
+ghost use Rattle.spi_layout.specs.Memory.{moduleIn};
 ghost use Rattle.spi_numbers.specs.Told.{Tells, levelIn, levelsNumber, StepTells, ClockTells, LinkTells};
 ghost use Rattle.spi_board.specs.Boards.{askedOf};
 ghost use Rattle.spi_board.specs.Owing.{Asks, OwedTells, OwedPairTells};
@@ -24,7 +24,7 @@ ghost use Rattle.thurafeqa.specs.Numbers.{playNumber, PlayTells, saveNum
 pub extern "C" fn thurafeqa_power_up(w: &mut [u16; 96])
     ensures { λ _. ⌜ moduleIn (now (w .exit)) ≡ poweredUp ⌝ }
 {
-    spi_memory::power_up(w);
+    spi_stores::power_up(w);
 }
 
 // Power-up with a depth of 4, 8 or 16 words for enhanced operation.
@@ -65,10 +65,10 @@ pub extern "C" fn thurafeqa_clock_step(w: &mut [u16; 96], sck: u32, sdi: u32, ss
 pub extern "C" fn thurafeqa_tick(w: &mut [u16; 96], sdi: u32, ss: u32) -> u32
     ensures { λ r. ⌜ Tells (tickOf (moduleIn (now (w .entry))) (levelIn sdi) (levelIn ss)) r (now (w .entry)) (now (w .exit)) ⌝ }
 {
-    if spi_module::tick_within(w, sdi != 0, ss != 0) {
+    if spi_short::tick_within(w, sdi != 0, ss != 0) {
         return 1;
     }
-    if spi_module::frame_within(w, sdi != 0, ss != 0) {
+    if spi_short::frame_within(w, sdi != 0, ss != 0) {
         return 1;
     }
     spi_numbers::tick(w, sdi != 0, ss != 0)
@@ -79,7 +79,7 @@ pub extern "C" fn thurafeqa_tick(w: &mut [u16; 96], sdi: u32, ss: u32) -> u32
 pub extern "C" fn thurafeqa_pins(w: &mut [u16; 96], sck: u32, sdi: u32, ss: u32) -> u32
     ensures { λ r. ⌜ Tells (pinsOf (moduleIn (now (w .entry))) (levelIn sck) (levelIn sdi) (levelIn ss)) r (now (w .entry)) (now (w .exit)) ⌝ }
 {
-    if spi_module::pins_within(w, sck != 0, sdi != 0, ss != 0) {
+    if spi_short::pins_within(w, sck != 0, sdi != 0, ss != 0) {
         return 0;
     }
     spi_numbers::pins(w, sck != 0, sdi != 0, ss != 0)

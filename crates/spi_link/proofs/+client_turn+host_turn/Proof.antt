@@ -8,8 +8,8 @@ use borrow.Author.Needs.{needs}
 use borrow.Fn.Kinds.{In}
 use borrow.Fn.PlainCycle.{Measures, is, falls, and}
 use Rattle.spi_link_rules.specs.Link.{runStops, oneMore, clientTurn, hostTurn}
-use Rattle.spi_memory.specs.Memory.{moduleIn}
-use Rattle.spi_memory.proofs.Taken.{module-after}
+use Rattle.spi_layout.specs.Memory.{moduleIn}
+use Rattle.spi_layout.proofs.Taken.{module-after}
 use Rattle.spi_link.proofs.Turns.{running-shown, ends, stops, hands-over}
 use Rattle.spi_link.proofs.client_turn.Reads as client-turn
 use Rattle.spi_link.proofs.client_turn.Kinds as client-turn-kinds

@@ -14,7 +14,7 @@ use Rattle.spi_rules.specs.Settings.{widthOf}
 use Rattle.spi_rules.specs.Edge.{wordEdges}
 use Rattle.spi_rules.proofs.Sizes.{width-least, width-most}
 use Rattle.spi_link_words.specs.LinkWords.{atBeginning, further}
-use Rattle.spi_memory.specs.Memory.{settingsIn, moduleIn}
+use Rattle.spi_layout.specs.Memory.{settingsIn, moduleIn}
 use Rattle.spi_link_words.proofs.WordTurns.{running-on}
 use Rattle.spi_link.proofs.Turns.{word-first}
 use Rattle.spi_link.proofs.run.Reads as run

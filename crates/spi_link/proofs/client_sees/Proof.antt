@@ -1,7 +1,7 @@
 -- What the callees ensure, put together.
 use borrow.Author.Needs.{needs}
 use mathlib.Core.Path.{_∙_}
-use Rattle.spi_memory.proofs.Taken.{module-after}
+use Rattle.spi_layout.proofs.Taken.{module-after}
 use Rattle.spi_link.proofs.Turns.{shown}
 use Rattle.spi_link.proofs.client_sees.Statement.{statement}
 use Rattle.spi_link.proofs.client_sees.Tie as tie

@@ -1,6 +1,6 @@
 -- Both ends are at a word's beginning, and each makes its word with what it hears.
 use borrow.Author.Needs.{needs}
-use Rattle.spi_memory.proofs.Taken.{module-after}
+use Rattle.spi_layout.proofs.Taken.{module-after}
 use Rattle.spi_link_words.proofs.WordTurns.{host-made, client-made}
 use Rattle.spi_link.proofs.exchange.Statement.{statement}
 use Rattle.spi_link.proofs.exchange.Tie as tie

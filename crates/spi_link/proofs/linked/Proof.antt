@@ -3,7 +3,7 @@ use borrow.Author.Needs.{needs}
 use mathlib.Core.Path.{refl, _∙_, ap}
 use Rattle.laws.proofs.Choices.{so, not-so, so-lt, not-so-lt}
 use Rattle.spi_link_rules.specs.Link.{hostTurn, refuseLink, runOf, toldOf, linkedOf}
-use Rattle.spi_memory.specs.Memory.{moduleIn}
+use Rattle.spi_layout.specs.Memory.{moduleIn}
 use Rattle.spi_link.proofs.Turns.{matched, running-shown}
 use Rattle.spi_link.proofs.Ends.{kept, changed}
 use Rattle.spi_link.proofs.linked.Statement.{statement}

@@ -1,6 +1,6 @@
 -- The two steps, one behind the other.
 use borrow.Author.Needs.{needs}
-use Rattle.spi_memory.proofs.Taken.{_then_}
+use Rattle.spi_layout.proofs.Taken.{_then_}
 use Rattle.spi_link.proofs.make_word.Statement.{statement}
 use Rattle.spi_link.proofs.make_word.Tie as tie
 

@@ -1,6 +1,6 @@
 -- CON1 as written, with its two bytes.
 use borrow.Author.Needs.{needs}
-use Rattle.spi_memory.specs.Memory.{byteIn, settingsIn}
+use Rattle.spi_layout.specs.Memory.{byteIn, settingsIn}
 use Rattle.spi_memory.proofs.con1_in.Statement.{statement}
 use Rattle.spi_memory.proofs.con1_in.Tie as tie
 

@@ -1,6 +1,6 @@
 -- CON2 as written.
 use borrow.Author.Needs.{needs}
-use Rattle.spi_memory.specs.Memory.{settingsIn}
+use Rattle.spi_layout.specs.Memory.{settingsIn}
 use Rattle.spi_memory.proofs.con2_in.Statement.{statement}
 use Rattle.spi_memory.proofs.con2_in.Tie as tie
 

@@ -4,8 +4,8 @@ use native.Mathlib.Omega.{arith}
 use Prim.Native.Nat.{ℕ, _+_, _%_}
 use mathlib.Core.Path.{_≡_, refl, sym, _∙_, ap}
 use Rattle.spi_rules.specs.Buffers.{firstWaiting}
-use Rattle.spi_memory.specs.Memory.{byteIn, placeIn, from, engineIn}
-use Rattle.spi_memory.proofs.Rings.{cell-read}
+use Rattle.spi_layout.specs.Memory.{byteIn, placeIn, from, engineIn}
+use Rattle.spi_layout.proofs.Rings.{cell-read}
 use Rattle.spi_memory.proofs.first_waiting_in.Statement.{statement}
 use Rattle.spi_memory.proofs.first_waiting_in.Tie as tie
 

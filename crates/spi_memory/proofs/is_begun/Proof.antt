@@ -1,6 +1,6 @@
 -- The first number tells it.
 use borrow.Author.Needs.{needs}
-use Rattle.spi_memory.proofs.Looks.{begun-looked}
+use Rattle.spi_layout.proofs.Looks.{begun-looked}
 use Rattle.spi_memory.proofs.is_begun.Statement.{statement}
 use Rattle.spi_memory.proofs.is_begun.Tie as tie
 

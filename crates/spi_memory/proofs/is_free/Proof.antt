@@ -1,6 +1,6 @@
 -- The first number tells it.
 use borrow.Author.Needs.{needs}
-use Rattle.spi_memory.proofs.Looks.{free-looked}
+use Rattle.spi_layout.proofs.Looks.{free-looked}
 use Rattle.spi_memory.proofs.is_free.Statement.{statement}
 use Rattle.spi_memory.proofs.is_free.Tie as tie
 

@@ -1,7 +1,7 @@
 -- The definition, place by place.
 use borrow.Author.Needs.{needs}
 use mathlib.Core.Path.{refl}
-use Rattle.spi_memory.specs.Memory.{bitIn, byteIn}
+use Rattle.spi_layout.specs.Memory.{bitIn, byteIn}
 use Rattle.spi_memory.proofs.progress_in.Statement.{statement}
 use Rattle.spi_memory.proofs.progress_in.Tie as tie
 

@@ -4,7 +4,7 @@ use mathlib.Core.Path.{refl, ap}
 use borrow.Author.Tests.{not-true, not-false}
 use Rattle.laws.proofs.Choices.{so, not-so, so-eq, not-so-eq}
 use Rattle.spi_rules.specs.Settings.{wordsOf}
-use Rattle.spi_memory.specs.Memory.{depthIn, settingsIn}
+use Rattle.spi_layout.specs.Memory.{depthIn, settingsIn}
 use Rattle.spi_memory.proofs.room_in.Statement.{statement}
 use Rattle.spi_memory.proofs.room_in.Tie as tie
 

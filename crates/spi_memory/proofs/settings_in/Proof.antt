@@ -1,7 +1,7 @@
 -- The definition, part by part.
 use borrow.Author.Needs.{needs}
 use Rattle.word_order.specs.Bits.{bitOf}
-use Rattle.spi_memory.specs.Memory.{byteIn, settingsIn}
+use Rattle.spi_layout.specs.Memory.{byteIn, settingsIn}
 use Rattle.spi_memory.proofs.settings_in.Statement.{statement}
 use Rattle.spi_memory.proofs.settings_in.Tie as tie
 

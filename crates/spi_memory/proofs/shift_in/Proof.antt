@@ -2,7 +2,7 @@
 use borrow.Author.Needs.{needs}
 use mathlib.Core.Path.{refl}
 use Rattle.laws.proofs.Choices.{so-eq, not-so-eq}
-use Rattle.spi_memory.specs.Memory.{bitIn, byteIn, engineIn}
+use Rattle.spi_layout.specs.Memory.{bitIn, byteIn, engineIn}
 use Rattle.spi_memory.proofs.shift_in.Statement.{statement}
 use Rattle.spi_memory.proofs.shift_in.Tie as tie
 

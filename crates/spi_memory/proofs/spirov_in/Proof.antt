@@ -1,7 +1,7 @@
 -- The definition.
 use borrow.Author.Needs.{needs}
 use mathlib.Core.Path.{refl}
-use Rattle.spi_memory.specs.Memory.{bitIn, engineIn}
+use Rattle.spi_layout.specs.Memory.{bitIn, engineIn}
 use Rattle.spi_memory.proofs.spirov_in.Statement.{statement}
 use Rattle.spi_memory.proofs.spirov_in.Tie as tie
 

@@ -1,6 +1,6 @@
 -- The definition, part by part.
 use borrow.Author.Needs.{needs}
-use Rattle.spi_memory.specs.Memory.{byteIn, engineIn}
+use Rattle.spi_layout.specs.Memory.{byteIn, engineIn}
 use Rattle.spi_memory.proofs.transmit_in.Statement.{statement}
 use Rattle.spi_memory.proofs.transmit_in.Tie as tie
 

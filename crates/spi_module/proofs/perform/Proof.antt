@@ -3,8 +3,8 @@ use borrow.Author.Needs.{needs}
 use mathlib.Core.Path.{refl}
 use Rattle.laws.proofs.Choices.{by-case}
 use Rattle.spi_rules.specs.Calls.{performOf}
-use Rattle.spi_memory.specs.Memory.{moduleIn}
-use Rattle.spi_module.proofs.Answers.{likewise}
+use Rattle.spi_layout.specs.Memory.{moduleIn}
+use Rattle.spi_calls.proofs.Answers.{likewise}
 use Rattle.spi_module.proofs.perform.Statement.{statement}
 use Rattle.spi_module.proofs.perform.Tie as tie
 

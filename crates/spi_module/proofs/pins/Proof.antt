@@ -3,7 +3,7 @@ use borrow.Author.Needs.{needs}
 use mathlib.Core.Path.{refl}
 use Rattle.laws.proofs.Choices.{so, not-so}
 use Rattle.spi_rules.specs.Calls.{refuse, pinsOf}
-use Rattle.spi_module.proofs.Answers.{kept, likewise}
+use Rattle.spi_calls.proofs.Answers.{kept, likewise}
 use Rattle.spi_module.proofs.pins.Statement.{statement}
 use Rattle.spi_module.proofs.pins.Tie as tie
 

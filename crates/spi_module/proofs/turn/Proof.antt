@@ -1,8 +1,8 @@
 -- By the short way, or to the other level.
 use borrow.Author.Needs.{needs}
 use Rattle.laws.specs.Choice.{if_then_else_}
-use Rattle.spi_memory.proofs.Taken.{alike}
-use Rattle.spi_module.specs.Answered.{turned}
+use Rattle.spi_layout.proofs.Taken.{alike}
+use Rattle.spi_calls.specs.Answered.{turned}
 use Rattle.spi_module.proofs.turn.Statement.{statement}
 use Rattle.spi_module.proofs.turn.Tie as tie
 

@@ -1,7 +1,7 @@
 -- Each test is one of the cases in which SDO is undriven.
 use borrow.Author.Needs.{needs}
 use native.Mathlib.Omega.{arith}
-use Rattle.spi_memory.specs.Memory.{moduleIn}
+use Rattle.spi_layout.specs.Memory.{moduleIn}
 use Rattle.spi_numbers.proofs.Outputs.{sdo-off, sdo-kept, sdo-away, sdo-on}
 use Rattle.spi_numbers.proofs.sdo_bits.Statement.{statement}
 use Rattle.spi_numbers.proofs.sdo_bits.Tie as tie

@@ -1,7 +1,7 @@
 -- SS is driven by an enabled frame host.
 use borrow.Author.Needs.{needs}
 use native.Mathlib.Omega.{arith}
-use Rattle.spi_memory.specs.Memory.{moduleIn}
+use Rattle.spi_layout.specs.Memory.{moduleIn}
 use Rattle.spi_numbers.proofs.Outputs.{ss-off, ss-none, ss-on}
 use Rattle.spi_numbers.proofs.ss_bits.Statement.{statement}
 use Rattle.spi_numbers.proofs.ss_bits.Tie as tie

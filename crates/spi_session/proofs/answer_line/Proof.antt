@@ -8,7 +8,7 @@ use Rattle.spi_types.specs.declared.Refusal.the-variants.{UnreadableLine}
 use Rattle.spi_script_rules.specs.Script.{lineAfter, lineText, answerLine}
 use Rattle.spi_script_rules.proofs.ScriptSizes.{refused-length}
 use Rattle.spi_script_rules.proofs.Texts.{written-then, written-case}
-use Rattle.spi_memory.specs.Memory.{moduleIn}
+use Rattle.spi_layout.specs.Memory.{moduleIn}
 use Rattle.spi_session.proofs.Texts.{line-number-short, answer-short, asked-text}
 use Rattle.spi_session.proofs.answer_line.Statement.{statement}
 use Rattle.spi_session.proofs.answer_line.Tie as tie

@@ -3,7 +3,7 @@ use borrow.Author.Needs.{needs}
 use Rattle.spi_types.specs.declared.Answer.{Answer}
 use Rattle.spi_script_rules.specs.Script.{answerText, bytes}
 use Rattle.spi_script_rules.proofs.Texts.{written-case}
-use Rattle.spi_memory.specs.Memory.{moduleIn}
+use Rattle.spi_layout.specs.Memory.{moduleIn}
 use Rattle.spi_session.proofs.put_answer.Statement.{statement}
 use Rattle.spi_session.proofs.put_answer.Tie as tie
 

@@ -3,7 +3,7 @@ use borrow.Author.Needs.{needs}
 use Rattle.spi_types.specs.declared.Call.{Call}
 use Rattle.spi_script_rules.specs.Script.{doneText}
 use Rattle.spi_script_rules.proofs.Texts.{written-case}
-use Rattle.spi_memory.specs.Memory.{moduleIn}
+use Rattle.spi_layout.specs.Memory.{moduleIn}
 use Rattle.spi_session.proofs.put_done.Statement.{statement}
 use Rattle.spi_session.proofs.put_done.Tie as tie
 

@@ -8,7 +8,7 @@ use Rattle.spi_types.specs.declared.Outcome.{Outcome}
 use Rattle.spi_types.specs.declared.Call.the-variants.{Read, Write, Tick, Pin, Clear}
 use Rattle.spi_rules.specs.Calls.{performOf}
 use Rattle.spi_trace_rules.specs.Trace.{callOf, wireIn}
-use Rattle.spi_memory.specs.Memory.{moduleIn}
+use Rattle.spi_layout.specs.Memory.{moduleIn}
 use Rattle.spi_trace.proofs.Playing.{leaves, read-leaves, bit-0}
 use Rattle.spi_trace.proofs.make.Statement.{statement}
 use Rattle.spi_trace.proofs.make.Tie as tie

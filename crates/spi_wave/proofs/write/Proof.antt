@@ -10,7 +10,7 @@ use Rattle.spi_rules.specs.Calls.{afterCalls}
 use Rattle.spi_script_rules.specs.Script.{linesOf, lineAfter, callsOf, scriptEnd}
 use Rattle.spi_script_rules.specs.Session.{firstLine}
 use Rattle.spi_lines.proofs.FirstLines.{within}
-use Rattle.spi_memory.specs.Memory.{moduleIn}
+use Rattle.spi_layout.specs.Memory.{moduleIn}
 use Rattle.spi_wave.proofs.Lines.{from-the-start, next-line, no-line}
 use Rattle.spi_wave.proofs.write.Statement.{statement}
 use Rattle.spi_wave.proofs.write.Tie as tie

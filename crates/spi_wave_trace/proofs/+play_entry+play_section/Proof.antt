@@ -20,7 +20,7 @@ use Rattle.spi_trace_rules.specs.declared.Entry.{Entry}
 use Rattle.spi_trace_rules.specs.Trace.{startOf, sizeOf, isPlay, rightOf, times, callsBy, callsOf}
 use Rattle.spi_trace_files.specs.Places.{entriesAt}
 use Rattle.spi_trace_files.specs.Idle.{idle}
-use Rattle.spi_memory.specs.Memory.{moduleIn}
+use Rattle.spi_layout.specs.Memory.{moduleIn}
 use Rattle.spi_trace.specs.Playing.{entryCalls}
 use Rattle.spi_trace.proofs.Playing.{repeated, repeated-none, entry-plays, entry-makes, no-levels, names-one, section-records, Here, Next, here, upcoming, played-on, passed-on, played-out, none-left}
 use Rattle.spi_wave_trace.proofs.play_entry.Reads as play-entry

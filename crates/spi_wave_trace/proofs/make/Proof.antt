@@ -6,7 +6,7 @@ use lib.Seq.{length-take-le}
 use Rattle.spi_types.specs.declared.Call.{Call}
 use Rattle.spi_rules.specs.Calls.{performOf}
 use Rattle.spi_script_rules.specs.Script.{lineAfter}
-use Rattle.spi_memory.specs.Memory.{moduleIn}
+use Rattle.spi_layout.specs.Memory.{moduleIn}
 use Rattle.spi_wave_trace.proofs.make.Statement.{statement}
 use Rattle.spi_wave_trace.proofs.make.Tie as tie
 

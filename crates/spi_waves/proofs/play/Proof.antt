@@ -4,7 +4,7 @@ use mathlib.Core.Path.{refl, ap, _∙_}
 use Rattle.laws.proofs.Choices.{by-case}
 use Rattle.spi_types.specs.declared.Outcome.{Outcome}
 use Rattle.spi_script_rules.specs.Script.{lineAfter}
-use Rattle.spi_memory.specs.Memory.{moduleIn}
+use Rattle.spi_layout.specs.Memory.{moduleIn}
 use Rattle.spi_waves.specs.Wave.{shownOf, sdiAfter, lineShown}
 use Rattle.spi_waves.proofs.play.Statement.{statement}
 use Rattle.spi_waves.proofs.play.Tie as tie

@@ -6,7 +6,7 @@ use mathlib.Core.Path.{refl, sym, ap, _∙_}
 use Rattle.laws.proofs.Choices.{so, not-so}
 use Rattle.spi_types.specs.declared.Shift.{Shift}
 use Rattle.spi_rules.specs.Edge.{fresh, begun}
-use Rattle.spi_memory.specs.Memory.{settingsIn, engineIn}
+use Rattle.spi_layout.specs.Memory.{settingsIn, engineIn}
 use Rattle.spi_word_rules.specs.Word.{inProgress, current}
 use Rattle.spi_word.proofs.beginning.Statement.{statement}
 use Rattle.spi_word.proofs.beginning.Tie as tie

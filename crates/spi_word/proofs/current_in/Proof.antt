@@ -4,7 +4,7 @@ use mathlib.Core.Path.{refl, sym, _∙_}
 use Rattle.laws.proofs.Choices.{by-case}
 use Rattle.spi_types.specs.declared.Shift.{Shift}
 use Rattle.spi_rules.specs.Edge.{begun}
-use Rattle.spi_memory.specs.Memory.{settingsIn, engineIn}
+use Rattle.spi_layout.specs.Memory.{settingsIn, engineIn}
 use Rattle.spi_word_rules.specs.Word.{inProgress, current}
 use Rattle.spi_word.proofs.current_in.Statement.{statement}
 use Rattle.spi_word.proofs.current_in.Tie as tie

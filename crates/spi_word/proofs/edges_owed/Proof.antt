@@ -6,7 +6,7 @@ use native.Mathlib.Omega.{arith}
 use borrow.Author.Tests.{not-true, not-false}
 use Rattle.spi_types.specs.declared.Shift.{Shift}
 use Rattle.spi_rules.proofs.Sizes.{width-most}
-use Rattle.spi_memory.specs.Memory.{settingsIn, engineIn}
+use Rattle.spi_layout.specs.Memory.{settingsIn, engineIn}
 use Rattle.spi_word_rules.specs.Word.{wordsIn, edgesIn}
 use Rattle.spi_word.proofs.Making.{owes-none, owes-some, owed-fits}
 use Rattle.spi_word.proofs.edges_owed.Statement.{statement}

@@ -6,7 +6,7 @@ use borrow.Author.Tests.{not-true, not-false}
 use Rattle.laws.proofs.Keeps.{and-both, and-first, and-false}
 use Rattle.spi_types.specs.declared.Progress.{Progress}
 use Rattle.spi_rules.specs.Settings.{framed}
-use Rattle.spi_memory.specs.Memory.{settingsIn, engineIn}
+use Rattle.spi_layout.specs.Memory.{settingsIn, engineIn}
 use Rattle.spi_word_rules.specs.Word.{hasWord}
 use Rattle.spi_word.proofs.Making.{off-none, framed-none, rests-none, by-edges}
 use Rattle.spi_word.proofs.has_word.Statement.{statement}

@@ -4,8 +4,8 @@ use mathlib.Core.Bool.{Bool}
 use mathlib.Core.Path.{refl, ap}
 use Rattle.laws.proofs.Choices.{so, not-so}
 use Rattle.spi_rules.specs.Changes.{withSs}
-use Rattle.spi_memory.specs.Memory.{engineIn}
-use Rattle.spi_memory.proofs.Taken.{alike, stays}
+use Rattle.spi_layout.specs.Memory.{engineIn}
+use Rattle.spi_layout.proofs.Taken.{alike, stays}
 use Rattle.spi_word_rules.proofs.Closed.{remembered}
 use Rattle.spi_word.proofs.hear.Statement.{statement}
 use Rattle.spi_word.proofs.hear.Tie as tie

@@ -3,7 +3,7 @@ use borrow.Author.Needs.{needs}
 use mathlib.Core.Path.{refl, sym, ap, _∙_}
 use Rattle.laws.proofs.Choices.{so, not-so}
 use Rattle.spi_rules.specs.Edge.{clocked}
-use Rattle.spi_memory.proofs.Taken.{_then_, alike}
+use Rattle.spi_layout.proofs.Taken.{_then_, alike}
 use Rattle.spi_word_rules.proofs.Closed.{remembered, readied}
 use Rattle.spi_word.proofs.make_ready.Statement.{statement}
 use Rattle.spi_word.proofs.make_ready.Tie as tie

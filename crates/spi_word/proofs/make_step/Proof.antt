@@ -5,7 +5,7 @@ use mathlib.Core.Path.{refl, sym, ap, _∙_}
 use Rattle.spi_types.specs.declared.Outcome.{Outcome}
 use Rattle.spi_rules.specs.Calls.{performOf}
 use Rattle.spi_word_rules.specs.Word.{oneStep}
-use Rattle.spi_memory.specs.Memory.{settingsIn, engineIn}
+use Rattle.spi_layout.specs.Memory.{settingsIn, engineIn}
 use Rattle.spi_word.proofs.Making.{stepped-so}
 use Rattle.spi_word.proofs.make_step.Statement.{statement}
 use Rattle.spi_word.proofs.make_step.Tie as tie

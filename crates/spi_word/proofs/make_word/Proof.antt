@@ -8,8 +8,8 @@ use lib.Dec.{eqb}
 use Rattle.laws.proofs.Keeps.{clash}
 use Rattle.spi_types.specs.declared.Engine.{Engine}
 use Rattle.spi_types.specs.declared.Pins.{Pins}
-use Rattle.spi_memory.specs.Memory.{settingsIn, engineIn}
-use Rattle.spi_memory.proofs.Taken.{_then_, module-after}
+use Rattle.spi_layout.specs.Memory.{settingsIn, engineIn}
+use Rattle.spi_layout.proofs.Taken.{_then_, module-after}
 use Rattle.spi_word_rules.proofs.Closed.{lastSck}
 use Rattle.spi_word.proofs.Making.{word-made, speaks, short-here}
 use Rattle.spi_word.proofs.make_word.Statement.{statement}

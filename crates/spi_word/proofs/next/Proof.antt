@@ -4,7 +4,7 @@ use mathlib.Core.Bool.{not, _&&_}
 use mathlib.Core.Path.{refl, sym, ap, _∙_}
 use borrow.Author.Tests.{not-true, not-false}
 use Rattle.spi_types.specs.declared.Progress.{Progress}
-use Rattle.spi_memory.specs.Memory.{settingsIn, engineIn}
+use Rattle.spi_layout.specs.Memory.{settingsIn, engineIn}
 use Rattle.spi_word.proofs.Making.{next-off, next-none, next-filler, next-word}
 use Rattle.spi_word.proofs.next.Statement.{statement}
 use Rattle.spi_word.proofs.next.Tie as tie

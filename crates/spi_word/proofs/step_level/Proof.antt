@@ -5,7 +5,7 @@ use mathlib.Core.Path.{refl, sym, ap, _∙_}
 use Rattle.laws.proofs.Choices.{so, not-so}
 use Rattle.laws.proofs.Keeps.{and-both, and-first, and-false}
 use Rattle.spi_rules.specs.Settings.{framed}
-use Rattle.spi_memory.specs.Memory.{settingsIn}
+use Rattle.spi_layout.specs.Memory.{settingsIn}
 use Rattle.spi_word_rules.specs.Word.{stepLevel}
 use Rattle.spi_word.proofs.step_level.Statement.{statement}
 use Rattle.spi_word.proofs.step_level.Tie as tie

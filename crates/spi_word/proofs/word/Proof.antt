@@ -1,7 +1,7 @@
 -- By whether it has a word.
 use borrow.Author.Needs.{needs}
 use mathlib.Core.Path.{sym, _∙_}
-use Rattle.spi_memory.specs.Memory.{moduleIn}
+use Rattle.spi_layout.specs.Memory.{moduleIn}
 use Rattle.spi_word_rules.proofs.WordHolds.{single-step}
 use Rattle.spi_word.proofs.Making.{speaks-as}
 use Rattle.spi_word.proofs.word.Statement.{statement}

@@ -6,8 +6,8 @@ use Prim.Native.Nat.{ℕ, _+_}
 use Rattle.spi_types.specs.declared.Receive.{Receive}
 use Rattle.spi_rules.specs.Changes.{withReceive}
 use Rattle.spi_rules.specs.Settings.{depthOf}
-use Rattle.spi_memory.specs.Memory.{settingsIn, engineIn}
-use Rattle.spi_memory.proofs.Taken.{alike, stays}
+use Rattle.spi_layout.specs.Memory.{settingsIn, engineIn}
+use Rattle.spi_layout.proofs.Taken.{alike, stays}
 use Rattle.spi_words.proofs.Rings.{arrived-appended, full-keeps}
 use Rattle.spi_words.proofs.append.Statement.{statement}
 use Rattle.spi_words.proofs.append.Tie as tie

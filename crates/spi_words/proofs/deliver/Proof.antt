@@ -3,7 +3,7 @@ use borrow.Author.Needs.{needs}
 use Rattle.laws.proofs.Choices.{so, not-so}
 use Rattle.spi_rules.specs.Buffers.{overrun}
 use Rattle.spi_rules.specs.Finish.{overflowed, wordAppended, isLost, delivered}
-use Rattle.spi_memory.proofs.Taken.{_then_, alike}
+use Rattle.spi_layout.proofs.Taken.{_then_, alike}
 use Rattle.spi_words.proofs.Raised.{noting}
 use Rattle.spi_words.proofs.deliver.Statement.{statement}
 use Rattle.spi_words.proofs.deliver.Tie as tie

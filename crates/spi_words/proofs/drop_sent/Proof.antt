@@ -3,7 +3,7 @@ use borrow.Author.Needs.{needs}
 use mathlib.Core.Path.{refl}
 use Rattle.laws.proofs.Choices.{so, not-so}
 use Rattle.spi_rules.specs.Finish.{sentDropped}
-use Rattle.spi_memory.proofs.Taken.{alike, stays}
+use Rattle.spi_layout.proofs.Taken.{alike, stays}
 use Rattle.spi_words.proofs.drop_sent.Statement.{statement}
 use Rattle.spi_words.proofs.drop_sent.Tie as tie
 

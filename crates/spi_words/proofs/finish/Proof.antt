@@ -1,7 +1,7 @@
 -- The steps of the definition.
 use borrow.Author.Needs.{needs}
 use Rattle.spi_rules.specs.Finish.{finished}
-use Rattle.spi_memory.proofs.Taken.{_then_}
+use Rattle.spi_layout.proofs.Taken.{_then_}
 use Rattle.spi_words.proofs.finish.Statement.{statement}
 use Rattle.spi_words.proofs.finish.Tie as tie
 

@@ -1,7 +1,7 @@
 -- The steps of the definition.
 use borrow.Author.Needs.{needs}
 use Rattle.spi_rules.specs.Finish.{freed}
-use Rattle.spi_memory.proofs.Taken.{_then_, alike}
+use Rattle.spi_layout.proofs.Taken.{_then_, alike}
 use Rattle.spi_words.proofs.Raised.{noting}
 use Rattle.spi_words.proofs.free_after_finish.Statement.{statement}
 use Rattle.spi_words.proofs.free_after_finish.Tie as tie

@@ -3,7 +3,7 @@ use borrow.Author.Needs.{needs}
 use borrow.Author.Tests.{not-true, not-false}
 use Rattle.spi_rules.specs.Loading.{moved, loaded}
 use mathlib.Core.Path.{ap, _∙_}
-use Rattle.spi_memory.proofs.Taken.{_then_, alike, stays}
+use Rattle.spi_layout.proofs.Taken.{_then_, alike, stays}
 use Rattle.spi_words.proofs.Loads.{busy-waits, none-waits, kept-back, loads}
 use Rattle.spi_words.proofs.load.Statement.{statement}
 use Rattle.spi_words.proofs.load.Tie as tie

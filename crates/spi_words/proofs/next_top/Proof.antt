@@ -3,7 +3,7 @@ use borrow.Author.Needs.{needs}
 use mathlib.Core.Path.{refl, sym, _∙_}
 use Rattle.laws.proofs.Choices.{by-case}
 use Rattle.spi_rules.specs.Loading.{nextTop}
-use Rattle.spi_memory.specs.Memory.{settingsIn, engineIn}
+use Rattle.spi_layout.specs.Memory.{settingsIn, engineIn}
 use Rattle.spi_words.proofs.next_top.Statement.{statement}
 use Rattle.spi_words.proofs.next_top.Tie as tie
 

@@ -6,8 +6,8 @@ use Prim.Native.Nat.{ℕ, _-_}
 use Rattle.spi_types.specs.declared.Transmit.{Transmit}
 use Rattle.spi_rules.specs.Changes.{withTransmit}
 use Rattle.spi_rules.specs.Settings.{depthOf}
-use Rattle.spi_memory.specs.Memory.{settingsIn, engineIn}
-use Rattle.spi_memory.proofs.Taken.{alike, stays}
+use Rattle.spi_layout.specs.Memory.{settingsIn, engineIn}
+use Rattle.spi_layout.proofs.Taken.{alike, stays}
 use Rattle.spi_words.proofs.Rings.{popped-departed, none-departs}
 use Rattle.spi_words.proofs.pop.Statement.{statement}
 use Rattle.spi_words.proofs.pop.Tie as tie

@@ -4,8 +4,8 @@ use mathlib.Core.Bool.{Bool, true, false, _||_}
 use mathlib.Core.Path.{_≡_, refl, sym, ap}
 use Rattle.spi_types.specs.declared.Engine.{Engine}
 use Rattle.spi_rules.specs.Changes.{withInterrupt}
-use Rattle.spi_memory.specs.Memory.{engineIn}
-use Rattle.spi_memory.proofs.Taken.{alike, stays}
+use Rattle.spi_layout.specs.Memory.{engineIn}
+use Rattle.spi_layout.proofs.Taken.{alike, stays}
 use Rattle.spi_words.proofs.Raised.{or-false, or-true}
 use Rattle.spi_words.proofs.raise.Statement.{statement}
 use Rattle.spi_words.proofs.raise.Tie as tie

@@ -2,7 +2,7 @@
 use borrow.Author.Needs.{needs}
 use borrow.Author.Tests.{not-true, not-false}
 use Rattle.spi_rules.specs.Loading.{rested, sdoAt}
-use Rattle.spi_memory.proofs.Taken.{alike, stays}
+use Rattle.spi_layout.proofs.Taken.{alike, stays}
 use Rattle.spi_words.proofs.Loads.{early-stays, begun-stays, rests}
 use Rattle.spi_words.proofs.rest.Statement.{statement}
 use Rattle.spi_words.proofs.rest.Tie as tie

@@ -2,7 +2,7 @@
 use borrow.Author.Needs.{needs}
 use Rattle.spi_rules.specs.Calls.{wordTaken}
 use Rattle.spi_rules.specs.Interrupts.{noted}
-use Rattle.spi_memory.proofs.Taken.{_then_, alike}
+use Rattle.spi_layout.proofs.Taken.{_then_, alike}
 use Rattle.spi_words.proofs.take_word.Statement.{statement}
 use Rattle.spi_words.proofs.take_word.Tie as tie
 

@@ -1,0 +1,3 @@
+-- Laws of calls and of edges.
+pub mod Answers
+pub mod Edges

@@ -1,4 +1,0 @@
--- What the proofs of several functions use.
-pub mod Answers
-pub mod Edges
-mod Short
