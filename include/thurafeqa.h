@@ -519,7 +519,9 @@ typedef struct {
  * Refusals: 21 (the list has no module, or more than four), then 22 (there is
  * no module with that number; linked: also if both are the same). Both are
  * tested before all others, and leave every module and `owed` as they were.
- * Traces are played and scripts saved on single modules alone.
+ * Traces are played and scripts saved on single modules alone. What goes out
+ * next and what is owed is asked of a module itself, which such a look leaves as
+ * it is: thurafeqa_next(&b->modules[n]).
  *
  * Use the functions over thurafeqa_board below. They call three of the library,
  * which a program need not call itself: thurafeqa_board_owed for the question,
