@@ -2,7 +2,7 @@
  * SALVAGE_NO_MAIN it is a program:
  *
  *   salvage [ROOM]  salvages the file on standard input, lending ROOM bytes,
- *                   65,535 if not given, and writes what spi_salvage does: a
+ *                   65,535 if not given, and writes what run_salvage does: a
  *                   line with the refusal, or with the sections cut and the
  *                   bytes lost, and behind it the new file
  *   salvage cases   standard input is text: a heading that starts with "# ",

@@ -1,12 +1,12 @@
 /* Request Five of document 02: a trace file that plays. Built without
  * TRACE_NO_MAIN it is a program:
  *
- *   trace        plays the file on standard input, and prints what spi_play
+ *   trace        plays the file on standard input, and prints what run_play
  *                does: the refusal, or the calls made, the registers, the flag
  *   trace list   prints a listing of the file on standard input
  *   trace cases  standard input is text: a heading that starts with "# ", under
  *                it a line with a file's bytes in hexadecimal, and so on. Prints
- *                each heading, and under it what spi_play prints of the file
+ *                each heading, and under it what run_play prints of the file
  *   trace unread the same, and under the heading the words left unread
  */
 #include "trace.h"

@@ -81,7 +81,7 @@ enum trace_fault trace_open(struct trace *t, const uint8_t *file,
 int trace_play(struct ref_spi *m, const uint8_t *file, size_t length,
                unsigned *calls);
 
-/* What the program spi_play prints of a file. */
+/* What the program run_play prints of a file. */
 void trace_print(const uint8_t *file, size_t length, FILE *out);
 
 /* A listing to read: all bytes with their places and what they say; of a wrong

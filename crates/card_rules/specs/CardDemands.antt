@@ -17,15 +17,15 @@ use Rattle.card_rules.specs.Figures.{protocolNumber, pairs, isPair, bitC
 use Rattle.card_rules.specs.Watch.{watching, poweredUpCard, life}
 
 -- What a call asks for, in numbers: its kind, and what it carries.
-pub record Asks : Type 0 where
+pub record CardAsks : Type 0 where
   pub kind : ℕ
   pub first : ℕ
   pub second : ℕ
 
-abbrev pub asking : ℕ → ℕ → ℕ → Asks
+abbrev pub asking : ℕ → ℕ → ℕ → CardAsks
 asking kind first second = record { kind = kind; first = first; second = second }
 
-abbrev pub asks : Call → Asks
+abbrev pub asks : Call → CardAsks
 asks (setProtocol p) = asking 0 (protocolNumber p) 0
 asks (setLength bits frame) = asking 1 bits frame
 asks enable = asking 2 0 0

@@ -289,15 +289,15 @@ casesHold (x ∷ xs) = caseHolds x && casesHold xs
 
 -- A session by its steps: a call with the refusal number and the sample that it must answer, edges with a level of SDI, or a look: SCK, LRCK
 -- and SDO (2 is undriven); the two flags; the samples waiting and unread; whether the right channel is next.
-pub data Step : Type 0 where
-  says : Call → ℕ → ℕ → Step
-  edges : ℕ → Bool → Step
-  pins : Bool → Bool → ℕ → Step
-  flags : Bool → Bool → Step
-  holds : List ℕ → List ℕ → Step
-  right : Bool → Step
+pub data CardStep : Type 0 where
+  says : Call → ℕ → ℕ → CardStep
+  edges : ℕ → Bool → CardStep
+  pins : Bool → Bool → ℕ → CardStep
+  flags : Bool → Bool → CardStep
+  holds : List ℕ → List ℕ → CardStep
+  right : Bool → CardStep
 
-abbrev pub ok : Call → Step
+abbrev pub ok : Call → CardStep
 ok c = says c 0 0
 
 unfoldable pub edgesOn : ℕ → Bool → (Card → Bool) → Card → Bool
@@ -307,7 +307,7 @@ edgesOn (suc n) sdi rest m = edgesOn n sdi rest (perform m (edge sdi))
 unfoldable pub said : ℕ → ℕ → (Card → Bool) → Outcome → Bool
 said number told rest o = eqb (saidOf (o .answer) .number) number && (eqb (saidOf (o .answer) .told) told && rest (o .after))
 
-unfoldable pub played : List Step → Card → Bool
+unfoldable pub played : List CardStep → Card → Bool
 played [] m = true
 played (says c number told ∷ rest) m = said number told (played rest) (performOf m c)
 played (edges n sdi ∷ rest) m = edgesOn n sdi (played rest) m
@@ -320,7 +320,7 @@ played (holds waiting unread ∷ rest) m =
 played (right next ∷ rest) m = Bool·beq (rightNext m) next && played rest m
 
 -- Refusals: 2 while disabled; 23 for what is not named, and 3 before it; eight samples fit and the ninth gives 5; 6 with nothing unread.
-abbrev pub refusals : List Step
+abbrev pub refusals : List CardStep
 refusals =
     pins false false 2
     ∷ says (write 1) 2 0
@@ -359,7 +359,7 @@ refusals =
 
 -- An empty buffer sets the underrun flag at the first place; it stays through disabling and falls by its own clear alone. The pins keep
 -- their levels.
-abbrev pub starved : List Step
+abbrev pub starved : List CardStep
 starved =
     ok enable
     ∷ pins true true 0
@@ -389,7 +389,7 @@ starved =
     ∷ []
 
 -- Nine samples are received and none is read: the ninth is lost. A read makes room, and reception goes on: there is no mark.
-abbrev pub overflowing : List Step
+abbrev pub overflowing : List CardStep
 overflowing =
     ok (setProtocol leftJustified)
     ∷ ok enable
@@ -413,7 +413,7 @@ overflowing =
     ∷ []
 
 -- A sample keeps its low bits and leaves the buffer at its channel's first place: at LRCK's edge for right justified, before its zeros.
-abbrev pub leaving : List Step
+abbrev pub leaving : List CardStep
 leaving =
     ok (setProtocol rightJustified)
     ∷ ok (setLength 24 64)
@@ -440,7 +440,7 @@ leaving =
     ∷ []
 
 -- PCM/DSP: the pulse and the channels by their first places.
-abbrev pub packed : List Step
+abbrev pub packed : List CardStep
 packed =
     ok (setProtocol pcm)
     ∷ ok (setLength 16 64)
@@ -459,7 +459,7 @@ packed =
     ∷ []
 
 -- A sample of 32 ones goes out and one comes in: the shift register loses no bit.
-abbrev pub ones : List Step
+abbrev pub ones : List CardStep
 ones =
     ok (setProtocol leftJustified)
     ∷ ok (setLength 32 64)
@@ -472,9 +472,9 @@ ones =
     ∷ holds [] (0xFFFFFFFF ∷ [])
     ∷ []
 
-abbrev pub sessions : List (List Step)
+abbrev pub sessions : List (List CardStep)
 sessions = refusals ∷ starved ∷ overflowing ∷ leaving ∷ packed ∷ ones ∷ []
 
-unfoldable pub sessionsHold : List (List Step) → Bool
+unfoldable pub sessionsHold : List (List CardStep) → Bool
 sessionsHold [] = true
 sessionsHold (x ∷ xs) = played x poweredUp && sessionsHold xs

@@ -4,9 +4,9 @@
 use Prim.Native.Nat.{ℕ}
 use mathlib.Core.List.{List}
 use mathlib.Core.Path.{_≡_, _∙_, ap}
-use Rattle.spi_trace_rules.specs.declared.Played.{Played}
-use Rattle.spi_trace_rules.specs.Trace.{isMade}
-use Rattle.spi_trace.specs.Playing.{Plays}
+use Rattle.trace_rules.specs.declared.Played.{Played}
+use Rattle.trace_rules.specs.Trace.{isMade}
+use Rattle.trace_player.specs.Playing.{Plays}
 use Rattle.thurafeqa.specs.Numbers.{playNumber, PlayTells}
 
 pub play-told : {f : List ℕ} {x : Played} {r : ℕ} {a b : List ℕ} → Plays f x a b → r ≡ playNumber x → PlayTells f r a b

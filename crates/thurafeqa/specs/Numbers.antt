@@ -5,16 +5,16 @@ use mathlib.Core.Bool.{false}
 use mathlib.Core.List.{List}
 use mathlib.Core.Path.{_≡_}
 use lib.ListN.{length}
-use Rattle.spi_trace_rules.specs.declared.Played.{Played}
-use Rattle.spi_trace_rules.specs.Trace.{playedOf, isMade, playedModule}
-use Rattle.spi_trace_rules.specs.TraceDemands.{numberIn, countIn}
-use Rattle.spi_save_rules.specs.declared.Saved.{Saved}
-use Rattle.spi_save_rules.specs.Save.{savedOf, bufferAfter, savedNumberOf, savedLengthOf}
-use Rattle.spi_salvage_rules.specs.declared.Salvaged.{Salvaged}
-use Rattle.spi_salvage_rules.specs.Salvage as salvage
-use Rattle.spi_salvage_rules.specs.Salvage.{salvagedOf, salvageNumberOf}
-use Rattle.spi_salvage_rules.specs.SalvageDemands.{cutIn, lostIn, lengthIn}
-use Rattle.spi_layout.specs.Memory.{moduleIn}
+use Rattle.trace_rules.specs.declared.Played.{Played}
+use Rattle.trace_rules.specs.Trace.{playedOf, isMade, playedModule}
+use Rattle.trace_rules.specs.TraceDemands.{numberIn, countIn}
+use Rattle.trace_save_rules.specs.declared.Saved.{Saved}
+use Rattle.trace_save_rules.specs.Save.{savedOf, bufferAfter, savedNumberOf, savedLengthOf}
+use Rattle.trace_salvage_rules.specs.declared.Salvaged.{Salvaged}
+use Rattle.trace_salvage_rules.specs.Salvage as salvage
+use Rattle.trace_salvage_rules.specs.Salvage.{salvagedOf, salvageNumberOf}
+use Rattle.trace_salvage_rules.specs.SalvageDemands.{cutIn, lostIn, lengthIn}
+use Rattle.module_memory.specs.Memory.{moduleIn}
 
 -- What playing a trace file answers: the upper 16 bits are the refusal number, 0 if the file is played, the lower 16 bits the calls
 -- made.
@@ -52,6 +52,6 @@ pub record SalvageTells (f : List ℕ) (r : ℕ) (before after : List ℕ) : Typ
 abbrev pub versionNumber : ℕ
 versionNumber = 7 * 65536 + 0 * 256 + 0
 
--- The number of the memory's format: it rises wherever the meaning of memory (crates/spi_memory/specs/Memory.antt) changes.
+-- The number of the memory's format: it rises wherever the meaning of memory (crates/module_memory_looks/specs/Memory.antt) changes.
 abbrev pub formatNumber : ℕ
 formatNumber = 4

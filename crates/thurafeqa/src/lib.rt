@@ -1,22 +1,22 @@
 // The model for a program in C or Rust to link: the calls of one module, linked runs, clock reports and trace files over memory that the
 // caller holds, 96 numbers of 16 bits a module. Only numbers cross the boundary, and any numbers are answered.
-use spi_board::Cells;
-use spi_salvage_rules::Salvaged;
-use spi_save_rules::Saved;
-use spi_trace_rules::Played;
+use board_calls::Cells;
+use trace_rules::Played;
+use trace_salvage_rules::Salvaged;
+use trace_save_rules::Saved;
 ghost use Prim.Native.Nat.{_%_};
 ghost use mathlib.Core.Path.{_≡_};
-ghost use Rattle.spi_rules.specs.Calls.{poweredUp, powerUpOf, readOf, writeOf, tickOf, pinsOf, clockStepOf, clearOf};
-ghost use Rattle.spi_word_rules.specs.Word.{wordOf, edgesOwed};
-ghost use Rattle.spi_board_rules.specs.Owed.{countOf};
-ghost use Rattle.spi_word.specs.Speaking.{WordTells, nextNumber};
-ghost use Rattle.spi_link_rules.specs.Link.{linkedOf};
-ghost use Rattle.spi_clock_rules.specs.Clock.{reportOf, saidClock};
-ghost use Rattle.spi_rate_rules.specs.Rate.{prescalersFor};
-ghost use Rattle.spi_layout.specs.Memory.{moduleIn};
-ghost use Rattle.spi_numbers.specs.Told.{Tells, levelIn, levelsNumber, StepTells, ClockTells, LinkTells};
-ghost use Rattle.spi_board.specs.Boards.{askedOf};
-ghost use Rattle.spi_board.specs.Owing.{Asks, OwedTells, OwedPairTells};
+ghost use Rattle.module_rules.specs.Calls.{poweredUp, powerUpOf, readOf, writeOf, tickOf, pinsOf, clockStepOf, clearOf};
+ghost use Rattle.word_rules.specs.Word.{wordOf, edgesOwed};
+ghost use Rattle.board_rules.specs.Owed.{wordsOwed};
+ghost use Rattle.word_calls.specs.Speaking.{WordTells, nextNumber};
+ghost use Rattle.link_rules.specs.Link.{linkedOf};
+ghost use Rattle.clock_rules.specs.Clock.{reportOf, saidClock};
+ghost use Rattle.clock_rate_rules.specs.Rate.{prescalersFor};
+ghost use Rattle.module_memory.specs.Memory.{moduleIn};
+ghost use Rattle.module_by_number.specs.Told.{Tells, levelIn, levelsNumber, StepTells, ClockTells, LinkTells};
+ghost use Rattle.board_calls.specs.Boards.{askedOf};
+ghost use Rattle.board_calls.specs.Owing.{TellsOwed, OwedTells, OwedPairTells};
 ghost use Rattle.thurafeqa.specs.Numbers.{playNumber, PlayTells, saveNumber, SaveTells, salvageNumber, SalvageTells, versionNumber, formatNumber};
 
 // Power-up: the memory may hold anything before.
@@ -24,7 +24,7 @@ ghost use Rattle.thurafeqa.specs.Numbers.{playNumber, PlayTells, saveNum
 pub extern "C" fn thurafeqa_power_up(w: &mut [u16; 96])
     ensures { λ _. ⌜ moduleIn (now (w .exit)) ≡ poweredUp ⌝ }
 {
-    spi_stores::power_up(w);
+    module_memory_stores::power_up(w);
 }
 
 // Power-up with a depth of 4, 8 or 16 words for enhanced operation.
@@ -32,7 +32,7 @@ pub extern "C" fn thurafeqa_power_up(w: &mut [u16; 96])
 pub extern "C" fn thurafeqa_power_up_with(w: &mut [u16; 96], depth: u32) -> u32
     ensures { λ r. ⌜ Tells (powerUpOf (moduleIn (now (w .entry))) depth) r (now (w .entry)) (now (w .exit)) ⌝ }
 {
-    spi_numbers::power_up_with(w, depth)
+    module_by_number::power_up_with(w, depth)
 }
 
 // Reads a register.
@@ -40,7 +40,7 @@ pub extern "C" fn thurafeqa_power_up_with(w: &mut [u16; 96], depth: u32) -> u32
 pub extern "C" fn thurafeqa_read(w: &mut [u16; 96], register: u32) -> u32
     ensures { λ r. ⌜ Tells (readOf (moduleIn (now (w .entry))) register) r (now (w .entry)) (now (w .exit)) ⌝ }
 {
-    spi_numbers::read(w, register)
+    module_by_number::read(w, register)
 }
 
 // Writes the low 16 bits of a value to a register.
@@ -48,7 +48,7 @@ pub extern "C" fn thurafeqa_read(w: &mut [u16; 96], register: u32) -> u32
 pub extern "C" fn thurafeqa_write(w: &mut [u16; 96], register: u32, value: u32) -> u32
     ensures { λ r. ⌜ Tells (writeOf (moduleIn (now (w .entry))) register (value % 65536)) r (now (w .entry)) (now (w .exit)) ⌝ }
 {
-    spi_numbers::write(w, register, (value % 65536) as u16)
+    module_by_number::write(w, register, (value % 65536) as u16)
 }
 
 // One clock step of any module, with the levels SCK, SDI and SS, and a look at its pins after it. A host with its own clock makes its
@@ -57,7 +57,7 @@ pub extern "C" fn thurafeqa_write(w: &mut [u16; 96], register: u32, value: u32) 
 pub extern "C" fn thurafeqa_clock_step(w: &mut [u16; 96], sck: u32, sdi: u32, ss: u32) -> u32
     ensures { λ r. ⌜ StepTells (clockStepOf (moduleIn (now (w .entry))) (levelIn sck) (levelIn sdi) (levelIn ss)) r (now (w .entry)) (now (w .exit)) ⌝ }
 {
-    spi_numbers::clock_step(w, sck != 0, sdi != 0, ss != 0)
+    module_by_number::clock_step(w, sck != 0, sdi != 0, ss != 0)
 }
 
 // One tick of a host with its own clock, with the levels SDI and SS. SS counts for a frame client alone.
@@ -65,13 +65,13 @@ pub extern "C" fn thurafeqa_clock_step(w: &mut [u16; 96], sck: u32, sdi: u32, ss
 pub extern "C" fn thurafeqa_tick(w: &mut [u16; 96], sdi: u32, ss: u32) -> u32
     ensures { λ r. ⌜ Tells (tickOf (moduleIn (now (w .entry))) (levelIn sdi) (levelIn ss)) r (now (w .entry)) (now (w .exit)) ⌝ }
 {
-    if spi_short::tick_within(w, sdi != 0, ss != 0) {
+    if module_midword::tick_within(w, sdi != 0, ss != 0) {
         return 1;
     }
-    if spi_short::frame_within(w, sdi != 0, ss != 0) {
+    if module_midword::frame_within(w, sdi != 0, ss != 0) {
         return 1;
     }
-    spi_numbers::tick(w, sdi != 0, ss != 0)
+    module_by_number::tick(w, sdi != 0, ss != 0)
 }
 
 // The levels SCK, SDI and SS are shown to a module that is clocked from its pin.
@@ -79,10 +79,10 @@ pub extern "C" fn thurafeqa_tick(w: &mut [u16; 96], sdi: u32, ss: u32) -> u32
 pub extern "C" fn thurafeqa_pins(w: &mut [u16; 96], sck: u32, sdi: u32, ss: u32) -> u32
     ensures { λ r. ⌜ Tells (pinsOf (moduleIn (now (w .entry))) (levelIn sck) (levelIn sdi) (levelIn ss)) r (now (w .entry)) (now (w .exit)) ⌝ }
 {
-    if spi_short::pins_within(w, sck != 0, sdi != 0, ss != 0) {
+    if module_midword::pins_within(w, sck != 0, sdi != 0, ss != 0) {
         return 0;
     }
-    spi_numbers::pins(w, sck != 0, sdi != 0, ss != 0)
+    module_by_number::pins(w, sck != 0, sdi != 0, ss != 0)
 }
 
 // A word at a time: all clock steps that the word under way, or the next one, still takes, with SDI from the low 16 bits of `word`, and the
@@ -91,7 +91,7 @@ pub extern "C" fn thurafeqa_pins(w: &mut [u16; 96], sck: u32, sdi: u32, ss: u32)
 pub extern "C" fn thurafeqa_word(w: &mut [u16; 96], ss: u32, word: u32) -> u32
     ensures { λ r. ⌜ WordTells (wordOf (moduleIn (now (w .entry))) (levelIn ss) (word % 65536)) r (now (w .entry)) (now (w .exit)) ⌝ }
 {
-    spi_word::told(w, ss != 0, (word % 65536) as u16)
+    word_calls::told(w, ss != 0, (word % 65536) as u16)
 }
 
 // The word that would go out next, with bit 16 set; 0 if there is none.
@@ -99,7 +99,7 @@ pub extern "C" fn thurafeqa_word(w: &mut [u16; 96], ss: u32, word: u32) -> u32
 pub extern "C" fn thurafeqa_next(w: &[u16; 96]) -> u32
     ensures { λ r. ⌜ r ≡ nextNumber (moduleIn (now (w .entry))) ⌝ }
 {
-    spi_word::next(w)
+    word_calls::next(w)
 }
 
 // The edges that an unframed host with its own clock still makes until it is idle, and the accepted words that a module has not finished.
@@ -107,14 +107,14 @@ pub extern "C" fn thurafeqa_next(w: &[u16; 96]) -> u32
 pub extern "C" fn thurafeqa_edges_owed(w: &[u16; 96]) -> u32
     ensures { λ r. ⌜ r ≡ edgesOwed (moduleIn (now (w .entry))) ⌝ }
 {
-    spi_word::edges_owed(w)
+    word_calls::edges_owed(w)
 }
 
 #[no_mangle]
 pub extern "C" fn thurafeqa_words_owed(w: &[u16; 96]) -> u32
-    ensures { λ r. ⌜ r ≡ countOf (moduleIn (now (w .entry))) ⌝ }
+    ensures { λ r. ⌜ r ≡ wordsOwed (moduleIn (now (w .entry))) ⌝ }
 {
-    spi_board::count(w)
+    board_calls::count(w)
 }
 
 // Clears the interrupt flag.
@@ -122,7 +122,7 @@ pub extern "C" fn thurafeqa_words_owed(w: &[u16; 96]) -> u32
 pub extern "C" fn thurafeqa_clear(w: &mut [u16; 96])
     ensures { λ _. ⌜ moduleIn (now (w .exit)) ≡ clearOf (moduleIn (now (w .entry))) .after ⌝ }
 {
-    spi_numbers::clear(w);
+    module_by_number::clear(w);
 }
 
 // The interrupt flag and the levels of SCK, SDO and SS.
@@ -130,7 +130,7 @@ pub extern "C" fn thurafeqa_clear(w: &mut [u16; 96])
 pub extern "C" fn thurafeqa_levels(w: &[u16; 96]) -> u32
     ensures { λ r. ⌜ r ≡ levelsNumber (moduleIn (now (w .entry))) ⌝ }
 {
-    spi_numbers::levels(w)
+    module_by_number::levels(w)
 }
 
 // Two modules on one wire, for at most `limit` edges.
@@ -138,7 +138,7 @@ pub extern "C" fn thurafeqa_levels(w: &[u16; 96]) -> u32
 pub extern "C" fn thurafeqa_linked(host: &mut [u16; 96], client: &mut [u16; 96], limit: u32) -> u32
     ensures { λ r. ⌜ LinkTells (linkedOf (moduleIn (now (host .entry))) (moduleIn (now (client .entry))) limit) r (now (host .entry)) (now (host .exit)) (now (client .entry)) (now (client .exit)) ⌝ }
 {
-    spi_numbers::linked(host, client, limit)
+    module_by_number::linked(host, client, limit)
 }
 
 // The clock report for an instruction rate. Its floats go into memory that the caller lends: the rate and the bit time of an
@@ -147,7 +147,7 @@ pub extern "C" fn thurafeqa_linked(host: &mut [u16; 96], client: &mut [u16; 96],
 pub extern "C" fn thurafeqa_clock(w: &[u16; 96], rate: u32, report: &mut [f64; 3]) -> u32
     ensures { λ r. ⌜ ClockTells (saidClock (reportOf (moduleIn (now (w .entry))) rate)) r (now (report .entry)) (now (report .exit)) ⌝ }
 {
-    spi_numbers::clock(w, rate, report)
+    module_by_number::clock(w, rate, report)
 }
 
 // The prescalers for a wanted rate, as CON1 has them; 32 if there are none.
@@ -155,7 +155,7 @@ pub extern "C" fn thurafeqa_clock(w: &[u16; 96], rate: u32, report: &mut [f64; 3
 pub extern "C" fn thurafeqa_prescalers(rate: u32, wanted: u32) -> u32
     ensures { λ r. ⌜ r ≡ prescalersFor rate wanted ⌝ }
 {
-    spi_rate::prescalers(rate, wanted) as u32
+    clock_rate::prescalers(rate, wanted) as u32
 }
 
 // A call of module `n` of a board, by its kind: 0 power-up, 1 a read of register `x`, 2 a write of `y` to register `x`, 3 a tick with
@@ -175,11 +175,11 @@ pub extern "C" fn thurafeqa_board_call(
 ) -> u64
     ensures { λ r. ⌜ OwedTells owed n (askedOf kind x y z) r (now (report .entry)) (now (report .exit)) (now (board .entry)) (now (board .exit)) ⌝ }
 {
-    let why = spi_board::refused(board.len(), owed, n);
+    let why = board_calls::refused(board.len(), owed, n);
     if why > 0 {
         return why;
     }
-    spi_board::make_counted(&mut board[n as usize].numbers, owed, kind, x, y, z, report)
+    board_calls::make_counted(&mut board[n as usize].numbers, owed, kind, x, y, z, report)
 }
 
 // Two modules of a board on one wire, for at most `limit` edges. The total goes in and comes back as in a call.
@@ -193,12 +193,17 @@ pub extern "C" fn thurafeqa_board_linked(
 ) -> u64
     ensures { λ r. ⌜ OwedPairTells owed host client limit r (now (board .entry)) (now (board .exit)) ⌝ }
 {
-    let why = spi_board::refused_two(board.len(), owed, host, client);
+    let why = board_calls::refused_two(board.len(), owed, host, client);
     if why > 0 {
         return why;
     }
     let mut wired = board[client as usize].numbers;
-    let told = spi_board::join_counted(&mut board[host as usize].numbers, &mut wired, owed, limit);
+    let told = board_calls::join_counted(
+        &mut board[host as usize].numbers,
+        &mut wired,
+        owed,
+        limit,
+    );
     board[client as usize].numbers = wired;
     told
 }
@@ -206,9 +211,9 @@ pub extern "C" fn thurafeqa_board_linked(
 // The question: the words that the board still owes. No module is looked at.
 #[no_mangle]
 pub extern "C" fn thurafeqa_board_owed(count: usize, owed: u32) -> u32
-    ensures { λ r. ⌜ Asks count owed r ⌝ }
+    ensures { λ r. ⌜ TellsOwed count owed r ⌝ }
 {
-    spi_board::owes(count, owed)
+    board_calls::owes(count, owed)
 }
 
 // What playing a trace file answers as a number.
@@ -216,7 +221,7 @@ fn play_number(p: Played) -> u32
     ensures { λ r. ⌜ r ≡ playNumber p ⌝ }
 {
     match p {
-        Played::Refused(fault) => spi_trace::fault_number(fault) as u32 * 65536,
+        Played::Refused(fault) => trace_player::fault_number(fault) as u32 * 65536,
         Played::Made(count) => count as u32,
     }
 }
@@ -226,7 +231,7 @@ fn play_number(p: Played) -> u32
 pub extern "C" fn thurafeqa_play(w: &mut [u16; 96], file: &[u8]) -> u32
     ensures { λ r. ⌜ PlayTells (now (file .entry)) r (now (w .entry)) (now (w .exit)) ⌝ }
 {
-    let played = spi_trace::play(file, w);
+    let played = trace_player::play(file, w);
     play_number(played)
 }
 
@@ -245,7 +250,7 @@ fn save_number(s: Saved) -> u32
 pub extern "C" fn thurafeqa_save(script: &[u8], file: &mut [u8]) -> u32
     ensures { λ r. ⌜ SaveTells (now (script .entry)) r (now (file .entry)) (now (file .exit)) ⌝ }
 {
-    let saved = spi_saving::save(script, file);
+    let saved = trace_writer::save(script, file);
     save_number(saved)
 }
 
@@ -267,7 +272,7 @@ fn salvage_number(s: Salvaged) -> u64
 pub extern "C" fn thurafeqa_salvage(file: &[u8], salvaged: &mut [u8]) -> u64
     ensures { λ r. ⌜ SalvageTells (now (file .entry)) r (now (salvaged .entry)) (now (salvaged .exit)) ⌝ }
 {
-    let answer = spi_saving::salvage(file, salvaged);
+    let answer = trace_writer::salvage(file, salvaged);
     salvage_number(answer)
 }
 

@@ -22,21 +22,21 @@ use Rattle.ti_rules.specs.Clock.{rateOf}
 use Rattle.ti_rules.specs.Watch.{inBuffer}
 use Rattle.ti_rules.specs.Calls.{performOf, interruptOf, transmitFullOf, overrunOf, sdoOf}
 
-pub data Step : Type 0 where
+pub data TiStep : Type 0 where
   -- a call that is done, and one that is refused
-  ok : Call → Step
-  refused : Call → ℕ → Step
+  ok : Call → TiStep
+  refused : Call → ℕ → TiStep
   -- a read that gives this character
-  gives : ℕ → Step
+  gives : ℕ → TiStep
   -- a tick that makes an edge: SDI, then SCK and the output after it; and one that makes none: SDI
-  edge : ℕ → Step
-  noEdge : ℕ → Step
+  edge : ℕ → TiStep
+  noEdge : ℕ → TiStep
   -- a pin call: SCK, SDI and select, and the output after it
-  pin : ℕ → ℕ → Step
+  pin : ℕ → ℕ → TiStep
   -- the flags: overrun, interrupt, transmit full
-  flags : ℕ → Step
+  flags : ℕ → TiStep
   -- SCK and the output; what waits, what is in the shift register with its edges, both left-justified, and what is unread
-  holds : ℕ → List ℕ → List ℕ → List ℕ → Step
+  holds : ℕ → List ℕ → List ℕ → List ℕ → TiStep
 
 -- A digit, the lowest 0, as a level.
 abbrev pub digit : ℕ → ℕ → Bool
@@ -79,7 +79,7 @@ abbrev pub pinCall : ℕ → Call
 pinCall n = Pin (digit n 2) (digit n 1) (digit n 0)
 
 -- Every step holds, one after the other, from a module on.
-abbrev pub allHold : Ti → List Step → Bool
+abbrev pub allHold : Ti → List TiStep → Bool
 allHold m [] = true
 allHold m (ok c ∷ rest) = says 1 0 0 (performOf m c .answer) && allHold (performOf m c .after) rest
 allHold m (refused c n ∷ rest) = says 0 n 0 (performOf m c .answer) && allHold (performOf m c .after) rest
@@ -102,7 +102,7 @@ allHold m (holds n waits shifts unread ∷ rest) =
     && (same (leftShift (m .settings) (m .engine .shift)) shifts && (same (inBuffer (m .engine .unread)) unread && allHold m rest))))
 
 -- Refusals.
-abbrev pub refusals : List Step
+abbrev pub refusals : List TiStep
 refusals =
     refused (Write 0x8000) 2 ∷ refused Read 2 ∷ refused (Tick true) 2 ∷ refused (Length 0) 24 ∷ refused (Length 17) 24
     ∷ ok (Length 16) ∷ ok (Length 5) ∷ ok (mode 1100) ∷ ok Leave ∷ refused (Length 0) 3 ∷ refused (Length 8) 3 ∷ refused Read 6
@@ -110,32 +110,32 @@ refusals =
     ∷ refused (mode 100) 3 ∷ flags 1 ∷ ok Enter ∷ flags 0 ∷ holds 2 [] [] [] ∷ []
 
 -- A master: 1 bit, phase 0.
-abbrev pub oneBit : List Step
+abbrev pub oneBit : List TiStep
 oneBit =
     ok (Length 1) ∷ ok (mode 1100) ∷ ok Leave ∷ ok (Write 0x8000) ∷ edge 111 ∷ edge 101 ∷ noEdge 1 ∷ flags 10 ∷ gives 0x0001
     ∷ flags 0 ∷ refused Read 6 ∷ []
 
 -- A master: 5 bits, phase 0.
-abbrev pub fiveBits : List Step
+abbrev pub fiveBits : List TiStep
 fiveBits =
     ok (Length 5) ∷ ok (mode 1100) ∷ ok Leave ∷ ok (Write 0xA800) ∷ edge 111 ∷ edge 101 ∷ edge 10 ∷ edge 0 ∷ edge 111 ∷ edge 101
     ∷ edge 10 ∷ edge 0 ∷ edge 111 ∷ edge 101 ∷ noEdge 1 ∷ flags 10 ∷ gives 0x0015 ∷ flags 0 ∷ refused Read 6 ∷ []
 
 -- A master: 5 bits, phase 1.
-abbrev pub fiveBitsPhase1 : List Step
+abbrev pub fiveBitsPhase1 : List TiStep
 fiveBitsPhase1 =
     ok (Length 5) ∷ ok (mode 1101) ∷ ok Leave ∷ ok (Write 0xA800) ∷ edge 111 ∷ edge 100 ∷ edge 10 ∷ edge 1 ∷ edge 111 ∷ edge 100
     ∷ edge 10 ∷ edge 1 ∷ edge 111 ∷ edge 100 ∷ noEdge 1 ∷ flags 10 ∷ gives 0x0015 ∷ flags 0 ∷ refused Read 6 ∷ []
 
 -- A master: 8 bits, phase 1.
-abbrev pub eightBitsPhase1 : List Step
+abbrev pub eightBitsPhase1 : List TiStep
 eightBitsPhase1 =
     ok (Length 8) ∷ ok (mode 1101) ∷ ok Leave ∷ ok (Write 0xC300) ∷ edge 111 ∷ edge 101 ∷ edge 11 ∷ edge 0 ∷ edge 110 ∷ edge 100
     ∷ edge 10 ∷ edge 0 ∷ edge 110 ∷ edge 100 ∷ edge 10 ∷ edge 1 ∷ edge 111 ∷ edge 101 ∷ edge 11 ∷ edge 0 ∷ noEdge 1 ∷ flags 10
     ∷ gives 0x00AA ∷ flags 0 ∷ refused Read 6 ∷ []
 
 -- A master: 16 bits, phase 0.
-abbrev pub sixteenBits : List Step
+abbrev pub sixteenBits : List TiStep
 sixteenBits =
     ok (Length 16) ∷ ok (mode 1100) ∷ ok Leave ∷ ok (Write 0x8001) ∷ edge 111 ∷ edge 101 ∷ edge 10 ∷ edge 0 ∷ edge 110 ∷ edge 100
     ∷ edge 10 ∷ edge 0 ∷ edge 110 ∷ edge 100 ∷ edge 10 ∷ edge 0 ∷ edge 110 ∷ edge 100 ∷ edge 10 ∷ edge 0 ∷ edge 110 ∷ edge 100
@@ -143,14 +143,14 @@ sixteenBits =
     ∷ edge 11 ∷ edge 1 ∷ noEdge 1 ∷ flags 10 ∷ gives 0xAAAA ∷ flags 0 ∷ refused Read 6 ∷ []
 
 -- An unread character is replaced.
-abbrev pub replaced : List Step
+abbrev pub replaced : List TiStep
 replaced =
     ok (Length 2) ∷ ok (mode 1100) ∷ ok Leave ∷ ok (Write 0x8000) ∷ ok (Write 0x4000) ∷ edge 111 ∷ edge 101 ∷ edge 110 ∷ edge 100
     ∷ flags 10 ∷ holds 0 [] (0x4000 ∷ 0 ∷ []) (0x0003 ∷ []) ∷ edge 10 ∷ edge 0 ∷ edge 11 ∷ edge 1 ∷ flags 110
     ∷ holds 1 [] [] (0x0000 ∷ []) ∷ gives 0x0000 ∷ refused Read 6 ∷ flags 100 ∷ ok Clear ∷ flags 0 ∷ []
 
 -- A slave: paused, and with nothing to send.
-abbrev pub paused : List Step
+abbrev pub paused : List TiStep
 paused =
     ok (Length 3) ∷ ok (mode 100) ∷ ok Leave ∷ ok (Write 0xA000) ∷ pin 0 0 ∷ pin 110 1 ∷ pin 10 1 ∷ pin 1 2 ∷ pin 101 2 ∷ pin 1 2
     ∷ pin 0 1 ∷ holds 1 [] (0xA000 ∷ 2 ∷ []) [] ∷ pin 100 0 ∷ pin 0 0 ∷ pin 110 1 ∷ pin 10 1 ∷ flags 10 ∷ gives 0x0005 ∷ pin 110 0
@@ -158,7 +158,7 @@ paused =
     ∷ holds 0 [] (0xE000 ∷ 0 ∷ []) [] ∷ []
 
 -- All of them.
-abbrev pub run : List (List Step) → Bool
+abbrev pub run : List (List TiStep) → Bool
 run [] = true
 run (e ∷ rest) = allHold poweredUp e && run rest
 

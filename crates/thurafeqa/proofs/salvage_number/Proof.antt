@@ -2,7 +2,7 @@
 use borrow.Author.Needs.{needs}
 use native.Mathlib.Omega.{arith}
 use Rattle.laws.proofs.Choices.{by-case}
-use Rattle.spi_salvage_rules.specs.Salvage.{salvageNumberOf}
+use Rattle.trace_salvage_rules.specs.Salvage.{salvageNumberOf}
 use Rattle.thurafeqa.specs.Numbers.{salvageNumber}
 use Rattle.thurafeqa.proofs.salvage_number.Statement.{statement}
 use Rattle.thurafeqa.proofs.salvage_number.Tie as tie

@@ -2,7 +2,7 @@
 use borrow.Author.Needs.{needs}
 use native.Mathlib.Omega.{arith}
 use Rattle.laws.proofs.Choices.{by-case}
-use Rattle.spi_save_rules.specs.Save.{savedNumberOf, savedLengthOf}
+use Rattle.trace_save_rules.specs.Save.{savedNumberOf, savedLengthOf}
 use Rattle.thurafeqa.specs.Numbers.{saveNumber}
 use Rattle.thurafeqa.proofs.save_number.Statement.{statement}
 use Rattle.thurafeqa.proofs.save_number.Tie as tie

@@ -43,23 +43,23 @@ use denote.Triple.Table.{entered, cited}
 use denote.Triple.Walked.{says, Stays, stay-slice, stay-none, gave-ref, walkOf, goes-slice, goes-none, goes-gave-ref, ends-at, walked, walk-meets}
 use denote.Exit.{yes}
 use denote.Signature.{Slot, plain}
-use Rattle.spi_board.specs.declared.Cells.{Cells}
-use Rattle.spi_board.specs.Boards.{askedOf, numbersAt, withNumbers}
-use Rattle.spi_board.specs.Owing.{refusedCall, MakesOwed, OwedTells}
-use Rattle.spi_board.proofs.Owing.{owed-inside, owed-refused, owed-made}
-use Rattle.spi_board.proofs.Lent.{R, N, ref, opens-record, shuts-record, lends-cell, cell-back, list-owned, with-u32, given-up, guards, gone, gone-room}
-use Rattle.spi_board.proofs.refused.Symbol.{name as #refused}
-use Rattle.spi_board.proofs.make_counted.Symbol.{name as #make}
+use Rattle.board_calls.specs.declared.Cells.{Cells}
+use Rattle.board_calls.specs.Boards.{askedOf, numbersAt, withNumbers}
+use Rattle.board_calls.specs.Owing.{refusedCall, MakesOwed, OwedTells}
+use Rattle.board_calls.proofs.Owing.{owed-inside, owed-refused, owed-made}
+use Rattle.board_calls.proofs.Lent.{R, N, ref, opens-record, shuts-record, lends-cell, cell-back, list-owned, with-u32, given-up, guards, gone, gone-room}
+use Rattle.board_calls.proofs.refused.Symbol.{name as #refused}
+use Rattle.board_calls.proofs.make_counted.Symbol.{name as #make}
 use Rattle.thurafeqa.proofs.thurafeqa_board_call.Key.{name as #board-call}
-use Rattle.spi_board.proofs.refused as refused
-use Rattle.spi_board.proofs.make_counted as make
+use Rattle.board_calls.proofs.refused as refused
+use Rattle.board_calls.proofs.make_counted as make
 use Rattle.thurafeqa.proofs.thurafeqa_board_call as this
 use Rattle.thurafeqa.proofs.thurafeqa_board_call.Statement as stated
 use Rattle.thurafeqa.proofs.thurafeqa_board_call.Code as code
-use Rattle.spi_board.proofs.refused.Symbol as refused-def
-use Rattle.spi_board.proofs.refused.Met as refused-thm
-use Rattle.spi_board.proofs.make_counted.Symbol as make-def
-use Rattle.spi_board.proofs.make_counted.Met as make-thm
+use Rattle.board_calls.proofs.refused.Symbol as refused-def
+use Rattle.board_calls.proofs.refused.Met as refused-thm
+use Rattle.board_calls.proofs.make_counted.Symbol as make-def
+use Rattle.board_calls.proofs.make_counted.Met as make-thm
 
 -- the lent memory of a report
 abbrev F : RattleType
@@ -228,5 +228,5 @@ thurafeqa-board-call-spec 𝓤 H 𝓜 𝓖 𝓡 =
     entered 𝓤 H (tripleOf 𝓤 H (𝓖 .A) this.signature (this.spec 𝓤 H (𝓖 .A) (𝓜 .mem) (𝓡 .run)))
     (tables 𝓤 H 𝓜 𝓡 code.env .C) (tables 𝓤 H 𝓜 𝓡 code.env .Λ) #board-call code.function (code.unfolded 𝓤 H 𝓜 𝓡)
     (board-call-meets 𝓤 H (𝓖 .A) (givenOf 𝓤 H 𝓜 𝓖) (𝓜 .mem) (𝓡 .run) (tablesOf 𝓤 H 𝓜 (tables 𝓤 H 𝓜 𝓡 code.env))
-    (cited 𝓤 H (Refuse 𝓤 H (𝓖 .A) (𝓜 .mem) (𝓡 .run)) 𝓜 𝓡 code.env #refused refused-def.routine code.calls-spi-board·refused (refused-thm.met 𝓤 H 𝓜 𝓖 𝓡))
-    (cited 𝓤 H (Make 𝓤 H (𝓖 .A) (𝓜 .mem) (𝓡 .run)) 𝓜 𝓡 code.env #make make-def.routine code.calls-spi-board·make-counted (make-thm.met 𝓤 H 𝓜 𝓖 𝓡)))
+    (cited 𝓤 H (Refuse 𝓤 H (𝓖 .A) (𝓜 .mem) (𝓡 .run)) 𝓜 𝓡 code.env #refused refused-def.routine code.calls-board-calls·refused (refused-thm.met 𝓤 H 𝓜 𝓖 𝓡))
+    (cited 𝓤 H (Make 𝓤 H (𝓖 .A) (𝓜 .mem) (𝓡 .run)) 𝓜 𝓡 code.env #make make-def.routine code.calls-board-calls·make-counted (make-thm.met 𝓤 H 𝓜 𝓖 𝓡)))

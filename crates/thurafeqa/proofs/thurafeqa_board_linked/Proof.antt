@@ -41,23 +41,23 @@ use denote.Triple.Table.{entered, cited}
 use denote.Triple.Walked.{says, Stays, stay-slice, stay-none, walkOf, goes-slice, goes-none, ends-at, walked, walk-meets}
 use denote.Exit.{yes}
 use denote.Signature.{plain}
-use Rattle.spi_board.specs.declared.Cells.{Cells}
-use Rattle.spi_board.specs.Boards.{numbersAt, withNumbers}
-use Rattle.spi_board.specs.Owing.{refusedPair, LinksOwed, OwedPairTells}
-use Rattle.spi_board.proofs.Owing.{owed-insides, owed-pair-refused, owed-pair-made}
-use Rattle.spi_board.proofs.Lent.{R, N, ref, fit-typed, opens-record, shuts-record, leaves-record, lends-cell, cell-back, list-owned, with-u32, guards, gone, gone-room}
-use Rattle.spi_board.proofs.refused_two.Symbol.{name as #refused-two}
-use Rattle.spi_board.proofs.join_counted.Symbol.{name as #join-counted}
+use Rattle.board_calls.specs.declared.Cells.{Cells}
+use Rattle.board_calls.specs.Boards.{numbersAt, withNumbers}
+use Rattle.board_calls.specs.Owing.{refusedPair, LinksOwed, OwedPairTells}
+use Rattle.board_calls.proofs.Owing.{owed-insides, owed-pair-refused, owed-pair-made}
+use Rattle.board_calls.proofs.Lent.{R, N, ref, fit-typed, opens-record, shuts-record, leaves-record, lends-cell, cell-back, list-owned, with-u32, guards, gone, gone-room}
+use Rattle.board_calls.proofs.refused_two.Symbol.{name as #refused-two}
+use Rattle.board_calls.proofs.join_counted.Symbol.{name as #join-counted}
 use Rattle.thurafeqa.proofs.thurafeqa_board_linked.Key.{name as #board-linked}
-use Rattle.spi_board.proofs.refused_two as refused
-use Rattle.spi_board.proofs.join_counted as joined
+use Rattle.board_calls.proofs.refused_two as refused
+use Rattle.board_calls.proofs.join_counted as joined
 use Rattle.thurafeqa.proofs.thurafeqa_board_linked as this
 use Rattle.thurafeqa.proofs.thurafeqa_board_linked.Statement as stated
 use Rattle.thurafeqa.proofs.thurafeqa_board_linked.Code as code
-use Rattle.spi_board.proofs.refused_two.Symbol as refused-def
-use Rattle.spi_board.proofs.refused_two.Met as refused-thm
-use Rattle.spi_board.proofs.join_counted.Symbol as joined-def
-use Rattle.spi_board.proofs.join_counted.Met as joined-thm
+use Rattle.board_calls.proofs.refused_two.Symbol as refused-def
+use Rattle.board_calls.proofs.refused_two.Met as refused-thm
+use Rattle.board_calls.proofs.join_counted.Symbol as joined-def
+use Rattle.board_calls.proofs.join_counted.Met as joined-thm
 
 abbrev stayed : Stays (this.ended .signature .params) (this.ended .kept)
 stayed = (stay-slice (0 ∷ []) tt (plain (λ _. R)), (stay-none (λ _. u32) yes, (stay-none (λ _. u32) yes, (stay-none (λ _. u32) yes, (stay-none (λ _. u32) yes, tt)))))
@@ -217,5 +217,5 @@ thurafeqa-board-linked-spec 𝓤 H 𝓜 𝓖 𝓡 =
     entered 𝓤 H (tripleOf 𝓤 H (𝓖 .A) this.signature (this.spec 𝓤 H (𝓖 .A) (𝓜 .mem) (𝓡 .run)))
     (tables 𝓤 H 𝓜 𝓡 code.env .C) (tables 𝓤 H 𝓜 𝓡 code.env .Λ) #board-linked code.function (code.unfolded 𝓤 H 𝓜 𝓡)
     (board-linked-meets 𝓤 H (𝓖 .A) (givenOf 𝓤 H 𝓜 𝓖) (𝓜 .mem) (𝓡 .run) (tablesOf 𝓤 H 𝓜 (tables 𝓤 H 𝓜 𝓡 code.env))
-    (cited 𝓤 H (Refuse 𝓤 H (𝓖 .A) (𝓜 .mem) (𝓡 .run)) 𝓜 𝓡 code.env #refused-two refused-def.routine code.calls-spi-board·refused-two (refused-thm.met 𝓤 H 𝓜 𝓖 𝓡))
-    (cited 𝓤 H (Join 𝓤 H (𝓖 .A) (𝓜 .mem) (𝓡 .run)) 𝓜 𝓡 code.env #join-counted joined-def.routine code.calls-spi-board·join-counted (joined-thm.met 𝓤 H 𝓜 𝓖 𝓡)))
+    (cited 𝓤 H (Refuse 𝓤 H (𝓖 .A) (𝓜 .mem) (𝓡 .run)) 𝓜 𝓡 code.env #refused-two refused-def.routine code.calls-board-calls·refused-two (refused-thm.met 𝓤 H 𝓜 𝓖 𝓡))
+    (cited 𝓤 H (Join 𝓤 H (𝓖 .A) (𝓜 .mem) (𝓡 .run)) 𝓜 𝓡 code.env #join-counted joined-def.routine code.calls-board-calls·join-counted (joined-thm.met 𝓤 H 𝓜 𝓖 𝓡)))

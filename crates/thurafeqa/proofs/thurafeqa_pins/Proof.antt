@@ -1,8 +1,8 @@
 -- A pin call by the short way, or what the whole call tells, its levels being numbers.
 use borrow.Author.Needs.{needs}
 use mathlib.Core.Path.{refl}
-use Rattle.spi_numbers.specs.Told.{answerNumber, levelIn}
-use Rattle.spi_numbers.proofs.Answers.{told}
+use Rattle.module_by_number.specs.Told.{answerNumber, levelIn}
+use Rattle.module_by_number.proofs.Answers.{told}
 use Rattle.thurafeqa.proofs.thurafeqa_pins.Statement.{statement}
 use Rattle.thurafeqa.proofs.thurafeqa_pins.Tie as tie
 

@@ -1,6 +1,6 @@
 -- What the call tells, its levels being numbers.
 use borrow.Author.Needs.{needs}
-use Rattle.spi_numbers.specs.Told.{levelIn}
+use Rattle.module_by_number.specs.Told.{levelIn}
 use Rattle.thurafeqa.proofs.thurafeqa_word.Statement.{statement}
 use Rattle.thurafeqa.proofs.thurafeqa_word.Tie as tie
 

@@ -1,0 +1,16 @@
+-- What the callees ensure, put together.
+use borrow.Author.Needs.{needs}
+use mathlib.Core.Path.{_∙_}
+use Rattle.module_memory.proofs.Taken.{module-after}
+use Rattle.link_calls.proofs.Turns.{shown}
+use Rattle.link_calls.proofs.client_sees.Statement.{statement}
+use Rattle.link_calls.proofs.client_sees.Tie as tie
+
+returns : tie.Need-returns
+returns c =
+    let pins-in = c .before .before .before .pins-in .ensures in
+    let given = c .before .before .before .before .pre in
+    rw ((c .before .before .level .ensures), pins-in) at (module-after (c .see .ensures)) ∙ shown _ _ given
+
+pub client-sees-spec : {M : Type 1} → statement M
+client-sees-spec = tie.close (tie.spec (λ c κs. search needs) (λ c κs. search needs) (λ c κs. search needs) returns)

@@ -1,0 +1,12 @@
+-- One of the calls.
+use borrow.Author.Needs.{needs}
+use Rattle.module_rules.specs.Calls.{performOf}
+use Rattle.module_by_value.proofs.tick.Statement.{statement}
+use Rattle.module_by_value.proofs.tick.Tie as tie
+
+returns : tie.Need-returns
+unfolding performOf
+returns c = (c .perform .ensures)
+
+pub tick-spec : {M : Type 1} → statement M
+tick-spec = tie.close (tie.spec (λ c κs. search needs) returns)

@@ -1,0 +1,18 @@
+-- The level is the other one.
+use borrow.Author.Needs.{needs}
+use Rattle.module_memory.proofs.Taken.{alike}
+use Rattle.module_answers.specs.Answered.{turned}
+use Rattle.module_edges.proofs.framed_turn.Statement.{statement}
+use Rattle.module_edges.proofs.framed_turn.Tie as tie
+
+framed-edge-requires : tie.Need-framed-edge-requires
+framed-edge-requires c κs = c .before .before .before .before .pre
+
+returns : tie.Need-returns
+unfolding turned
+returns c =
+    let pins-in = c .before .before .before .pins-in .ensures in
+    alike (c .framed-edge .ensures) (rw pins-in)
+
+pub framed-turn-spec : {M : Type 1} → statement M
+framed-turn-spec = tie.close (tie.spec (λ c κs. search needs) framed-edge-requires returns)

@@ -1,0 +1,19 @@
+-- What is written is read back.
+use borrow.Author.Needs.{needs}
+use mathlib.Core.Path.{refl}
+use mathlib.Core.List.{[], _∷_}
+use Rattle.laws.specs.Choice.{if_then_else_}
+use Rattle.module_memory.specs.Memory.{settingsIn, engineIn}
+use Rattle.module_memory.specs.Writes.{at}
+use Rattle.module_memory.proofs.Stored.{engine-step}
+use Rattle.module_memory_stores.proofs.store_interrupt.Statement.{statement}
+use Rattle.module_memory_stores.proofs.store_interrupt.Tie as tie
+
+returns : tie.Need-returns
+unfolding if_then_else_ settingsIn engineIn
+returns c =
+    engine-step _ (at 73 _ ∷ []) (c .before .is-whole .ensures .1) refl refl (rw ((c .number .ensures)))
+
+pub store-interrupt-spec : {M : Type 1} → statement M
+store-interrupt-spec =
+    tie.close (tie.spec (λ c κs. search needs) (λ c κs. search needs) (λ c. search needs) returns)

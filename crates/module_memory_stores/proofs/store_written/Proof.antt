@@ -1,0 +1,22 @@
+-- What is written is read back.
+use borrow.Author.Needs.{needs}
+use native.Mathlib.Omega.{arith}
+use Prim.Native.Nat.{_%_}
+use Rattle.module_memory.specs.Memory.{byteIn, placeIn, engineIn}
+use Rattle.module_memory.proofs.Rings.{transmit-pushed}
+use Rattle.module_memory_stores.proofs.store_written.Statement.{statement}
+use Rattle.module_memory_stores.proofs.store_written.Tie as tie
+
+returns : tie.Need-returns
+unfolding engineIn byteIn
+returns c =
+    let w = c .before .before .before .before .before .args .w .now in
+    transmit-pushed w (c .before .before .before .is-whole .ensures .1) (placeIn w 40 % 16) _ _ _ _ _ (c .before .byte-number .ensures) (c .byte-number2 .ensures) (omega arith) (omega arith)
+
+pub store-written-spec : {M : Type 1} → statement M
+store-written-spec =
+    tie.close
+    (tie.spec
+    (λ c κs. search needs) (λ c. search needs) (λ c. search needs) (λ c. search needs) (λ c. search needs)
+    (λ c. search needs) (λ c κs. search needs) (λ c. search needs) (λ c κs. search needs) (λ c. search needs)
+    returns)

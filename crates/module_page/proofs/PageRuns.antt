@@ -1,0 +1,87 @@
+-- The page holds at every call of longer lists than crates/module_rules runs, each from power-up.
+--     frame-runs    words of each end of a frame, one behind the other, with either FRMDLY and FRMPOL
+--     full-run      every condition of SISEL, a full buffer each way, and the mark
+-- Assumes nothing.
+use Prim.Native.Nat.{ℕ, _+_}
+use mathlib.Core.Bool.{Bool, true, false, not}
+use mathlib.Core.List.{List, [], _∷_}
+use mathlib.Core.Path.{refl}
+use Rattle.laws.specs.Choice.{if_then_else_}
+use Rattle.ring.specs.Ring.{next, contents}
+use Rattle.word_order.specs.Bits.{bitOf}
+use Rattle.word_order.specs.Ledger.{opened, leftToSend, loses, firstOnWire, counted, closed, given}
+use Rattle.module_types.specs.declared.Call.{Call}
+use Rattle.module_types.specs.declared.Call.the-variants.{Read, Write, Clear}
+use Rattle.module_rules.specs.Bits.{shiftedIn, receivedAfter, shownBit, sdoAfter, progressed}
+use Rattle.module_rules.specs.Buffers.{waiting, unread, emptyTransmit, emptyReceive, firstWaiting, firstUnread, written, departed, appended, taken, overrun}
+use Rattle.module_rules.specs.Calls.{refuse, answering, poweredAt, wordTaken, readBuf, readOf, turnsOn, turnsOff, statWritten, writeStat, withCon1, withCon2, configured, wordWritten, writeBuf, writeOf, clockStepOf, edgeTold, tickOf, pinsOf, clearOf, performOf, interruptOf, sckOf, undriven, sdoOf, ssOf}
+use Rattle.module_rules.specs.Edge.{begun, shifted, advanced, advancedIfBegun, awaitsPulse, underWay, pulseDue, pulseAfter, pulsed, clocked, edged, stepped}
+use Rattle.module_rules.specs.Finish.{overflowed, wordAppended, isLost, delivered, sentDropped, freed, finished}
+use Rattle.module_rules.specs.Interrupts.{raises, noted}
+use Rattle.module_rules.specs.Loading.{wordLeaves, moved, canLoad, loaded, nextTop, sdoAt, rested}
+use Rattle.module_rules.specs.Refusals.{numberOf}
+use Rattle.module_rules.specs.Registers.{weighed, con1From, con1Value, con2From, con2Value, spitbf, spirbf, srxmpt, srmpt, atMost7, spibec, statValue, statSettings, spirovAfter, statEngine, enabledEngine, disabledEngine}
+use Rattle.module_rules.specs.Select.{selectRemembered, aborted, selectSeen}
+use Rattle.module_rules.proofs.PageRun.{unless, judged, told-of, entered-as, seen-as, made, run}
+use Rattle.module_rules.proofs.PageHolds.{one-by-one, enabled, words, ticks, pins, Run}
+
+abbrev ownGives : ℕ → List Call
+ownGives con2 = one-by-one (enabled 32 (32768 + con2) ∷ ticks 1 true true ∷ words (165 ∷ 60 ∷ []) ∷ ticks 19 true false ∷ (Write 0 0 ∷ []) ∷ [])
+
+abbrev pinGives : ℕ → List Call
+pinGives con2 =
+    one-by-one (enabled 4128 (32768 + con2) ∷ pins 1 true true ∷ words (165 ∷ []) ∷ pins 9 true false ∷ words (60 ∷ []) ∷ pins 3 false true ∷ [])
+
+abbrev ownTakes : ℕ → Bool → List Call
+ownTakes con2 ss =
+    one-by-one (enabled 32 (49152 + con2) ∷ ticks 1 true (not ss) ∷ words (165 ∷ []) ∷ ticks 9 true ss ∷ ticks 2 true (not ss) ∷ [])
+
+abbrev pinTakes : ℕ → Bool → List Call
+pinTakes con2 ss =
+    one-by-one
+    (enabled 0 (49152 + con2)
+    ∷ pins 1 true (not ss)
+    ∷ pins 9 true ss
+    ∷ words (165 ∷ [])
+    ∷ pins 8 true (not ss)
+    ∷ pins 1 true ss
+    ∷ pins 3 true (not ss)
+    ∷ (Read 3 ∷ [])
+    ∷ [])
+
+frame-runs :
+    Run (ownGives 0) × Run (ownGives 2) × Run (ownGives 8192) × Run (ownGives 8194) × Run (pinGives 0) × Run (pinGives 2) × Run (pinGives 8192)
+    × Run (pinGives 8194)
+    × Run (ownTakes 0 false) × Run (ownTakes 2 false) × Run (ownTakes 8192 true) × Run (ownTakes 8194 true) × Run (pinTakes 0 false)
+    × Run (pinTakes 2 false) × Run (pinTakes 8192 true) × Run (pinTakes 8194 true)
+unfolding shiftedIn receivedAfter shownBit sdoAfter progressed emptyTransmit emptyReceive firstWaiting firstUnread written departed appended taken overrun refuse answering poweredAt wordTaken readBuf readOf turnsOn turnsOff statWritten writeStat withCon1 withCon2 configured wordWritten writeBuf writeOf clockStepOf edgeTold tickOf pinsOf clearOf performOf interruptOf sckOf undriven sdoOf ssOf if_then_else_ begun shifted advanced advancedIfBegun awaitsPulse underWay pulseDue pulseAfter pulsed clocked edged stepped overflowed wordAppended isLost delivered sentDropped freed finished raises noted wordLeaves moved canLoad loaded nextTop sdoAt rested numberOf bitOf weighed con1From con1Value con2From con2Value spitbf spirbf srxmpt srmpt atMost7 spibec statValue statSettings spirovAfter statEngine enabledEngine disabledEngine next selectRemembered aborted selectSeen opened leftToSend loses firstOnWire counted closed given unless judged told-of entered-as seen-as made run waiting unread contents
+frame-runs = (refl, refl, refl, refl, refl, refl, refl, refl, refl, refl, refl, refl, refl, refl, refl, refl)
+
+-- SISEL 6, a word passes through the buffer; 7, the eighth waits; 4, one leaves with seven left; 5, a finish with words left; 1, an
+-- append; 2, the sixth; 3, the eighth, and the ninth word is lost; the mark stops reads; disabled and enabled, 5, nothing is left to
+-- send; 0, a read empties it.
+abbrev full : List Call
+full =
+    one-by-one
+    ((Write 2 1 ∷ Write 1 32 ∷ Write 0 32792 ∷ Write 3 1 ∷ Clear ∷ Write 0 32796 ∷ [])
+    ∷ words (2 ∷ 3 ∷ 4 ∷ 5 ∷ 6 ∷ 7 ∷ 8 ∷ 9 ∷ 10 ∷ [])
+    ∷ (Write 0 32784 ∷ Clear ∷ [])
+    ∷ ticks 8 true true
+    ∷ (Clear ∷ Write 0 32788 ∷ [])
+    ∷ ticks 8 false true
+    ∷ (Write 0 32772 ∷ [])
+    ∷ ticks 8 true false
+    ∷ (Clear ∷ Write 0 32776 ∷ [])
+    ∷ ticks 24 true false
+    ∷ (Clear ∷ Write 0 32780 ∷ [])
+    ∷ ticks 16 true true
+    ∷ (Clear ∷ [])
+    ∷ ticks 8 true true
+    ∷ (Read 3 ∷ Write 0 32832 ∷ Read 3 ∷ Write 0 64 ∷ Write 0 32852 ∷ Write 3 7 ∷ [])
+    ∷ ticks 8 true true
+    ∷ (Clear ∷ Write 0 32832 ∷ Read 3 ∷ Read 3 ∷ [])
+    ∷ [])
+
+full-run : Run full
+unfolding shiftedIn receivedAfter shownBit sdoAfter progressed emptyTransmit emptyReceive firstWaiting firstUnread written departed appended taken overrun refuse answering poweredAt wordTaken readBuf readOf turnsOn turnsOff statWritten writeStat withCon1 withCon2 configured wordWritten writeBuf writeOf clockStepOf edgeTold tickOf pinsOf clearOf performOf interruptOf sckOf undriven sdoOf ssOf if_then_else_ begun shifted advanced advancedIfBegun awaitsPulse underWay pulseDue pulseAfter pulsed clocked edged stepped overflowed wordAppended isLost delivered sentDropped freed finished raises noted wordLeaves moved canLoad loaded nextTop sdoAt rested numberOf bitOf weighed con1From con1Value con2From con2Value spitbf spirbf srxmpt srmpt atMost7 spibec statValue statSettings spirovAfter statEngine enabledEngine disabledEngine next selectRemembered aborted selectSeen opened leftToSend loses firstOnWire counted closed given unless judged told-of entered-as seen-as made run waiting unread contents
+full-run = refl

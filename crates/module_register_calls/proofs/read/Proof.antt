@@ -1,0 +1,61 @@
+-- The registers are tested in the order of the definition.
+use borrow.Author.Needs.{needs}
+use mathlib.Core.Path.{refl}
+use Rattle.laws.proofs.Choices.{so-lt, not-so-lt, so-eq, not-so-eq}
+use Rattle.module_rules.specs.Calls.{refuse, readOf}
+use Rattle.module_answers.proofs.Answers.{kept, likewise}
+use Rattle.module_register_calls.proofs.read.Statement.{statement}
+use Rattle.module_register_calls.proofs.read.Tie as tie
+
+returns : tie.Need-returns
+unfolding readOf refuse
+returns c = kept (so-lt _ _ _ _ (c .if1 .taken) refl)
+
+returns-2 : tie.Need-returns-2
+unfolding readOf
+returns-2 c =
+    let if1 = c .before .before .before .if1 .left in
+    kept (not-so-lt _ _ _ _ if1 (so-eq _ _ _ _ (c .before .before .if2 .taken) (rw (c .stat .ensures))))
+
+returns-3 : tie.Need-returns-3
+unfolding readOf
+returns-3 c =
+    let if1 = c .before .before .before .before .before .if1 .left in
+    let if2 = c .before .before .before .before .if2 .left in
+    let if3 = c .before .before .before .if3 .taken in
+    kept
+    (not-so-lt _ _ _ _ if1 (not-so-eq _ _ _ _ if2 (so-eq _ _ _ _ if3 (rw ((c .con1-value .ensures), (c .before .con1-in .ensures))))))
+
+returns-4 : tie.Need-returns-4
+unfolding readOf
+returns-4 c =
+    let if1 = c .before .before .before .before .before .before .if1 .left in
+    let if2 = c .before .before .before .before .before .if2 .left in
+    let if3 = c .before .before .before .before .if3 .left in
+    let if4 = c .before .before .before .if4 .taken in
+    kept
+    (not-so-lt _ _ _ _ if1
+    (not-so-eq _ _ _ _ if2 (not-so-eq _ _ _ _ if3 (so-eq _ _ _ _ if4 (rw ((c .con2-value .ensures), (c .before .con2-in .ensures)))))))
+
+returns-5 : tie.Need-returns-5
+unfolding readOf
+returns-5 c =
+    let if1 = c .before .before .before .before .before .if1 .left in
+    let if2 = c .before .before .before .before .if2 .left in
+    let if3 = c .before .before .before .if3 .left in
+    likewise (c .read-buf .ensures)
+    (not-so-lt _ _ _ _ if1 (not-so-eq _ _ _ _ if2 (not-so-eq _ _ _ _ if3 (not-so-eq _ _ _ _ (c .before .before .if4 .left) refl))))
+
+pub read-spec : {M : Type 1} → statement M
+read-spec =
+    tie.close
+    (tie.spec
+    returns
+    (λ c κs. search needs)
+    returns-2
+    (λ c κs. search needs) (λ c κs. search needs)
+    returns-3
+    (λ c κs. search needs) (λ c κs. search needs)
+    returns-4
+    (λ c κs. search needs)
+    returns-5)

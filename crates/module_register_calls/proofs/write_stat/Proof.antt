@@ -1,0 +1,37 @@
+-- The branch is the choice of the definition.
+use borrow.Author.Needs.{needs}
+use mathlib.Core.Path.{refl}
+use Rattle.laws.proofs.Choices.{so, not-so}
+use Rattle.word_order.specs.Bits.{bitOf}
+use Rattle.module_rules.specs.Calls.{turnsOn, refuse, writeStat}
+use Rattle.module_answers.proofs.Answers.{kept, changed, then-set}
+use Rattle.module_register_calls.proofs.write_stat.Statement.{statement}
+use Rattle.module_register_calls.proofs.write_stat.Tie as tie
+
+returns : tie.Need-returns
+unfolding writeStat turnsOn bitOf refuse
+returns c =
+    let s = c .before .before .before .before .settings-in .ensures in
+    let cause = rw s at (c .first-cause .ensures) in
+    kept (so _ _ _ (rw (c .before .before .are-bad .ensures, s) at (c .before .if1 .taken)) cc)
+
+returns-2 : tie.Need-returns-2
+unfolding writeStat turnsOn bitOf
+returns-2 c =
+    let s = c .before .before .before .before .before .before .before .settings-in .ensures in
+    let bad = c .before .before .before .before .before .are-bad .ensures in
+    changed refl
+    (not-so _ _ _ (rw (bad, s) at (c .before .before .before .before .if1 .left))
+    (then-set _ (c .before .before .stat-written .ensures) (c .store-stat .ensures) refl refl))
+
+pub write-stat-spec : {M : Type 1} → statement M
+write-stat-spec =
+    tie.close
+    (tie.spec
+    (λ c κs. search needs)
+    (λ c κs. search needs)
+    (λ c κs. search needs)
+    returns
+    (λ c κs. search needs)
+    (λ c κs. search needs)
+    returns-2)

@@ -1,0 +1,17 @@
+-- The steps of the definition.
+use borrow.Author.Needs.{needs}
+use Rattle.module_rules.specs.Loading.{wordLeaves}
+use Rattle.module_memory.proofs.Taken.{_then_, alike}
+use Rattle.module_word_steps.proofs.Raised.{noting}
+use Rattle.module_word_steps.proofs.leave.Statement.{statement}
+use Rattle.module_word_steps.proofs.leave.Tie as tie
+
+returns : tie.Need-returns
+unfolding wordLeaves
+returns c =
+    alike ((c .before .before .before .before .before .before .pop .ensures) then noting _ (c .before .before .left-raises .ensures) (c .raise .ensures)) (rw ((c .before .before .before .before .waiting-in .ensures), ((c .before .before .before .before .before .before .pop .ensures) .engine)))
+
+pub leave-spec : {M : Type 1} → statement M
+leave-spec =
+    tie.close
+    (tie.spec (λ c κs. search needs) (λ c κs. search needs) (λ c κs. search needs) (λ c κs. search needs) returns)

@@ -1,0 +1,36 @@
+-- The branch is the choice of the definition.
+use borrow.Author.Needs.{needs}
+use mathlib.Core.Path.{_≡_, refl, sym, ap, _∙_}
+use native.Mathlib.Omega.{arith}
+use Prim.Native.Nat.{ℕ, _-_}
+use Rattle.module_types.specs.declared.Transmit.{Transmit}
+use Rattle.module_rules.specs.Changes.{withTransmit}
+use Rattle.module_rules.specs.Settings.{depthOf}
+use Rattle.module_memory.specs.Memory.{settingsIn, engineIn}
+use Rattle.module_memory.proofs.Taken.{alike, stays}
+use Rattle.module_word_steps.proofs.Rings.{popped-departed, none-departs}
+use Rattle.module_word_steps.proofs.pop.Statement.{statement}
+use Rattle.module_word_steps.proofs.pop.Tie as tie
+
+returns : tie.Need-returns
+returns c =
+    let w = (c .before .before .before .before .before .before .before .before .before .before .args .w .now) in let n = engineIn w in let depth = (c .before .before .before .before .before .before .before .before .room-in .ensures) in let count = (c .before .before .before .before .before .before .waiting-in .ensures) in
+    alike (c .store-departed .ensures) (ap (λ (b : Transmit). withTransmit b n) (popped-departed (depthOf (settingsIn w)) (n .transmit) _ _ (omega arith) (rw (depth, (c .before .before .before .before .spi-read-in .ensures)) at (c .before .before .next-position .ensures)) (ap (λ (x : ℕ). x - 1) count)))
+
+returns-2 : tie.Need-returns-2
+returns-2 c =
+    let w = (c .before .before .before .before .before .before .before .args .w .now) in let n = engineIn w in let depth = (c .before .before .before .before .before .room-in .ensures) in let count = (c .before .before .before .waiting-in .ensures) in
+    stays (ap (λ (b : Transmit). withTransmit b n) (none-departs (depthOf (settingsIn w)) (n .transmit) (omega arith)))
+
+pub pop-spec : {M : Type 1} → statement M
+pop-spec =
+    tie.close
+    (tie.spec
+    (λ c κs. search needs)
+    (λ c κs. search needs)
+    (λ c κs. search needs)
+    (λ c κs. search needs)
+    (λ c. search needs)
+    (λ c κs. search needs)
+    returns
+    returns-2)

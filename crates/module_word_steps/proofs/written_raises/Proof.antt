@@ -1,0 +1,23 @@
+-- By SPIBEN and SISEL.
+use borrow.Author.Needs.{needs}
+use mathlib.Core.Path.{refl}
+use borrow.Author.Tests.{not-true, not-false, ne-eqb}
+use Rattle.module_word_steps.proofs.Raised.{standard, enhanced, or-false}
+use Rattle.module_word_steps.proofs.written_raises.Statement.{statement}
+use Rattle.module_word_steps.proofs.written_raises.Tie as tie
+
+returns : tie.Need-returns
+returns c =
+    standard _ _ (not-true _ (rw (c .before .before .settings-in .ensures) at (c .if1 .taken))) refl
+
+returns-2 : tie.Need-returns-2
+returns-2 c =
+    enhanced _ _ (not-false _ (rw (c .before .before .before .before .before .settings-in .ensures) at (c .before .before .before .if1 .left))) (rw ((rw (c .before .before .before .before .before .settings-in .ensures) at (c .before .if2 .taken)), (c .room-in .ensures)))
+
+returns-3 : tie.Need-returns-3
+returns-3 c =
+    enhanced _ _ (not-false _ (rw (c .before .before .before .before .settings-in .ensures) at (c .before .before .if1 .left))) (rw (ne-eqb _ _ (rw (c .before .before .before .before .settings-in .ensures) at (c .if2 .left))))
+
+pub written-raises-spec : {M : Type 1} → statement M
+written-raises-spec =
+    tie.close (tie.spec (λ c κs. search needs) returns (λ c κs. search needs) returns-2 returns-3)

@@ -1,1 +1,0 @@
-// Every call keeps the invariant of spi_rules, and what it is good for. No type and no function stands here.

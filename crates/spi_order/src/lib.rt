@@ -1,1 +1,0 @@
-// The module of spi_rules is a machine of the law of word order. No type and no function stands here.

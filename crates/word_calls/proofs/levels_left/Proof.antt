@@ -1,0 +1,37 @@
+-- By whether the next edge samples.
+use borrow.Author.Needs.{needs}
+use mathlib.Core.Bool.{Bool, true, false}
+use mathlib.Core.Path.{_≡_, sym, ap, _∙_}
+use native.Mathlib.Omega.{arith}
+use Prim.Native.Nat.{_+_}
+use Rattle.module_rules.specs.Bits.{samples}
+use Rattle.word_calls.proofs.Making.{left-least, taken-level, kept-level}
+use Rattle.word_calls.proofs.levels_left.Statement.{statement}
+use Rattle.word_calls.proofs.levels_left.Tie as tie
+
+sub-behind : tie.Need-sub-behind
+sub-behind c =
+    omega (arith, left-least (c .before .before .before .before .args .s) (c .before .before .before .before .args .p) (c .before .before .before .before .args .left) ((c .before .before .before .before .pre) .0) ((c .before .before .before .before .pre) .2) (c .before .before .before .before .args .sdo) (rw ((c .before .is-sampling .ensures), (c .before .before .before .cke .ensures)) at (c .if1 .taken)))
+
+returns : tie.Need-returns
+returns c =
+    (c .behind .ensures) ∙ taken-level (c .before .before .before .before .before .args .s) (c .before .before .before .before .before .args .p) (c .before .before .before .before .before .args .left) ((c .before .before .before .before .before .pre) .0) ((c .before .before .before .before .before .pre) .2) (c .before .before .before .before .before .args .sdo) (rw ((c .before .before .is-sampling .ensures), (c .before .before .before .before .cke .ensures)) at (c .before .if1 .taken))
+
+returns-2 : tie.Need-returns-2
+returns-2 c =
+    (c .behind2 .ensures) ∙ kept-level (c .before .before .before .before .before .args .s) (c .before .before .before .before .before .args .p) (c .before .before .before .before .before .args .left) ((c .before .before .before .before .before .pre) .0) ((c .before .before .before .before .before .pre) .2) (c .before .before .before .before .before .args .sdo) (rw ((c .before .before .is-sampling .ensures), (c .before .before .before .before .cke .ensures)) at (c .before .if1 .left))
+
+pub levels-left-spec : {M : Type 1} → statement M
+levels-left-spec =
+    tie.close
+    (tie.spec
+    (λ c κs. search needs)
+    (λ c. search needs)
+    (λ c. search needs)
+    (λ c κs. search needs)
+    (λ c. search needs)
+    sub-behind
+    (λ c κs. search needs)
+    returns
+    (λ c κs. search needs)
+    returns-2)
