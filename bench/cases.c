@@ -217,7 +217,8 @@ static struct outcome client_16(uint32_t times)
 }
 
 /* Eight words are written at both ends, one linked run exchanges them, and
- * they are read at both ends. */
+ * they are read at both ends. The library makes each word at once, plain C edge
+ * by edge. */
 static struct outcome linked_pair(uint32_t times)
 {
     struct outcome o = {0, 0};

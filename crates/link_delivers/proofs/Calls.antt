@@ -1,4 +1,4 @@
--- The two calls of a turn. This is the only place that knows how a host is clocked and a client sees: both enter the operations of an
+-- The two calls of a turn. This is the only place of this law that knows how a host is clocked and a client sees: both enter the operations of an
 -- edge of the law of word_wire.
 --     Entered          a call that leaves the settings and is entered as an edge
 --     on-the-wire      a driven SDO is read at its level

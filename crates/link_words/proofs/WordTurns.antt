@@ -1,9 +1,8 @@
 -- All turns of a word at both ends leave each with the word made, and so does a word call at each.
---     turns          the turns of a word that is under way at both ends
---     host-begins, client-begins   each end is at a word's beginning
---     host-made, client-made       what each makes there is its word call
---     word-at-once   a run from a word's beginning at both ends: that word at once, and the turns from there on
---     running-on     the ends run on behind it
+--     turns                    the turns of a word that is under way at both ends
+--     word-at-once             a run from a word's beginning at both ends: that word at once, and the turns from there on
+--     host-made, client-made   what each end makes of what it hears is its word call
+--     running-on               the ends run on behind it
 -- Assumes nothing.
 use Prim.Native.Nat.{ℕ, zero, suc, _+_, _-_, _^_, _<_, _≤_}
 use mathlib.Core.Bool.{Bool, true, false, not, _&&_}
@@ -107,7 +106,7 @@ module _ (host client : Module) (run : Running host client) (start : atBeginning
   unfolding atBeginning
   both-rest = and-right (not (isFree (n .shift))) _ start
 
-  pub host-begins : Begins s n
+  host-begins : Begins s n
   host-begins =
       record {
         on = pair .hostOn;
@@ -117,7 +116,7 @@ module _ (host client : Module) (run : Running host client) (start : atBeginning
         rests = and-left (between host) _ both-rest;
       }
 
-  pub client-begins : Begins u m
+  client-begins : Begins u m
   client-begins =
       record {
         on = pair .clientOn;
