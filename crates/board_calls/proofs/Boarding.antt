@@ -22,7 +22,7 @@ use Rattle.board_rules.specs.declared.BoardAnswer.the-variants.{Refused, Powere
 use Rattle.board_rules.specs.declared.PairAnswer.{PairAnswer}
 use Rattle.board_rules.specs.Board.{Paired, moduleAt, answerAlone, afterAlone, boardOf, ranOf, pairOf}
 use Rattle.board_rules.specs.BoardDemands.{faultIn, pairFaultIn, boardRows, pairRows}
-use Rattle.board_rules.proofs.BoardCalls.{call-refused-exactly, call-refused-unchanged, call-is, pair-refused-exactly, pair-refused-unchanged, pair-is, named-below, places}
+use Rattle.board_page.proofs.BoardCalls.{call-refused-exactly, call-refused-unchanged, call-is, pair-refused-exactly, pair-refused-unchanged, pair-is, named-below, places}
 use Rattle.module_memory.specs.Memory.{moduleIn}
 use Rattle.module_by_number.specs.Told.{LinkTells}
 use Rattle.board_calls.specs.declared.Cells.{Cells}

@@ -31,7 +31,7 @@ use Rattle.link_rules.specs.Link.{linkedOf}
 use Rattle.board_rules.specs.declared.BoardCall.{BoardCall}
 use Rattle.board_rules.specs.Board.{boardNumberOf, badList, moduleAt, boardOf, pairOf}
 use Rattle.board_rules.specs.Owed.{inShift, wordsOwed, atMost65535, totalMoved, owesOf}
-use Rattle.board_rules.proofs.OwedMoves.{call-total-stays, call-total-moves, run-total-stays, run-total-moves}
+use Rattle.board_page.proofs.OwedMoves.{call-total-stays, call-total-moves, run-total-stays, run-total-moves}
 use Rattle.module_memory.specs.Memory.{settingsIn, engineIn, moduleIn, wentOn}
 use Rattle.module_answers.specs.Answered.{GoesOn}
 use Rattle.module_by_number.specs.Told.{LinkTells}

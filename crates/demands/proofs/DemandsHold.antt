@@ -4,17 +4,17 @@
 use Rattle.card_demands.proofs.DemandsHold.{page-holds}
 use Rattle.ti_order.proofs.DemandsHold as ti
 use Rattle.module_page.proofs.DemandsHold.{one-module}
-use Rattle.link_rules.proofs.LinkDemandsHold.{linked-runs}
+use Rattle.link_page.proofs.LinkDemandsHold.{linked-runs}
 use Rattle.link_delivers.proofs.WireDelivers.{wire-delivers}
 use Rattle.word_page.proofs.WordDemandsHold.{word-calls-hold}
 use Rattle.clock_rules.proofs.ClockDemandsHold.{clock-reports}
 use Rattle.clock_rate_rules.proofs.RateHolds.{rate-demands}
 use Rattle.script_rules.proofs.ScriptDemandsHold.{scripts-hold}
-use Rattle.trace_rules.proofs.TraceDemandsHold.{traces-hold}
+use Rattle.trace_page.proofs.TraceDemandsHold.{traces-hold}
 use Rattle.trace_save_rules.proofs.SaveDemandsHold.{saves-hold}
 use Rattle.trace_salvage_rules.proofs.SalvageDemandsHold.{salvages-hold}
-use Rattle.board_rules.proofs.BoardDemandsHold.{boards-hold}
-use Rattle.board_rules.proofs.OwedDemandsHold.{totals-hold}
+use Rattle.board_page.proofs.BoardDemandsHold.{boards-hold}
+use Rattle.board_page.proofs.OwedDemandsHold.{totals-hold}
 use Rattle.demands.specs.Demands.{Demands}
 
 pub demands-hold : Demands

@@ -29,7 +29,7 @@ use Rattle.module_invariant.proofs.CallsWhen.{own-not-client, tick-is, pin-is, 
 use Rattle.module_invariant.proofs.Select.{stepped-select}
 use Rattle.link_rules.specs.declared.Run.{Run}
 use Rattle.link_rules.specs.Link.{levelRead, madeEdge, hostTicked, clientSees, runStops, clientTurn, handedOver, hostTurn, eitherDisabled, wrongRoles, differentModes}
-use Rattle.link_rules.proofs.LinkLevels.{level-read}
+use Rattle.link_page.proofs.LinkLevels.{level-read}
 use Rattle.word_rules.specs.Word.{wordOf}
 use Rattle.link_words.specs.LinkWords.{Matched, Running, atBeginning, heardOf, further, wordThenTurns}
 use Rattle.link_words.proofs.WordTurns.{word-at-once}

@@ -45,8 +45,8 @@ use Rattle.module_invariant.proofs.Engine.{engine-of}
 use Rattle.module_order.proofs.Ports.{whole-terms, begun-port}
 use Rattle.module_order.proofs.Order.{Lives}
 use Rattle.link_rules.specs.LinkDemands.{readAs, tickBeside, pinsBeside}
-use Rattle.link_rules.proofs.LinkIdle.{ticked-none}
-use Rattle.link_rules.proofs.LinkLevels.{sampling-leaves}
+use Rattle.link_page.proofs.LinkIdle.{ticked-none}
+use Rattle.link_page.proofs.LinkLevels.{sampling-leaves}
 
 -- The entry that the watcher makes of a call.
 abbrev pub entryAt : Watched → Call → Entry

@@ -33,9 +33,9 @@ use Rattle.module_edges_owed.proofs.Hold.{owed-is-held}
 use Rattle.link_rules.specs.Link.{linkedOf}
 use Rattle.link_rules.specs.LinkDemands.{runHostCalls, runClientCalls, edgesUsed}
 use Rattle.link_rules.specs.WireDemands.{Ready, Accepted, before, roomIn, Delivers, Exchanges, wholeWords, largestLimit, WireDelivers}
-use Rattle.link_rules.proofs.LinkRuns.{Allowed, link-when}
-use Rattle.link_rules.proofs.LinkIdle.{host-on, host-own, link-pays}
-use Rattle.link_rules.proofs.LinkDemandsHold.{made, linked-runs}
+use Rattle.link_page.proofs.LinkRuns.{Allowed, link-when}
+use Rattle.link_page.proofs.LinkIdle.{host-on, host-own, link-pays}
+use Rattle.link_page.proofs.LinkDemandsHold.{made, linked-runs}
 use Rattle.link_delivers.proofs.Calls.{host-silent}
 use Rattle.link_delivers.proofs.Turns.{Paired, Joined}
 use Rattle.link_delivers.proofs.Runs.{run-joined, begins-joined}

@@ -32,12 +32,18 @@ use Rattle.module_rules.specs.Select.{selectRemembered, aborted, selectSeen}
 use Rattle.module_rules.specs.Words.{unreadIn, owedWords}
 use Rattle.module_rules.specs.Demands.{edgesMade}
 use Rattle.module_types.specs.declared.Depth.the-variants.{Eight}
+use Rattle.module_rules.specs.Watch.{Watched, watchedCall, watchedCalls}
 use Rattle.module_rules.specs.Lives.{powerUp, begins, life}
 use Rattle.module_rules.proofs.Claims.{numbers, sameNumbers, judge-exact}
 use Rattle.link_rules.specs.declared.Linked.{Linked}
 use Rattle.link_rules.specs.Link.{levelRead, madeEdge, hostTicked, clientSees, runStops, oneMore, clientTurn, handedOver, hostTurn, runOf, refuseLink, toldOf, linkedOf, linkSaidOf}
 use Rattle.link_rules.specs.LinkDemands.{hostCalls, clientCalls, runHostCalls, runClientCalls, refusalOf, edgesUsed, LinkedRuns}
-use Rattle.link_rules.proofs.LinkDemandsHold.{life-goes-on}
+
+-- Calls behind calls.
+pub life-goes-on : (x : Watched) (cs ds : List Call) → afterCalls (watchedCalls x cs .now) ds ≡ watchedCalls x (cs ++ ds) .now
+life-goes-on x [] [] = refl
+life-goes-on x [] (d ∷ ds) = life-goes-on (watchedCall x d) [] ds
+life-goes-on x (c ∷ cs) ds = life-goes-on (watchedCall x c) cs ds
 
 -- What a module shows: its registers, levels and flag, and its words.
 unfoldable pub shows : Module → List ℕ

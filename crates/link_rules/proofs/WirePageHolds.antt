@@ -37,7 +37,6 @@ use Rattle.module_rules.specs.Watch.{portIn}
 use Rattle.module_rules.specs.Lives.{Beginning, powerUp, life}
 use Rattle.module_rules.proofs.Claims.{Claim, level, number, numbers, AllHold, none, _also_, allJudged, all-judged}
 use Rattle.module_rules.proofs.PageHolds.{one-by-one, enabled, words, ticks, pins}
-use Rattle.module_order.proofs.Order.{life-holds}
 use Rattle.link_rules.specs.declared.Linked.{Linked}
 use Rattle.link_rules.specs.Link.{levelRead, madeEdge, hostTicked, clientSees, runStops, oneMore, clientTurn, handedOver, hostTurn, runOf, refuseLink, toldOf, linkedOf, linkSaidOf}
 use Rattle.link_rules.specs.LinkDemands.{hostCalls, clientCalls, runHostCalls, runClientCalls, refusalOf}
@@ -127,7 +126,7 @@ page-judges p host client limit a =
     (p .exchanges host client limit a (p .endsIdle host client limit a (leb-true (wholeWords host) limit covers))))))
 
 -- Two modules that calls reach from power-up, of which the page speaks: at a word boundary, with SDO driven, and not refused.
-abbrev ready : Module → Bool
+abbrev pub ready : Module → Bool
 ready m = not (isUnder (portIn m .way)) && not (m .settings .con1 .dissdo)
 
 unfoldable pub spoken : Module → Module → ℕ → Bool
@@ -141,34 +140,6 @@ after cs = life (powerUp Eight) (one-by-one cs) .now
 
 abbrev pub Runs : ℕ → List (List Call) → List (List Call) → Type 0
 Runs limit hosts clients = delivers (after hosts) (after clients) limit ≡ true
-
--- Each run below is one of the page.
-is-ready : (b : Beginning) (cs : List Call) → ready (life b cs .now) ≡ true → Ready (life b cs .now)
-is-ready b cs e =
-    record {
-      reached = life-holds b cs .holds;
-      between = is-idle _ (not-true _ (and-left (not (isUnder (portIn (life b cs .now) .way))) _ e));
-      driven = not-true _ (and-right (not (isUnder (portIn (life b cs .now) .way))) _ e);
-    }
-  where
-    is-idle : (w : Way) → isUnder w ≡ false → w ≡ idle
-    is-idle idle e = refl
-    is-idle (sends u) e = clash true refl e
-
-pub page-runs : WireDelivers → (limit : ℕ) (a b : Beginning) (hosts clients : List Call) →
-    spoken (life a hosts .now) (life b clients .now) limit ≡ true →
-    holds (life a hosts .now) (life b clients .now) limit ≡ true
-unfolding spoken
-page-runs p limit a b hosts clients e =
-    let host : Module = life a hosts .now in
-    let client : Module = life b clients .now in
-    let both : (ready host && ready client) ≡ true = and-right (eqb (refusalOf host client limit) 0) _ e in
-    page-judges p host client limit
-    (record {
-      hostReady = is-ready a hosts (and-left (ready host) _ both);
-      clientReady = is-ready b clients (and-right (ready host) _ both);
-      unrefused = eqb-true (refusalOf host client limit) 0 (and-left (eqb (refusalOf host client limit) 0) _ e);
-    })
 
 -- As many words at both ends, CKE 0 and a client without SSEN. CKE 1: the client's first word has its top bit set and its select is high before
 -- the run; two fillers follow, and the client, in standard operation, drops two words. A standard host that is full drops all, while a

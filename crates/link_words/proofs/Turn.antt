@@ -34,7 +34,7 @@ use Rattle.module_invariant.proofs.FinishWords.{delivered-elsewhere, finished-s
 use Rattle.word_rules.specs.Word.{bitsSampled, bitsLeft, sdiAt}
 use Rattle.word_rules.proofs.WordMade.{at, turnedTo, seen-edge}
 use Rattle.link_rules.specs.Link.{levelRead, madeEdge, hostTicked, clientSees, oneMore, clientTurn, handedOver, hostTurn}
-use Rattle.link_rules.proofs.LinkLevels.{level-read, sampling-leaves}
+use Rattle.link_page.proofs.LinkLevels.{level-read, sampling-leaves}
 use Rattle.link_words.specs.LinkWords.{Matched}
 use Rattle.link_words.proofs.Heard.{Carries, carries-on}
 

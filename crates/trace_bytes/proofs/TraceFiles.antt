@@ -15,7 +15,7 @@ use lib.ListN.{length, take, drop, getD, length-append, length-drop, take-append
 use lib.Seq.{drop-at, drop-append-add, take-append-seam, take-add, drop-drop, length-take-le, take-at}
 use Rattle.trace_rules.specs.Trace.{wordAt, sectionCount, tableEnd, startOf, sizeOf, placeOf, bodyOf, halfAt, byteAt}
 use Rattle.trace_rules.specs.TraceBytes.{half, word, table, joined, file, sectionsFrom, Bytes, placed}
-use Rattle.trace_rules.proofs.TraceContents.{Laid, place-below, section-inside}
+use Rattle.trace_page.proofs.TraceContents.{Laid, place-below, section-inside}
 use Rattle.trace_bytes.proofs.TraceNumbers.{word-skip, two-bytes, word-here, half-of, word-at, bytes-append, bytes-none, bytes-half, bytes-word}
 
 -- Sections by their numbers.

@@ -15,7 +15,7 @@ use lib.Seq.{take-all, take-nil, take-take, getD-drop, getD-take}
 use Rattle.trace_rules.specs.declared.Entry.{Entry}
 use Rattle.trace_rules.specs.Trace.{byteAt, halfAt, startOf, sizeOf, bodyOf, entriesIn, entriesOf}
 use Rattle.trace_rules.specs.TraceDemands.{recordAt, recordsFrom}
-use Rattle.trace_rules.proofs.TracePlaces.{record-spelled, records-from}
+use Rattle.trace_page.proofs.TracePlaces.{record-spelled, records-from}
 
 pub entries-length : (b : List ℕ) → length (entriesIn b) ≡ length b / 4
 unfolding entriesIn

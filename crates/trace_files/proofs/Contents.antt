@@ -16,8 +16,8 @@ use lib.ListN.{length}
 use Rattle.laws.specs.Choice.{if_then_else_}
 use Rattle.laws.proofs.Keeps.{if-true, if-false, by-test, and-first, and-false}
 use Rattle.trace_rules.specs.Trace.{sectionCount, tableEnd, startOf, sizeOf, placeOf, gapless, inFours, tableRight, contentsRight}
-use Rattle.trace_rules.proofs.TraceBelow.{below-fails}
-use Rattle.trace_rules.proofs.TraceContents.{place-below}
+use Rattle.trace_page.proofs.TraceBelow.{below-fails}
+use Rattle.trace_page.proofs.TraceContents.{place-below}
 use Rattle.trace_files.specs.Places.{gaplessEnd, statedEnd}
 
 -- A conjunction whose first part is true is its second, and one whose second is true its first.

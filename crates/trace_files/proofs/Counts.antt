@@ -17,8 +17,8 @@ use lib.Seq.{getD-set-same, getD-set-other}
 use Rattle.laws.proofs.Keeps.{if-true, if-false, by-test, and-both}
 use Rattle.trace_rules.specs.declared.Entry.{Entry}
 use Rattle.trace_rules.specs.Trace.{sectionLevel, sectionCount, contentsRight, entriesOf, isPlay, playsAny, recordsRight, countBy, playCount}
-use Rattle.trace_rules.proofs.TraceContents.{contents-laid}
-use Rattle.trace_rules.proofs.TraceLevels.{PlaysUp, plays-up, level-least, stable, counts-same}
+use Rattle.trace_page.proofs.TraceContents.{contents-laid}
+use Rattle.trace_page.proofs.TraceLevels.{PlaysUp, plays-up, level-least, stable, counts-same}
 use Rattle.trace_files.specs.Places.{entryAt, entriesAt}
 use Rattle.trace_files.specs.Passes.{capped, weightBy, CountsFrom}
 use Rattle.trace_files.proofs.Records.{entries-more, entries-none}

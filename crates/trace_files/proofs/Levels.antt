@@ -16,7 +16,7 @@ use Rattle.laws.specs.Choice.{if_then_else_}
 use Rattle.laws.proofs.Keeps.{if-true, if-false, by-test, and-right, and-both, and-first, and-false}
 use Rattle.trace_rules.specs.declared.Entry.{Entry}
 use Rattle.trace_rules.specs.Trace.{sectionCount, entriesOf, isPlay, playsAny, higher, highestPlayer, levelsBelow, sectionLevel, rightRecord, rightOf, allRight, allOf}
-use Rattle.trace_rules.proofs.TraceLevels.{levels-length, level-below, play-right}
+use Rattle.trace_page.proofs.TraceLevels.{levels-length, level-below, play-right}
 use Rattle.trace_files.specs.Places.{entryAt, entriesAt}
 use Rattle.trace_files.specs.Passes.{raisedOne, raisedBy, LevelsAt}
 use Rattle.trace_files.proofs.Records.{entries-more, entries-none}

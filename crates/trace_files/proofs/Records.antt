@@ -15,9 +15,9 @@ use Rattle.laws.proofs.Keeps.{by-test, and-left, and-right}
 use Rattle.trace_rules.specs.declared.Entry.{Entry}
 use Rattle.trace_rules.specs.Trace.{sectionCount, startOf, sizeOf, placeOf, contentsRight, bodyOf, entriesIn, entriesOf, rightOf, allRight, allOf, recordsRight}
 use Rattle.trace_rules.specs.TraceDemands.{recordsFrom}
-use Rattle.trace_rules.proofs.TraceContents.{Laid, contents-laid, place-below, section-inside}
-use Rattle.trace_rules.proofs.TracePlaces.{record-spelled, records-from}
-use Rattle.trace_rules.proofs.TraceLevels.{section-right}
+use Rattle.trace_page.proofs.TraceContents.{Laid, contents-laid, place-below, section-inside}
+use Rattle.trace_page.proofs.TracePlaces.{record-spelled, records-from}
+use Rattle.trace_page.proofs.TraceLevels.{section-right}
 use Rattle.trace_files.specs.Places.{entryAt, entriesAt}
 
 pub entries-more : (f : List ℕ) (n at : ℕ) → 0 < n → entriesAt f n at ≡ entryAt f at ∷ entriesAt f (n - 1) (at + 4)

@@ -32,7 +32,7 @@ use Rattle.trace_rules.specs.declared.Fault.{Fault}
 use Rattle.trace_rules.specs.declared.Played.{Played}
 use Rattle.trace_rules.specs.declared.Played.the-variants.{Refused, Made}
 use Rattle.trace_rules.specs.Trace.{contentsRight, sectionCount, startOf, sizeOf, entriesOf, isPlay, sectionLevel, rightOf, recordsRight, callOf, times, callsBy, playCalls, countBy, playCount, fileCalls, fileCount, playedOf, isMade, playedModule}
-use Rattle.trace_rules.proofs.TraceLevels.{play-right}
+use Rattle.trace_page.proofs.TraceLevels.{play-right}
 use Rattle.trace_files.specs.Places.{entryAt, entriesAt}
 use Rattle.trace_files.specs.Idle.{idle, landingOf, PassedFrom}
 use Rattle.trace_files.proofs.Records.{entries-more, entries-none, section-at, section-places, record-right}

@@ -14,9 +14,9 @@ use Rattle.laws.proofs.Keeps.{if-true, if-false, clash, by-test}
 use Rattle.trace_rules.specs.Trace.{sectionCount, sizeOf}
 use Rattle.trace_rules.specs.TraceBytes.{Bytes, placed}
 use Rattle.trace_rules.specs.TraceDemands.{sections, size, Whole, AllRight}
-use Rattle.trace_rules.proofs.TraceContents.{Laid, place-below}
-use Rattle.trace_rules.proofs.TracePlaces.{count-spelled, size-spelled, whole-laid}
-use Rattle.trace_rules.proofs.TraceDemandsHold.{all-right}
+use Rattle.trace_page.proofs.TraceContents.{Laid, place-below}
+use Rattle.trace_page.proofs.TracePlaces.{count-spelled, size-spelled, whole-laid}
+use Rattle.trace_page.proofs.TraceDemandsHold.{all-right}
 use Rattle.trace_bytes.proofs.TraceFiles.{placed-file, placed-behind, placed-length}
 use Rattle.trace_salvage_rules.specs.declared.Salvaged.{Salvaged}
 use Rattle.trace_salvage_rules.specs.declared.Salvaged.the-variants.{BadContents, NoRoom, Written}

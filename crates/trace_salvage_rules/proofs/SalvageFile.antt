@@ -14,9 +14,9 @@ use lib.Seq.{length-take-le}
 use Rattle.trace_rules.specs.declared.Entry.{Entry}
 use Rattle.trace_rules.specs.Trace.{sectionCount, tableEnd, startOf, sizeOf, placeOf, bodyOf, entriesIn, entriesOf, sectionLevel, allRight, allOf, recordsRight}
 use Rattle.trace_rules.specs.TraceBytes.{file, Bytes}
-use Rattle.trace_rules.proofs.TraceBelow.{below-each}
-use Rattle.trace_rules.proofs.TraceContents.{Laid}
-use Rattle.trace_rules.proofs.TraceLevels.{level-same, section-right}
+use Rattle.trace_page.proofs.TraceBelow.{below-each}
+use Rattle.trace_page.proofs.TraceContents.{Laid}
+use Rattle.trace_page.proofs.TraceLevels.{level-same, section-right}
 use Rattle.trace_bytes.proofs.TraceNumbers.{bytes-drop, bytes-take}
 use Rattle.trace_bytes.proofs.TraceRecords.{entries-length, entries-take, entries-all}
 use Rattle.trace_bytes.proofs.TraceFiles.{sections-length, sections-at, sections-same, file-count, file-length, file-size, file-body, file-place, file-laid, bodies, body-length, file-back, file-bodies, bytes-file}

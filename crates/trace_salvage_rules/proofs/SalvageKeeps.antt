@@ -17,7 +17,7 @@ use lib.Seq.{getD-at}
 use Rattle.laws.proofs.Keeps.{if-true, if-false, and-left, and-right, and-both, by-test}
 use Rattle.trace_rules.specs.declared.Entry.{Entry}
 use Rattle.trace_rules.specs.Trace.{sectionLevel, rightRecord, allRight}
-use Rattle.trace_rules.proofs.TraceLevels.{level-same}
+use Rattle.trace_page.proofs.TraceLevels.{level-same}
 use Rattle.trace_salvage_rules.specs.Salvage.{beginning, among, withNext, keptBelow}
 
 module _ (count level k : ℕ) where

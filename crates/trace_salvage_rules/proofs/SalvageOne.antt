@@ -15,12 +15,12 @@ use Rattle.laws.proofs.Keeps.{by-test, clash}
 use Rattle.trace_rules.specs.Trace.{sectionCount, startOf, sizeOf, bodyOf, entriesIn, entriesOf, sectionLevel, rightRecord}
 use Rattle.trace_rules.specs.TraceBytes.{file, sectionsFrom, Bytes}
 use Rattle.trace_rules.specs.TraceDemands.{sections, start, size, fields, recordAt, section, Right, AllRight}
-use Rattle.trace_rules.proofs.TraceContents.{Laid}
-use Rattle.trace_rules.proofs.TracePlaces.{count-spelled, start-spelled, size-spelled, laid-whole, whole-laid, section-is}
-use Rattle.trace_rules.proofs.TraceLevels.{level-same}
-use Rattle.trace_rules.proofs.TraceRight.{in-right}
-use Rattle.trace_rules.proofs.TraceOrder.{levels-hold, one-level}
-use Rattle.trace_rules.proofs.TraceDemandsHold.{right-all}
+use Rattle.trace_page.proofs.TraceContents.{Laid}
+use Rattle.trace_page.proofs.TracePlaces.{count-spelled, start-spelled, size-spelled, laid-whole, whole-laid, section-is}
+use Rattle.trace_page.proofs.TraceLevels.{level-same}
+use Rattle.trace_page.proofs.TraceRight.{in-right}
+use Rattle.trace_page.proofs.TraceOrder.{levels-hold, one-level}
+use Rattle.trace_page.proofs.TraceDemandsHold.{right-all}
 use Rattle.trace_bytes.proofs.TraceRecords.{entry-at, records-many, record-same}
 use Rattle.trace_bytes.proofs.TraceFiles.{sections-same, body-length, file-back}
 use Rattle.trace_salvage_rules.specs.Salvage.{salvageable, beginning, among, keptOf, salvagedFile}

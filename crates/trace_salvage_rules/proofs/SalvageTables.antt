@@ -13,8 +13,8 @@ use lib.ListN.{length}
 use Rattle.laws.proofs.Keeps.{and-left, and-right, and-both}
 use Rattle.trace_rules.specs.Trace.{sectionCount, tableEnd, startOf, placeOf, tableRight}
 use Rattle.trace_rules.specs.TraceDemands.{sections, endBefore}
-use Rattle.trace_rules.proofs.TraceBelow.{each-below, below-each}
-use Rattle.trace_rules.proofs.TracePlaces.{count-spelled, start-spelled, end-is, places}
+use Rattle.trace_page.proofs.TraceBelow.{each-below, below-each}
+use Rattle.trace_page.proofs.TracePlaces.{count-spelled, start-spelled, end-is, places}
 use Rattle.trace_salvage_rules.specs.Salvage.{salvageable}
 use Rattle.trace_salvage_rules.specs.SalvageDemands.{Tabled}
 

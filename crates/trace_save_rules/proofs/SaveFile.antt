@@ -20,7 +20,7 @@ use Rattle.module_types.specs.declared.Call.the-variants.{Read, Write, Tick, Pi
 use Rattle.trace_rules.specs.declared.Entry.{Entry}
 use Rattle.trace_rules.specs.declared.Played.the-variants.{Made}
 use Rattle.trace_rules.specs.Trace.{byteAt, halfAt, sectionCount, contentsRight, entriesIn, entriesOf, isPlay, wireIn, sectionLevel, rightRecord, allRight, allBelow, recordsRight, callOf, callsBy, playCalls, countBy, playCount, fileCalls, fileCount, playedOf}
-use Rattle.trace_rules.proofs.TraceContents.{laid-contents}
+use Rattle.trace_page.proofs.TraceContents.{laid-contents}
 use Rattle.trace_bytes.proofs.TraceNumbers.{two-bytes}
 use Rattle.trace_bytes.proofs.TraceFiles.{file-count, file-body, file-laid}
 use Rattle.trace_save_rules.specs.Save.{keeps, wires, recordOf, recordBytes, fileOf}

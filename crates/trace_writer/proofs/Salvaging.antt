@@ -21,7 +21,7 @@ use Rattle.script_rules.specs.Texts.{put, Written}
 use Rattle.trace_rules.specs.declared.Entry.{Entry}
 use Rattle.trace_rules.specs.Trace.{sectionCount, tableEnd, sizeOf, placeOf, tableRight, bodyOf, entriesIn, entriesOf, rightRecord}
 use Rattle.trace_rules.specs.TraceBytes.{half, word, table, joined, sectionsFrom}
-use Rattle.trace_rules.proofs.TraceContents.{place-below}
+use Rattle.trace_page.proofs.TraceContents.{place-below}
 use Rattle.trace_bytes.proofs.TraceRecords.{entries-length, entries-take}
 use Rattle.trace_bytes.proofs.TraceFiles.{sections-length, sections-same}
 use Rattle.trace_files.specs.Places.{entryAt, entriesAt, statedEnd}

@@ -4,7 +4,7 @@ use mathlib.Core.Path.{refl, sym, _∙_}
 use native.Mathlib.Omega.{arith}
 use Rattle.laws.proofs.Choices.{by-case, so, not-so}
 use Rattle.board_rules.specs.Owed.{inShift}
-use Rattle.board_rules.proofs.BoardCalls.{or-both}
+use Rattle.board_page.proofs.BoardCalls.{or-both}
 use Rattle.board_calls.proofs.Owing.{filler-counts-none, client-counts-none, host-counts}
 use Rattle.board_calls.proofs.in_shift.Statement.{statement}
 use Rattle.board_calls.proofs.in_shift.Tie as tie

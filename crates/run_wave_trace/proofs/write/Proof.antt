@@ -3,7 +3,7 @@
 use borrow.Author.Needs.{needs}
 use mathlib.Core.Path.{sym, _∙_}
 use native.Mathlib.Omega.{arith}
-use Rattle.trace_rules.proofs.TraceContents.{contents-laid}
+use Rattle.trace_page.proofs.TraceContents.{contents-laid}
 use Rattle.trace_player.proofs.Playing.{made-right}
 use Rattle.run_wave_trace.proofs.write.Statement.{statement}
 use Rattle.run_wave_trace.proofs.write.Tie as tie

@@ -5,7 +5,7 @@ use mathlib.Core.Path.{_≡_, subst}
 use native.Mathlib.Omega.{arith}
 use borrow.Author.Needs.{needs}
 use Rattle.trace_rules.specs.Trace.{sectionCount, fileCount}
-use Rattle.trace_rules.proofs.TraceContents.{contents-laid}
+use Rattle.trace_page.proofs.TraceContents.{contents-laid}
 use Rattle.trace_files.specs.Passes.{CountsFrom}
 use Rattle.trace_files.proofs.Records.{section-below}
 use Rattle.trace_files.proofs.Counts.{counts-first, counts-next}

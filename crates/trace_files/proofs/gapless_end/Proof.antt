@@ -9,7 +9,7 @@ use borrow.Author.Tests.{eq-eqb}
 use lib.Dec.{eqb}
 use Rattle.laws.proofs.Keeps.{if-true}
 use Rattle.trace_rules.specs.Trace.{tableEnd, startOf, sizeOf, allBelow, placeOf, gapless}
-use Rattle.trace_rules.proofs.TraceBelow.{below-next}
+use Rattle.trace_page.proofs.TraceBelow.{below-next}
 use Rattle.trace_files.proofs.Contents.{gap-start}
 use Rattle.trace_files.proofs.gapless_end.Statement.{statement}
 use Rattle.trace_files.proofs.gapless_end.Tie as tie

@@ -8,7 +8,7 @@ use borrow.Author.Needs.{needs}
 use borrow.Author.Tests.{eq-eqb}
 use lib.Dec.{eqb}
 use Rattle.trace_rules.specs.Trace.{sizeOf, allBelow, inFours}
-use Rattle.trace_rules.proofs.TraceBelow.{below-next}
+use Rattle.trace_page.proofs.TraceBelow.{below-next}
 use Rattle.trace_files.proofs.Contents.{odd-size}
 use Rattle.trace_files.proofs.in_fours.Statement.{statement}
 use Rattle.trace_files.proofs.in_fours.Tie as tie

@@ -7,7 +7,7 @@ use borrow.Author.Needs.{needs}
 use borrow.Author.Tests.{not-true, not-false}
 use mathlib.Core.Bool.{true}
 use Rattle.trace_rules.specs.Trace.{sectionCount, entriesOf, allBelow, allOf, recordsRight}
-use Rattle.trace_rules.proofs.TraceBelow.{below-next, below-fails}
+use Rattle.trace_page.proofs.TraceBelow.{below-next, below-fails}
 use Rattle.trace_files.specs.Passes.{LevelsAt}
 use Rattle.trace_files.proofs.Records.{section-below}
 use Rattle.trace_files.proofs.Levels.{levels-first, levels-next, level-here}

@@ -10,7 +10,7 @@ use borrow.Author.Tests.{not-true, not-false}
 use lib.ListN.{length, getD}
 use Rattle.laws.proofs.Keeps.{if-true, and-first, clash}
 use Rattle.trace_rules.specs.Trace.{entriesOf, sectionLevel, rightOf, allOf}
-use Rattle.trace_rules.proofs.TraceContents.{contents-laid}
+use Rattle.trace_page.proofs.TraceContents.{contents-laid}
 use Rattle.trace_files.specs.Places.{entryAt, entriesAt}
 use Rattle.trace_files.specs.Passes.{raisedOne, raisedBy}
 use Rattle.trace_files.proofs.Contents.{and-skip}

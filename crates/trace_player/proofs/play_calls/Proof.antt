@@ -3,7 +3,7 @@
 use native.Mathlib.Omega.{arith}
 use borrow.Author.Needs.{needs}
 use Rattle.trace_rules.specs.Trace.{fileCalls}
-use Rattle.trace_rules.proofs.TraceContents.{contents-laid}
+use Rattle.trace_page.proofs.TraceContents.{contents-laid}
 use Rattle.trace_player.proofs.play_calls.Statement.{statement}
 use Rattle.trace_player.proofs.play_calls.Tie as tie
 

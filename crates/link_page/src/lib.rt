@@ -1,0 +1,1 @@
+// The page of linked runs, proved over all calls (`proofs/`).

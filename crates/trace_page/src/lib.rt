@@ -1,0 +1,1 @@
+// The page of trace files, proved, and the laws of their contents, levels and order (`proofs/`).
