@@ -16,9 +16,10 @@ use Rattle.card_rules.specs.Card.{Card, withWaiting, withUnread, emptied}
 use Rattle.card_rules.specs.Edge.{isFull}
 use Rattle.card_rules.specs.Calls.{Refusal, isDisabled, isEnabled, transmitFull, receiveEmpty, notNamed, refuse, numberOf, restingPins, setProtocolOf, setLengthOf, enableOf, disableOf, sampleOf, writeOf, readFrom, readOf, clearUnderrunOf, clearOverflowOf}
 use Rattle.card.specs.Memory.{bitIn, byteIn, protocolIn, bitsIn, frameIn, lengthNumber, settingsFrom, from, cellsAt, countIn, samplesAt, engineAt, engineIn, headAt, headIn, placeIn, cardIn}
-use Rattle.card.specs.Writes.{at}
+use Rattle.laws.specs.Writes.{at}
 use Rattle.card.specs.Answered.{Tells}
-use Rattle.card.proofs.Stored.{after, card-read, card-wrote, cardAt, bit-on, bit-off, tells-so, tells-not}
+use Rattle.laws.proofs.Stored.{after}
+use Rattle.card.proofs.Stored.{card-read, card-wrote, cardAt, bit-on, bit-off, tells-so, tells-not}
 use Rattle.card.proofs.Rings.{below-8, samples-none, samples-full, samples-room, samples-pop, samples-push}
 
 -- A refusal leaves every number.

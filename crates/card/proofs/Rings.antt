@@ -19,8 +19,8 @@ use Rattle.ring.specs.Ring as ring
 use Rattle.ring.proofs.Contents.{contents-length, contents-none, push-appends, pop-takes-first}
 use Rattle.card_rules.specs.Edge.{isFull}
 use Rattle.card.specs.Memory.{cellsAt, countIn, samplesAt}
-use Rattle.card.specs.Writes.{at}
-use Rattle.card.proofs.Stored.{after}
+use Rattle.laws.specs.Writes.{at}
+use Rattle.laws.proofs.Stored.{after}
 
 pub below-8 : (P : ℕ → Type 0) → P 0 → P 1 → P 2 → P 3 → P 4 → P 5 → P 6 → P 7 → (i : ℕ) → i < 8 → P i
 below-8 P a b c d e f g h zero small = a

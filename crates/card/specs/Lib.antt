@@ -1,4 +1,3 @@
 -- A card in memory, and what its calls come to.
 pub mod Memory
-pub mod Writes
 pub mod Answered

@@ -20,10 +20,11 @@ use Rattle.card_rules.specs.Edge.{atFirstPlace, fresh, taken, begunFrom, begun,
 use Rattle.card_rules.specs.Calls.{isDisabled, edgeOf}
 use Rattle.card.specs.declared.Frame.{Frame}
 use Rattle.card.specs.Memory.{bitIn, byteIn, bitsIn, frameIn, settingsFrom, from, cellsAt, countIn, samplesAt, engineAt, engineIn, Head, headAt, headIn, placeIn, shapeIn, cardIn, framed, Moves}
-use Rattle.card.specs.Writes.{Write, at}
+use Rattle.laws.specs.Writes.{Write, at}
 use Rattle.card.specs.Answered.{Tells}
 use Rattle.card.proofs.Frames.{Sizes, sizes}
-use Rattle.card.proofs.Stored.{after, in-memory, moved, bit-on, bit-off, tells-so, tells-not}
+use Rattle.laws.proofs.Stored.{after, in-memory}
+use Rattle.card.proofs.Stored.{moved, bit-on, bit-off, tells-so, tells-not}
 use Rattle.card.proofs.Rings.{below-8, samples-none, samples-full, samples-room, samples-pop, samples-push}
 use Rattle.card.proofs.CallsHold.{refusing, cell-read, eight-cells, on-unless, off-unless}
 use Rattle.card_edge.specs.Shown.{shownBit}
@@ -46,7 +47,7 @@ module _ (w : List ℕ) (n : length w ≡ 40) where
   unfolding if_then_else_ bitIn byteIn samplesAt
   none-taken =
       let xs : List Write = at 3 1 ∷ at 4 1 ∷ at 5 0 ∷ at 6 0 ∷ at 7 0 ∷ at 11 1 ∷ [] in
-      moved w xs n (in-memory xs refl) refl refl
+      moved w xs n (in-memory 40 xs refl) refl refl
 
   pub take-none : countIn (p 14) ≡ 0 →
       Moves (λ s e. taken (e .waiting) e) w (set (set (set (set (set (set w 3 1) 4 1) 5 0) 6 0) 7 0) 11 1)
@@ -60,7 +61,7 @@ module _ (w : List ℕ) (n : length w ≡ 40) where
   unfolding if_then_else_ bitIn byteIn samplesAt
   some-taken sample first count =
       let xs : List Write = at 3 1 ∷ at 4 0 ∷ at 5 sample ∷ at 6 0 ∷ at 7 0 ∷ at 13 first ∷ at 14 count ∷ [] in
-      moved w xs n (in-memory xs refl) refl refl
+      moved w xs n (in-memory 40 xs refl) refl refl
 
   pub take-first : (held : ℕ) → held ≡ countIn (p 14) → (held ≡ 0 → ⊥) →
       Moves (λ s e. taken (e .waiting) e) w
@@ -100,14 +101,13 @@ module _ (w : List ℕ) (f : Frame) (is : f ≡ framed (shapeIn w)) where
       (if-true (atFirstPlace (shapeIn w) (engineIn w .place)) _ _ (sym first-same ∙ first)
       ∙ ap (λ (v : Way). begunFrom v (engineIn w)) (way-idle w none)))
 
-  pub begin-under : (eqb (placeIn w 2 % 256) (f .first) || eqb (placeIn w 2 % 256) (f .second)) ≡ true → (placeIn w 3 % 2 ≡ 0 → ⊥) →
-      Moves begun w w
+  pub begin-under : (placeIn w 3 % 2 ≡ 0 → ⊥) → Moves begun w w
   unfolding begun
-  begin-under first some =
+  begin-under some =
       stays
       (sym
-      (if-true (atFirstPlace (shapeIn w) (engineIn w .place)) _ _ (sym first-same ∙ first)
-      ∙ ap (λ (v : Way). begunFrom v (engineIn w)) (way-sends w some)))
+      (if-keeps (λ (x : Engine). x ≡ engineIn w) (atFirstPlace (shapeIn w) (engineIn w .place)) _ _
+      (λ _. ap (λ (v : Way). begunFrom v (engineIn w)) (way-sends w some)) (λ _. refl)))
 
   pub begin-away : (eqb (placeIn w 2 % 256) (f .first) || eqb (placeIn w 2 % 256) (f .second)) ≡ false → Moves begun w w
   unfolding begun
@@ -135,7 +135,7 @@ received-engines place v count j small =
 module _ (w : List ℕ) (n : length w ≡ 40) (received : ℕ) where
   dropped : Moves (λ s e. withWay idle (withOverflow true e)) w (set (set w 3 0) 12 1)
   unfolding if_then_else_ bitIn samplesAt
-  dropped = let xs : List Write = at 3 0 ∷ at 12 1 ∷ [] in moved w xs n (in-memory xs refl) refl refl
+  dropped = let xs : List Write = at 3 0 ∷ at 12 1 ∷ [] in moved w xs n (in-memory 40 xs refl) refl refl
 
   pub finish-full : 8 ≤ placeIn w 16 → Moves (λ s. finished received) w (set (set w 3 0) 12 1)
   unfolding finished engineIn
@@ -237,7 +237,7 @@ module _ (w : List ℕ) (sdi : Bool) (none : placeIn w 3 % 2 ≡ 0) where
 
   low : length w ≡ 40 → Moves (λ s e. withSdo false e) w (set w 10 0)
   unfolding if_then_else_ bitIn samplesAt
-  low n = let xs : List Write = at 10 0 ∷ [] in moved w xs n (in-memory xs refl) refl refl
+  low n = let xs : List Write = at 10 0 ∷ [] in moved w xs n (in-memory 40 xs refl) refl refl
 
   pub clock-open : length w ≡ 40 → placeIn w 2 % 2 ≡ 0 → Moves (λ s. clocked s sdi) w (set w 10 0)
   unfolding opened
@@ -308,17 +308,17 @@ module _ (w : List ℕ) (f : Frame) (is : f ≡ framed (shapeIn w)) (sdi : Bool)
   wrote-sdo : length w ≡ 40 → (edges sdo : ℕ) →
       Moves (λ _ n. withWay (onward edges (placeIn w 7)) (withSdo (bitIn sdo) n)) w (set (set w 6 edges) 10 sdo)
   unfolding if_then_else_ samplesAt
-  wrote-sdo n edges sdo = let xs : List Write = at 6 edges ∷ at 10 sdo ∷ [] in moved w xs n (in-memory xs refl) refl refl
+  wrote-sdo n edges sdo = let xs : List Write = at 6 edges ∷ at 10 sdo ∷ [] in moved w xs n (in-memory 40 xs refl) refl refl
 
   wrote-received : length w ≡ 40 → (edges received : ℕ) →
       Moves (λ _ n. withWay (onward edges received) n) w (set (set w 6 edges) 7 received)
   unfolding if_then_else_ samplesAt
   wrote-received n edges received =
-      let xs : List Write = at 6 edges ∷ at 7 received ∷ [] in moved w xs n (in-memory xs refl) refl refl
+      let xs : List Write = at 6 edges ∷ at 7 received ∷ [] in moved w xs n (in-memory 40 xs refl) refl refl
 
   wrote-edges : length w ≡ 40 → (edges : ℕ) → Moves (λ _ n. withWay (onward edges (placeIn w 7)) n) w (set w 6 edges)
   unfolding if_then_else_ samplesAt
-  wrote-edges n edges = let xs : List Write = at 6 edges ∷ [] in moved w xs n (in-memory xs refl) refl refl
+  wrote-edges n edges = let xs : List Write = at 6 edges ∷ [] in moved w xs n (in-memory 40 xs refl) refl refl
 
   small : e + 1 < f .last → e + 1 < 256
   small short = omega (arith, frame-small w f is .0)
@@ -405,7 +405,7 @@ module _ (w : List ℕ) (n : length w ≡ 40) (f : Frame) (is : f ≡ framed (sh
       })
       w (set (set (set w 2 place) 8 sck) 9 lrck)
   unfolding if_then_else_ samplesAt
-  wrote-turn place = let xs : List Write = at 2 place ∷ at 8 sck ∷ at 9 lrck ∷ [] in moved w xs n (in-memory xs refl) refl refl
+  wrote-turn place = let xs : List Write = at 2 place ∷ at 8 sck ∷ at 9 lrck ∷ [] in moved w xs n (in-memory 40 xs refl) refl refl
 
   turned-sck : bitIn sck ≡ not (engineIn w .pins .sck)
   unfolding engineIn bitIn

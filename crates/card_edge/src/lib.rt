@@ -36,14 +36,14 @@ fn take(w: &mut [u32; 40])
     w[14] = count - 1;
 }
 
-// At a channel's first place a sample begins, unless one is under way.
+// At a channel's first place a sample begins, unless one is under way, which is asked first since it mostly is.
 fn begin(w: &mut [u32; 40], f: Frame)
     requires { ⌜ f ≡ framed (shapeIn (now w)) ⌝ }
     ensures { λ _. ⌜ Moves begun (now (w .entry)) (now (w .exit)) ⌝ }
 {
-    let place = w[2] % 256;
-    if (place == f.first) | (place == f.second) {
-        if w[3] % 2 == 0 {
+    if w[3] % 2 == 0 {
+        let place = w[2] % 256;
+        if (place == f.first) | (place == f.second) {
             take(w);
             return;
         }

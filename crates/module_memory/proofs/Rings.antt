@@ -14,6 +14,8 @@ use native.Mathlib.Omega.{arith}
 use borrow.Author.Tests.{lt-ltb, eq-eqb, ne-eqb, eqb-true, eqb-false, ltb-true}
 use lib.Dec.{eqb, ltb, eqb·suc-zero, eqb·zero-suc, eqb·suc-suc}
 use lib.ListN.{length, set, getD}
+use Rattle.laws.specs.Writes.{Write, at, writes}
+use Rattle.laws.proofs.Stored.{after, within}
 use Rattle.laws.specs.Choice.{if_then_else_}
 use Rattle.laws.proofs.Keeps.{if-keeps, if-false, and-both, or-rest, by-test}
 use Rattle.module_types.specs.declared.Transmit.{Transmit}
@@ -22,8 +24,7 @@ use Rattle.module_types.specs.declared.Engine.{Engine}
 use Rattle.module_rules.specs.Buffers.{capacity, cell}
 use Rattle.module_rules.specs.Changes.{withTransmit, withReceive}
 use Rattle.module_memory.specs.Memory.{bitIn, byteIn, placeIn, from, cellsAt, wordsAt, settingsAt, transmitAt, receiveAt, shiftAt, pinsAt, settingsIn, engineIn, pushed, arrived, Steps}
-use Rattle.module_memory.specs.Writes.{Write, at, writes}
-use Rattle.module_memory.proofs.Stored.{after, within, engine-step}
+use Rattle.module_memory.proofs.Stored.{engine-step}
 
 -- A list of cells.
 pub cell-read : (n : ℕ) (place : ℕ → ℕ) (i : ℕ) → i < n → getD (cellsAt n place) i 0 ≡ place i
@@ -111,7 +112,7 @@ module _ (place : ℕ → ℕ) (base n i v x y : ℕ) (named : i < n) (room : n 
 
 -- A word put into a buffer of a module in memory.
 module _ (w : List ℕ) (whole : length w ≡ 96) (i v x y on count : ℕ) (e : byteIn x ≡ on) (f : byteIn y ≡ count) where
-  fit : (base : ℕ) → i < capacity → base + 19 ≤ 96 → within (ringWrites base i v x y) ≡ true
+  fit : (base : ℕ) → i < capacity → base + 19 ≤ 96 → within 96 (ringWrites base i v x y) ≡ true
   fit base named room =
       and-both (ltb (base + i) 96) _ (lt-ltb (base + i) 96 (omega arith))
       (and-both (ltb (base + 16) 96) _ (lt-ltb (base + 16) 96 (omega arith))

@@ -1,19 +1,8 @@
--- Single numbers that are written into memory, one after the other.
+-- The words of a buffer that are written into memory.
 use Prim.Native.Nat.{ℕ, _+_}
 use mathlib.Core.List.{List, [], _∷_}
-use lib.ListN.{getD, set}
-
--- A place and the number that is written there.
-pub record Write : Type 0 where
-  pub place : ℕ
-  pub number : ℕ
-
-abbrev pub at : ℕ → ℕ → Write
-at place number = record { place = place; number = number }
-
-abbrev pub writes : List ℕ → List Write → List ℕ
-writes w [] = w
-writes w (x ∷ xs) = writes (set w (x .place) (x .number)) xs
+use lib.ListN.{getD}
+use Rattle.laws.specs.Writes.{Write, at}
 
 -- The words of a buffer, from a place on.
 abbrev pub wordsWritten : ℕ → List ℕ → List Write

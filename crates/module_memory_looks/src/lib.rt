@@ -22,7 +22,7 @@ ghost use Rattle.module_rules.specs.Registers.{isFree};
 ghost use Rattle.module_rules.specs.Buffers.{firstWaiting, firstUnread};
 ghost use Rattle.module_rules.specs.Loading.{isBegun};
 ghost use Rattle.module_memory.specs.Memory.{placeIn, from, wordsAt, progressAt, settingsIn, engineIn, moduleIn};
-ghost use Rattle.module_memory.specs.Writes.{writes};
+ghost use Rattle.laws.specs.Writes.{writes};
 
 // CON1.
 pub fn con1_in(w: &[u16; 96]) -> Con1

@@ -16,7 +16,8 @@ ghost use Rattle.module_rules.specs.Changes.{withTransmit, withReceive, withShi
 ghost use Rattle.module_rules.specs.Registers.{con1From, con2From, statSettings};
 ghost use Rattle.module_rules.specs.Calls.{poweredAt, poweredUp, withCon1, withCon2};
 ghost use Rattle.module_memory.specs.Memory.{bitIn, byteIn, depthIn, from, moduleIn, goneOn, withMark, pushed, popped, arrived, fetched, Steps, Sets};
-ghost use Rattle.module_memory.specs.Writes.{writes, wordsWritten};
+ghost use Rattle.laws.specs.Writes.{writes};
+ghost use Rattle.module_memory.specs.Writes.{wordsWritten};
 
 // A level or a flag as a number.
 fn number(b: bool) -> u16

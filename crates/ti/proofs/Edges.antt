@@ -28,7 +28,7 @@ use Rattle.ti_rules.specs.Finish.{finished}
 use Rattle.ti_rules.specs.Edge.{latches, receivedAfter, sdoAfter, shifted, clocked, underWay, edged}
 use Rattle.ti.specs.Memory.{flagIn, lengthIn, characterAt, placeIn, tiIn, Steps}
 use Rattle.ti.specs.Steps.{loadedWith, nextLoaded, landed, zerosLoaded}
-use Rattle.ti.specs.Writes.{at, writes}
+use Rattle.laws.specs.Writes.{at, writes}
 use Rattle.ti.proofs.Calls.{alike}
 use Rattle.ti.proofs.Parts.{onwards, goes, latch-stored, show-stored, busy-there, one-there}
 

@@ -28,7 +28,7 @@ use Rattle.ti_rules.specs.Characters.{isFull, isFree, fresh, loadedFrom, betwee
 use Rattle.ti_rules.specs.Edge.{seen}
 use Rattle.ti.specs.Memory.{flagIn, lengthIn, settingsAt, characterAt, placeIn, tiIn, Becomes, Steps, withReset, withMode}
 use Rattle.ti.specs.Steps.{loadedWith, landed, nextLoaded, zerosLoaded}
-use Rattle.ti.specs.Writes.{at, writes}
+use Rattle.laws.specs.Writes.{at, writes}
 use Rattle.ti.proofs.Stored.{stored, stepped}
 use Rattle.ti.proofs.Calls.{_then_, alike}
 

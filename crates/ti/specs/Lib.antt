@@ -1,4 +1,3 @@
 -- A TI module in memory.
 pub mod Memory
-pub mod Writes
 pub mod Steps

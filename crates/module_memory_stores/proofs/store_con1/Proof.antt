@@ -8,7 +8,7 @@ use Rattle.laws.specs.Choice.{if_then_else_}
 use Rattle.module_rules.specs.Registers.{con1From}
 use Rattle.module_rules.specs.Calls.{withCon1}
 use Rattle.module_memory.specs.Memory.{settingsIn, engineIn}
-use Rattle.module_memory.specs.Writes.{at}
+use Rattle.laws.specs.Writes.{at}
 use Rattle.module_memory.proofs.Stored.{settings-set}
 use Rattle.module_memory.proofs.Bytes.{byte-small}
 use Rattle.module_memory_stores.proofs.store_con1.Statement.{statement}

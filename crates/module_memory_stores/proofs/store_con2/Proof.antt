@@ -5,7 +5,7 @@ use mathlib.Core.List.{[], _∷_}
 use Rattle.laws.specs.Choice.{if_then_else_}
 use Rattle.module_rules.specs.Calls.{withCon2}
 use Rattle.module_memory.specs.Memory.{settingsIn, engineIn}
-use Rattle.module_memory.specs.Writes.{at}
+use Rattle.laws.specs.Writes.{at}
 use Rattle.module_memory.proofs.Stored.{settings-set}
 use Rattle.module_memory_stores.proofs.store_con2.Statement.{statement}
 use Rattle.module_memory_stores.proofs.store_con2.Tie as tie

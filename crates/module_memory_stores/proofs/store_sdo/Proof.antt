@@ -4,7 +4,7 @@ use mathlib.Core.Path.{refl}
 use mathlib.Core.List.{[], _∷_}
 use Rattle.laws.specs.Choice.{if_then_else_}
 use Rattle.module_memory.specs.Memory.{settingsIn, engineIn}
-use Rattle.module_memory.specs.Writes.{at}
+use Rattle.laws.specs.Writes.{at}
 use Rattle.module_memory.proofs.Stored.{engine-step}
 use Rattle.module_memory_stores.proofs.store_sdo.Statement.{statement}
 use Rattle.module_memory_stores.proofs.store_sdo.Tie as tie
