@@ -8,14 +8,11 @@ use module_types::Settings;
 ghost use Prim.Native.Nat.{_-_, _≤_};
 ghost use mathlib.Core.Bool.{true, false};
 ghost use mathlib.Core.Path.{_≡_};
-ghost use Rattle.word_order.specs.Bits.{bitOf};
-ghost use Rattle.module_rules.specs.Changes.{withSdo};
-ghost use Rattle.module_rules.specs.Finish.{finished};
 ghost use Rattle.word_rules.specs.Word.{wordOf};
 ghost use Rattle.link_rules.specs.Link.{clientSees, hostTurn, clientTurn, eitherDisabled, wrongRoles, differentModes, linkedOf, linkSaidOf};
-ghost use Rattle.link_words.specs.LinkWords.{Matched, Running, between, atBeginning, heardOf};
+ghost use Rattle.link_words.specs.LinkWords.{Matched, Running, atBeginning, heardOf};
 ghost use Rattle.link_words.proofs.Begins.{firstLevels};
-ghost use Rattle.module_memory.specs.Memory.{settingsIn, engineIn, moduleIn, Steps};
+ghost use Rattle.module_memory.specs.Memory.{settingsIn, engineIn, moduleIn};
 ghost use Rattle.link_calls.specs.Wire.{openLevel, runIn, Links};
 
 // The most edges that a run may be asked for: two for each of 16 bits of 17 words.
@@ -68,23 +65,15 @@ fn client_turn(host: &mut [u16; 96], client: &mut [u16; 96], left: u16) -> u16
     host_turn(host, client, left - 1) + 1
 }
 
-// Whether an end has no word begun and SCK at the idle level, and whether both are so and the host has a word to send.
-fn is_between(w: &[u16; 96]) -> bool
-    ensures { λ r. ⌜ r ≡ between (moduleIn (now (w .entry))) ⌝ }
-{
-    let s = module_memory_looks::settings_in(w);
-    let pins = module_memory_looks::pins_in(w);
-    !module_memory_looks::is_begun(w) & (pins.sck == s.con1.ckp)
-}
-
+// Whether both ends are at a word's beginning and the host has a word to send.
 fn are_beginning(host: &[u16; 96], client: &[u16; 96]) -> bool
     ensures { λ r. ⌜ r ≡ atBeginning (moduleIn (now (host .entry))) (moduleIn (now (client .entry))) ⌝ }
 {
-    !module_memory_looks::is_free(host) & (is_between(host) & is_between(client))
+    !module_memory_looks::is_free(host)
+        & (word_calls::is_between(host) & word_calls::is_between(client))
 }
 
-// What the other end samples of a word from its beginning: its bits, but that with CKE 1 the first level stands before the first edge; and zeros
-// under DISSDO.
+// What the other end samples of a word from its beginning: the levels of SDO, and zeros under DISSDO.
 fn heard(w: &[u16; 96], word: u16) -> u16
     ensures { λ r. ⌜ r ≡ firstLevels (settingsIn (now (w .entry))) word (engineIn (now (w .entry)) .pins .sdo) ⌝ }
 {
@@ -93,19 +82,7 @@ fn heard(w: &[u16; 96], word: u16) -> u16
     if s.con1.dissdo {
         return 0;
     }
-    if !module_settings::cke(s) {
-        return module_bits::low_bits(s, word);
-    }
-    let top = 1u32 << (module_settings::width(s) - 1);
-    (word as u32 % top + pins.sdo as u32 * top) as u16
-}
-
-// All edges of a word from its beginning: SCK is where it was, SDO at the lowest bit, and what was heard is received.
-fn make_word(w: &mut [u16; 96], filler: bool, word: u16, heard: u16)
-    ensures { λ _. ⌜ Steps (λ s n. finished s filler heard (withSdo (bitOf word 0) n)) (now (w .entry)) (now (w .exit)) ⌝ }
-{
-    module_memory_stores::store_sdo(w, module_bits::bit(word, 0));
-    module_word_steps::finish(w, filler, heard);
+    word_calls::levels_first(s, word, pins.sdo)
 }
 
 // A word at both ends, each with what it hears from the other.
@@ -118,8 +95,8 @@ fn exchange(host: &mut [u16; 96], client: &mut [u16; 96])
     let answered = word_calls::current_in(client);
     let to_client = heard(host, sent.word);
     let to_host = heard(client, answered.word);
-    make_word(host, sent.filler, sent.word, to_host);
-    make_word(client, answered.filler, answered.word, to_client);
+    word_calls::make_first(host, sent.filler, sent.word, to_host);
+    word_calls::make_first(client, answered.filler, answered.word, to_client);
 }
 
 // A run with some edges left: whole words while both ends are at a word's beginning and enough edges are left for it, and then turns.

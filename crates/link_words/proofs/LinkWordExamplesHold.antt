@@ -18,7 +18,8 @@ use Rattle.module_rules.specs.Registers.{weighed, con1From, con1Value, con2From
 use Rattle.module_rules.specs.Select.{selectRemembered, aborted, selectSeen}
 use Rattle.word_rules.specs.Word.{bitsSampled, current, resting, hasWord, idleFirst, bitsLeft, sdiAt, levelOn, wholeWord, stepLevel, oneStep, wordOf}
 use Rattle.link_rules.specs.Link.{levelRead, madeEdge, hostTicked, clientSees, runStops, oneMore, clientTurn, handedOver, hostTurn, toldOf, linkSaidOf}
-use Rattle.link_words.specs.LinkWords.{between, atBeginning, heardOf, further, wordThenTurns}
+use Rattle.word_begins.specs.Beginning.{between}
+use Rattle.link_words.specs.LinkWords.{atBeginning, heardOf, further, wordThenTurns}
 use Rattle.link_words.specs.LinkWordExamples.{linkWordExamples}
 
 pub link-word-examples-hold : linkWordExamples ≡ true

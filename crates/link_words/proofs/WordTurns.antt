@@ -18,7 +18,7 @@ use Rattle.module_types.specs.declared.Pins.{Pins}
 use Rattle.module_types.specs.declared.Module.{Module}
 use Rattle.module_types.specs.declared.Progress.{Progress}
 use Rattle.module_rules.specs.Changes.{withSdo}
-use Rattle.module_rules.specs.Settings.{widthOf, framed, silent, ownClock}
+use Rattle.module_rules.specs.Settings.{widthOf, framed, silent, ownClock, ssenClient}
 use Rattle.module_rules.specs.Registers.{isFree}
 use Rattle.module_rules.specs.Loading.{isBegun}
 use Rattle.module_rules.specs.Bits.{progressed}
@@ -32,8 +32,10 @@ use Rattle.word_rules.proofs.Values.{received-small}
 use Rattle.word_rules.proofs.WordMade.{at, told-on, told-end}
 use Rattle.link_rules.specs.declared.Run.{Run}
 use Rattle.link_rules.specs.Link.{oneMore, hostTurn}
-use Rattle.link_words.specs.LinkWords.{Matched, Running, between, atBeginning, heardOf, further, wordThenTurns}
-use Rattle.link_words.proofs.Begins.{Begins, none-given, small, under, made, carried, firstLevels, first-fits, heard-first, made-fresh}
+use Rattle.word_begins.specs.Beginning.{between}
+use Rattle.word_begins.proofs.Begins.{Begins, none-given, small, under, made}
+use Rattle.link_words.specs.LinkWords.{Matched, Running, atBeginning, heardOf, further, wordThenTurns}
+use Rattle.link_words.proofs.Begins.{carried, firstLevels, first-fits, heard-first, made-fresh}
 use Rattle.link_words.proofs.Turn.{InStep, turned-both, step-on}
 
 -- Edges used one by one.
@@ -106,22 +108,24 @@ module _ (host client : Module) (run : Running host client) (start : atBeginning
   unfolding atBeginning
   both-rest = and-right (not (isFree (n .shift))) _ start
 
-  host-begins : Begins s n
+  host-begins : Begins s n false
   host-begins =
       record {
         on = pair .hostOn;
         plain = pair .unframed;
         loud = and-false (silent s) _ busy;
+        chosen = and-false (ssenClient s) _ refl;
         heard = if-true (ownClock s) _ _ (pair .own);
         rests = and-left (between host) _ both-rest;
       }
 
-  client-begins : Begins u m
+  client-begins : Begins u m false
   client-begins =
       record {
         on = pair .clientOn;
         plain = pair .clientUnframed;
         loud = and-first (silent u) _ (if-false (framed u) _ _ (pair .clientUnframed) ∙ pair .isClient);
+        chosen = and-false (ssenClient u) _ refl;
         heard = if-false (ownClock u) _ _ (and-first (u .con1 .msten) _ (pair .isClient)) ∙ sym (run .selected);
         rests = and-right (between host) _ both-rest;
       }
@@ -134,9 +138,9 @@ module _ (host client : Module) (run : Running host client) (start : atBeginning
   in-step =
       record {
         busy = busy;
-        hostUnder = under s n host-begins;
-        clientUnder = under u m client-begins;
-        edges = none-given u m client-begins ∙ sym (none-given s n host-begins);
+        hostUnder = under s n false host-begins;
+        clientUnder = under u m false client-begins;
+        edges = none-given u m false client-begins ∙ sym (none-given s n false host-begins);
         clock =
             idle-level client (client-begins .rests) ∙ sym (pair .ckp) ∙ sym (idle-level host (host-begins .rests));
         low = run .selected;
@@ -150,9 +154,9 @@ module _ (host client : Module) (run : Running host client) (start : atBeginning
       let some = width-least s in
       let last : suc (wordEdges s - 1) ≡ wordEdges s = omega arith in
       turns s u pair (heardOf client) (heardOf host) (wordEdges s - 1) (left - wordEdges s) left n m (current s n) (current u m) in-step
-      (omega arith) (omega (arith, none-given s n host-begins)) (small s n host-begins) (small u m client-begins)
+      (omega arith) (omega (arith, none-given s n false host-begins)) (small s n false host-begins) (small u m false client-begins)
       ∙ ap₂ further last
-      (ap₂ (hostTurn (left - wordEdges s)) (sym (made s n host-begins (heardOf client))) (sym (made u m client-begins (heardOf host))))
+      (ap₂ (hostTurn (left - wordEdges s)) (sym (made s n false host-begins (heardOf client))) (sym (made u m false client-begins (heardOf host))))
 
   -- What each end makes of what it hears.
   pub host-made : {word : ℕ} {after : Module} → word ≡ firstLevels u (current u m .word) (m .pins .sdo) →
@@ -182,5 +186,5 @@ module _ (host client : Module) (run : Running host client) (start : atBeginning
   pub running-on : {after seen : Module} → after ≡ wordOf host false (heardOf client) .after → seen ≡ wordOf client false (heardOf host) .after →
       Running after seen
   running-on e f =
-      subst₂ Running (sym (e ∙ made s n host-begins (heardOf client))) (sym (f ∙ made u m client-begins (heardOf host)))
+      subst₂ Running (sym (e ∙ made s n false host-begins (heardOf client))) (sym (f ∙ made u m false client-begins (heardOf host)))
       (record { matched = pair; selected = ss-stays (heardOf host) })

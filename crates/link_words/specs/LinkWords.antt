@@ -1,16 +1,16 @@
 -- A linked run (document 01, "Two modules on one wire") where both ends are at a word's beginning: the edges of that word at both ends, at once.
 -- It brings no rule of its own, since it is proved to be so many turns.
 use Prim.Native.Nat.{ℕ, _+_, _-_}
-use mathlib.Core.Bool.{Bool, true, false, not, _&&_, Bool·beq}
+use mathlib.Core.Bool.{Bool, true, false, not, _&&_}
 use mathlib.Core.Path.{_≡_}
 use Rattle.laws.specs.Choice.{if_then_else_}
 use Rattle.module_types.specs.declared.Settings.{Settings}
 use Rattle.module_types.specs.declared.Module.{Module}
 use Rattle.module_rules.specs.Settings.{widthOf, framed, ckeOf, ownClock}
 use Rattle.module_rules.specs.Registers.{isFree}
-use Rattle.module_rules.specs.Loading.{isBegun}
 use Rattle.module_rules.specs.Edge.{wordEdges}
 use Rattle.word_rules.specs.Word.{wordOf}
+use Rattle.word_begins.specs.Beginning.{between}
 use Rattle.link_rules.specs.declared.Run.{Run}
 use Rattle.link_rules.specs.Link.{hostTurn}
 
@@ -30,10 +30,6 @@ pub record Matched (s u : Settings) : Type 0 where
 pub record Running (host client : Module) : Type 0 where
   pub matched : Matched (host .settings) (client .settings)
   pub selected : client .engine .pins .ss ≡ false
-
--- SCK at the idle level with no word begun.
-unfoldable pub between : Module → Bool
-between m = not (isBegun (m .engine .shift)) && Bool·beq (m .engine .pins .sck) (m .settings .con1 .ckp)
 
 -- Both ends at a word's beginning: the host has one to send.
 unfoldable pub atBeginning : Module → Module → Bool

@@ -7,11 +7,15 @@ use module_types::Shift;
 ghost use Prim.Native.Nat.{_+_, _*_, _%_, _^_, _<_, _≤_};
 ghost use mathlib.Core.Bool.{true, false};
 ghost use mathlib.Core.Path.{_≡_};
+ghost use Rattle.word_order.specs.Bits.{bitOf};
 ghost use Rattle.module_types.specs.declared.Shift.the-variants.{Free};
+ghost use Rattle.module_rules.specs.Changes.{withSdo};
+ghost use Rattle.module_rules.specs.Finish.{finished};
 ghost use Rattle.module_rules.specs.Edge.{wordEdges};
 ghost use Rattle.module_memory.specs.Memory.{settingsIn, engineIn, moduleIn, Steps};
 ghost use Rattle.word_rules.specs.Word.{current, resting, hasWord, idleFirst, bitsLeft, stepLevel, oneStep, wordOf, wordsIn, edgesIn, edgesOwed};
 ghost use Rattle.word_rules.proofs.Closed.{lastSdo, allLevels, remembered, readied};
+ghost use Rattle.word_begins.specs.Beginning.{between, atStart, levelsFirst};
 ghost use Rattle.word_calls.specs.Speaking.{Speaks, wordNumber, WordTells, nextNumber};
 
 // What a word call answers: as its first clock step does, how many levels SDO had where it is sampled, and those levels as a number.
@@ -196,6 +200,58 @@ fn make_word(w: &mut [u16; 96], ss: bool, word: u16) -> Spoken
     }
 }
 
+// From a word's beginning: whether no word is begun and SCK is at the idle level.
+pub fn is_between(w: &[u16; 96]) -> bool
+    ensures { λ r. ⌜ r ≡ between (moduleIn (now (w .entry))) ⌝ }
+{
+    let s = module_memory_looks::settings_in(w);
+    let pins = module_memory_looks::pins_in(w);
+    !module_memory_looks::is_begun(w) & (pins.sck == s.con1.ckp)
+}
+
+// The levels of SDO where its edges sample: its bits, but that with CKE 1 the first level stands before the first edge.
+pub fn levels_first(s: Settings, word: u16, sdo: bool) -> u16
+    ensures { λ r. ⌜ r ≡ levelsFirst s word sdo ⌝ }
+{
+    if !module_settings::cke(s) {
+        return module_bits::low_bits(s, word);
+    }
+    let top = 1u32 << (module_settings::width(s) - 1);
+    (word as u32 % top + sdo as u32 * top) as u16
+}
+
+// All its edges: SCK is where it was, SDO at the lowest bit, and these bits are received.
+pub fn make_first(w: &mut [u16; 96], filler: bool, word: u16, received: u16)
+    ensures { λ _. ⌜ Steps (λ s n. finished s filler received (withSdo (bitOf word 0) n)) (now (w .entry)) (now (w .exit)) ⌝ }
+{
+    module_memory_stores::store_sdo(w, module_bits::bit(word, 0));
+    module_word_steps::finish(w, filler, received);
+}
+
+// Whether a host with its own clock is there with a word to send.
+fn is_at_start(w: &[u16; 96]) -> bool
+    ensures { λ r. ⌜ r ≡ atStart (moduleIn (now (w .entry))) ⌝ }
+{
+    let s = module_memory_looks::settings_in(w);
+    let host = s.spien & (module_settings::own_clock(s) & !module_settings::is_framed(s));
+    host & (!module_memory_looks::is_free(w) & is_between(w))
+}
+
+// Its word call, which asks less than that of any other module; the select level does not count.
+fn told_first(w: &mut [u16; 96], ss: bool, incoming: u16) -> u32
+    requires { ⌜ atStart (moduleIn (now w)) ≡ true ⌝ }
+    ensures { λ r. ⌜ WordTells (wordOf (moduleIn (now (w .entry))) ss incoming) r (now (w .entry)) (now (w .exit)) ⌝ }
+{
+    let s = module_memory_looks::settings_in(w);
+    let p = current_in(w);
+    let sdo = module_memory_looks::pins_in(w).sdo;
+    let levels = levels_first(s, p.word, sdo);
+    let received = module_bits::low_bits(s, incoming);
+    let count = module_settings::width(s);
+    make_first(w, p.filler, p.word, received);
+    levels as u32 + count as u32 * 16777216
+}
+
 // The level of SCK in the one step that any other module makes.
 fn step_level(w: &[u16; 96], ss: bool) -> bool
     ensures { λ r. ⌜ r ≡ stepLevel (moduleIn (now (w .entry))) ss ⌝ }
@@ -255,6 +311,9 @@ fn word_number(a: Answer, count: u8, levels: u32) -> u32
 pub fn told(w: &mut [u16; 96], ss: bool, incoming: u16) -> u32
     ensures { λ r. ⌜ WordTells (wordOf (moduleIn (now (w .entry))) ss incoming) r (now (w .entry)) (now (w .exit)) ⌝ }
 {
+    if is_at_start(w) {
+        return told_first(w, ss, incoming);
+    }
     let spoken = word(w, ss, incoming);
     let answer = spoken.answer;
     word_number(answer, spoken.count, spoken.levels)

@@ -14,9 +14,9 @@ returns c =
     let sent = answered .before .before in
     let start = sent .before .before in (
       host-made _ _ (start .pre .0) (start .pre .1) (rw (answered .current-in2 .ensures) at (heard2 .heard2 .ensures))
-          (rw (sent .current-in .ensures) at (module-after (host-done .make-word .ensures))),
+          (rw (sent .current-in .ensures) at (module-after (host-done .make-first .ensures))),
       client-made _ _ (start .pre .0) (start .pre .1) (rw (sent .current-in .ensures) at (heard .heard .ensures))
-          (rw (answered .current-in2 .ensures) at (module-after (c .make-word2 .ensures))),
+          (rw (answered .current-in2 .ensures) at (module-after (c .make-first2 .ensures))),
     )
 
 pub exchange-spec : {M : Type 1} → statement M

@@ -1,8 +1,8 @@
 -- The definition, with what is looked up.
 use borrow.Author.Needs.{needs}
-use Rattle.link_words.specs.LinkWords.{between}
-use Rattle.link_calls.proofs.is_between.Statement.{statement}
-use Rattle.link_calls.proofs.is_between.Tie as tie
+use Rattle.word_begins.specs.Beginning.{between}
+use Rattle.word_calls.proofs.is_between.Statement.{statement}
+use Rattle.word_calls.proofs.is_between.Tie as tie
 
 returns : tie.Need-returns
 unfolding between

@@ -1,0 +1,2 @@
+-- A word call at a word's beginning.
+pub mod Beginning
