@@ -1,4 +1,5 @@
 -- The page holds at every call of longer lists than crates/module_rules runs, each from power-up.
+--     client-runs   clients with SSEN and without, and two words of a frame host
 --     frame-runs    words of each end of a frame, one behind the other, with either FRMDLY and FRMPOL
 --     full-run      every condition of SISEL, a full buffer each way, and the mark
 -- Assumes nothing.
@@ -11,7 +12,7 @@ use Rattle.ring.specs.Ring.{next, contents}
 use Rattle.word_order.specs.Bits.{bitOf}
 use Rattle.word_order.specs.Ledger.{opened, leftToSend, loses, firstOnWire, counted, closed, given}
 use Rattle.module_types.specs.declared.Call.{Call}
-use Rattle.module_types.specs.declared.Call.the-variants.{Read, Write, Clear}
+use Rattle.module_types.specs.declared.Call.the-variants.{Read, Write, Pin, Clear}
 use Rattle.module_rules.specs.Bits.{shiftedIn, receivedAfter, shownBit, sdoAfter, progressed}
 use Rattle.module_rules.specs.Buffers.{waiting, unread, emptyTransmit, emptyReceive, firstWaiting, firstUnread, written, departed, appended, taken, overrun}
 use Rattle.module_rules.specs.Calls.{refuse, answering, poweredAt, wordTaken, readBuf, readOf, turnsOn, turnsOff, statWritten, writeStat, withCon1, withCon2, configured, wordWritten, writeBuf, writeOf, clockStepOf, edgeTold, tickOf, pinsOf, clearOf, performOf, interruptOf, sckOf, undriven, sdoOf, ssOf}
@@ -85,3 +86,47 @@ full =
 full-run : Run full
 unfolding shiftedIn receivedAfter shownBit sdoAfter progressed emptyTransmit emptyReceive firstWaiting firstUnread written departed appended taken overrun refuse answering poweredAt wordTaken readBuf readOf turnsOn turnsOff statWritten writeStat withCon1 withCon2 configured wordWritten writeBuf writeOf clockStepOf edgeTold tickOf pinsOf clearOf performOf interruptOf sckOf undriven sdoOf ssOf if_then_else_ begun shifted advanced advancedIfBegun awaitsPulse underWay pulseDue pulseAfter pulsed clocked edged stepped overflowed wordAppended isLost delivered sentDropped freed finished raises noted wordLeaves moved canLoad loaded nextTop sdoAt rested numberOf bitOf weighed con1From con1Value con2From con2Value spitbf spirbf srxmpt srmpt atMost7 spibec statValue statSettings spirovAfter statEngine enabledEngine disabledEngine next selectRemembered aborted selectSeen opened leftToSend loses firstOnWire counted closed given unless judged told-of entered-as seen-as made run waiting unread contents
 full-run = refl
+
+-- A client with SSEN, of 8 bits without CKE and of 16 with it: select high and low, a word taken back, a filler, edges while not selected.
+abbrev selected : List Call
+selected =
+    one-by-one
+    (enabled 128 1
+    ∷ pins 1 true true
+    ∷ words (165 ∷ 60 ∷ [])
+    ∷ (Pin true true false ∷ Pin true true true ∷ Pin false true true ∷ Pin false true false ∷ [])
+    ∷ pins 3 true false
+    ∷ (Pin true true false ∷ Pin true true true ∷ Pin false true true ∷ Pin false true false ∷ [])
+    ∷ pins 17 false false
+    ∷ (Pin true true true ∷ Pin false true false ∷ Read 3 ∷ Read 3 ∷ Read 3 ∷ Read 0 ∷ [])
+    ∷ [])
+
+abbrev selectedWide : List Call
+selectedWide =
+    one-by-one
+    (enabled 1408 0
+    ∷ words (32769 ∷ 40960 ∷ [])
+    ∷ (Pin false false false ∷ [])
+    ∷ pins 2 true false
+    ∷ (Pin true true true ∷ Pin false true true ∷ Pin false true false ∷ [])
+    ∷ pins 18 true false
+    ∷ (Read 3 ∷ Pin true true true ∷ Read 0 ∷ [])
+    ∷ [])
+
+-- A client without SSEN: a filler, a word written within it, and an edge to the idle level before the first word.
+abbrev client : List Call
+client = one-by-one (enabled 0 1 ∷ pins 2 true true ∷ words (129 ∷ []) ∷ pins 16 true false ∷ (Read 3 ∷ Read 0 ∷ []) ∷ [])
+
+-- A client with CKP: an edge to the idle level before the first word begins nothing.
+abbrev clientLate : List Call
+clientLate =
+    one-by-one
+    ((Write 1 64 ∷ Write 0 32768 ∷ Pin true false false ∷ Pin false false false ∷ []) ∷ pins 1 true true ∷ words (129 ∷ []) ∷ pins 1 false true ∷ [])
+
+-- Two words of a frame host, one behind the other.
+abbrev twice : List Call
+twice = one-by-one (enabled 32 32768 ∷ words (165 ∷ 60 ∷ []) ∷ ticks 18 true false ∷ [])
+
+client-runs : Run selected × Run selectedWide × Run client × Run clientLate × Run twice
+unfolding shiftedIn receivedAfter shownBit sdoAfter progressed emptyTransmit emptyReceive firstWaiting firstUnread written departed appended taken overrun refuse answering poweredAt wordTaken readBuf readOf turnsOn turnsOff statWritten writeStat withCon1 withCon2 configured wordWritten writeBuf writeOf clockStepOf edgeTold tickOf pinsOf clearOf performOf interruptOf sckOf undriven sdoOf ssOf if_then_else_ begun shifted advanced advancedIfBegun awaitsPulse underWay pulseDue pulseAfter pulsed clocked edged stepped overflowed wordAppended isLost delivered sentDropped freed finished raises noted wordLeaves moved canLoad loaded nextTop sdoAt rested numberOf bitOf weighed con1From con1Value con2From con2Value spitbf spirbf srxmpt srmpt atMost7 spibec statValue statSettings spirovAfter statEngine enabledEngine disabledEngine next selectRemembered aborted selectSeen opened leftToSend loses firstOnWire counted closed given unless judged told-of entered-as seen-as made run waiting unread contents
+client-runs = (refl, refl, refl, refl, refl)

@@ -102,8 +102,8 @@ selected =
     ∷ (Pin true true false ∷ Pin true true true ∷ Pin false true true ∷ Pin false true false ∷ [])
     ∷ pins 3 true false
     ∷ (Pin true true false ∷ Pin true true true ∷ Pin false true true ∷ Pin false true false ∷ [])
-    ∷ pins 17 false false
-    ∷ (Pin true true true ∷ Pin false true false ∷ Read 3 ∷ Read 3 ∷ Read 3 ∷ Read 0 ∷ [])
+    ∷ pins 9 false false
+    ∷ (Read 3 ∷ Read 3 ∷ Read 0 ∷ [])
     ∷ [])
 
 abbrev selectedWide : List Call
@@ -114,19 +114,9 @@ selectedWide =
     ∷ (Pin false false false ∷ [])
     ∷ pins 2 true false
     ∷ (Pin true true true ∷ Pin false true true ∷ Pin false true false ∷ [])
-    ∷ pins 18 true false
-    ∷ (Read 3 ∷ Pin true true true ∷ Read 0 ∷ [])
+    ∷ pins 9 true false
+    ∷ (Read 0 ∷ [])
     ∷ [])
-
--- A client without SSEN: a filler, a word written within it, and an edge to the idle level before the first word.
-abbrev client : List Call
-client = one-by-one (enabled 0 1 ∷ pins 2 true true ∷ words (129 ∷ []) ∷ pins 16 true false ∷ (Read 3 ∷ Read 0 ∷ []) ∷ [])
-
--- A client with CKP: an edge to the idle level before the first word begins nothing.
-abbrev clientLate : List Call
-clientLate =
-    one-by-one
-    ((Write 1 64 ∷ Write 0 32768 ∷ Pin true false false ∷ Pin false false false ∷ []) ∷ pins 1 true true ∷ words (129 ∷ []) ∷ pins 1 false true ∷ [])
 
 -- The four pairings of frames: a clock of its own or from the pin, pulses given or taken, without FRMDLY (bit 1 of CON2) and FRMPOL (bit
 -- 13) and with both; CKE and SSEN are set in the last, where they count as 0. crates/module_page runs all pairings of the two bits.
@@ -147,10 +137,6 @@ pinTakes con2 ss =
 abbrev heedless : List Call
 heedless = one-by-one (enabled 384 57344 ∷ words (165 ∷ []) ∷ pins 2 true true ∷ pins 1 true false ∷ [])
 
--- Two words of a frame host, one behind the other.
-abbrev twice : List Call
-twice = one-by-one (enabled 32 32768 ∷ words (165 ∷ 60 ∷ []) ∷ ticks 18 true false ∷ [])
-
 -- Settings that cannot be enabled, registers written while enabled, registers that are not there, and the wrong clock.
 abbrev refused : List Call
 refused =
@@ -167,15 +153,15 @@ abbrev pub Run : List Call → Type 0
 Run cs = run cs (begins (powerUp Eight)) ≡ true
 
 unframed-runs :
-    Run host × Run wide × Run idle × Run pinned × Run selected × Run selectedWide × Run client × Run clientLate × Run refused
+    Run host × Run wide × Run idle × Run pinned × Run selected × Run selectedWide × Run refused
 unfolding shiftedIn receivedAfter shownBit sdoAfter progressed emptyTransmit emptyReceive firstWaiting firstUnread written departed appended taken overrun refuse answering poweredAt wordTaken readBuf readOf turnsOn turnsOff statWritten writeStat withCon1 withCon2 configured wordWritten writeBuf writeOf clockStepOf edgeTold tickOf pinsOf clearOf performOf interruptOf sckOf undriven sdoOf ssOf if_then_else_ begun shifted advanced advancedIfBegun awaitsPulse underWay pulseDue pulseAfter pulsed clocked edged stepped overflowed wordAppended isLost delivered sentDropped freed finished raises noted wordLeaves moved canLoad loaded nextTop sdoAt rested numberOf bitOf weighed con1From con1Value con2From con2Value spitbf spirbf srxmpt srmpt atMost7 spibec statValue statSettings spirovAfter statEngine enabledEngine disabledEngine next selectRemembered aborted selectSeen opened leftToSend loses firstOnWire counted closed given unless judged told-of entered-as seen-as made run waiting unread contents
-unframed-runs = (refl, refl, refl, refl, refl, refl, refl, refl, refl)
+unframed-runs = (refl, refl, refl, refl, refl, refl, refl)
 
 framed-runs :
     Run (ownGives 0) × Run (ownGives 8194) × Run (pinGives 0) × Run (pinGives 8194) × Run (ownTakes 0 false) × Run (ownTakes 8194 true)
-    × Run (pinTakes 0 false) × Run (pinTakes 8194 true) × Run heedless × Run twice
+    × Run (pinTakes 0 false) × Run (pinTakes 8194 true) × Run heedless
 unfolding shiftedIn receivedAfter shownBit sdoAfter progressed emptyTransmit emptyReceive firstWaiting firstUnread written departed appended taken overrun refuse answering poweredAt wordTaken readBuf readOf turnsOn turnsOff statWritten writeStat withCon1 withCon2 configured wordWritten writeBuf writeOf clockStepOf edgeTold tickOf pinsOf clearOf performOf interruptOf sckOf undriven sdoOf ssOf if_then_else_ begun shifted advanced advancedIfBegun awaitsPulse underWay pulseDue pulseAfter pulsed clocked edged stepped overflowed wordAppended isLost delivered sentDropped freed finished raises noted wordLeaves moved canLoad loaded nextTop sdoAt rested numberOf bitOf weighed con1From con1Value con2From con2Value spitbf spirbf srxmpt srmpt atMost7 spibec statValue statSettings spirovAfter statEngine enabledEngine disabledEngine next selectRemembered aborted selectSeen opened leftToSend loses firstOnWire counted closed given unless judged told-of entered-as seen-as made run waiting unread contents
-framed-runs = (refl, refl, refl, refl, refl, refl, refl, refl, refl, refl)
+framed-runs = (refl, refl, refl, refl, refl, refl, refl, refl, refl)
 
 -- Document 02, Eleven: so many clock steps with SCK at one level throughout, which counts for no host with its own clock; and clocks of
 -- them, from the idle level 0.
