@@ -12,17 +12,20 @@ use Rattle.board_calls.proofs.in_shift.Tie as tie
 returns : tie.Need-returns
 unfolding inShift
 returns c =
-    (by-case (inShift (c .before .before .before .before .args .s)) (c .before .before .sh .given .1) (so _ _ _ (filler-counts-none _ _ (c .if1 .taken)) refl), omega arith)
+    let at-sh = c .before .before in let start = at-sh .before .before in
+    (by-case (inShift (start .args .s)) (at-sh .sh .given .1) (so _ _ _ (filler-counts-none _ _ (c .if1 .taken)) refl), omega arith)
 
 returns-2 : tie.Need-returns-2
 unfolding inShift
 returns-2 c =
-    (by-case (inShift (c .before .before .before .before .before .args .s)) (c .before .before .before .sh .given .1) (not-so _ _ _ (host-counts (c .before .before .before .before .before .args .s) _ (c .before .if1 .left) (c .if2 .taken)) refl), omega arith)
+    let at-sh = c .before .before .before in let start = at-sh .before .before in
+    (by-case (inShift (start .args .s)) (at-sh .sh .given .1) (not-so _ _ _ (host-counts (start .args .s) _ (c .before .if1 .left) (c .if2 .taken)) refl), omega arith)
 
 returns-3 : tie.Need-returns-3
 unfolding inShift
 returns-3 c =
-    (by-case (inShift (c .before .before .before .before .before .before .before .args .s)) (c .before .before .before .before .before .sh .given .1) (so _ _ _ (client-counts-none _ _ (c .before .before .before .if1 .left) (sym (c .before .ssen-client .ensures) ∙ (c .if3 .taken))) refl), omega arith)
+    let at-if1 = c .before .before .before in let at-sh = at-if1 .before .before in let start = at-sh .before .before in
+    (by-case (inShift (start .args .s)) (at-sh .sh .given .1) (so _ _ _ (client-counts-none _ _ (at-if1 .if1 .left) (sym (c .before .ssen-client .ensures) ∙ (c .if3 .taken))) refl), omega arith)
 
 returns-4 : tie.Need-returns-4
 unfolding inShift
@@ -37,7 +40,8 @@ returns-5 c =
 returns-6 : tie.Need-returns-6
 unfolding inShift
 returns-6 c =
-    (by-case (inShift (c .before .before .before .before .before .before .before .args .s)) (c .before .before .before .before .before .sh .given .1) (not-so _ _ _ (or-both _ _ (c .before .before .before .if1 .left) (sym (c .before .ssen-client .ensures) ∙ (c .if3 .left))) refl), omega arith)
+    let at-if1 = c .before .before .before in let at-sh = at-if1 .before .before in let start = at-sh .before .before in
+    (by-case (inShift (start .args .s)) (at-sh .sh .given .1) (not-so _ _ _ (or-both _ _ (at-if1 .if1 .left) (sym (c .before .ssen-client .ensures) ∙ (c .if3 .left))) refl), omega arith)
 
 pub in-shift-spec : {M : Type 1} → statement M
 in-shift-spec =

@@ -17,20 +17,23 @@ returns c =
 returns-2 : tie.Need-returns-2
 unfolding askedOf if_then_else_ performOf levelIn
 returns-2 c =
-    let a = c .before .before .before .before .args in
-    asked-as 4 (a .x) (a .y) (a .z) (c .before .before .if2 .taken) (made (c .pins .ensures))
+    let at-if2 = c .before .before in let start = at-if2 .before .before in
+    let a = start .args in
+    asked-as 4 (a .x) (a .y) (a .z) (at-if2 .if2 .taken) (made (c .pins .ensures))
 
 returns-3 : tie.Need-returns-3
 unfolding askedOf if_then_else_ levelIn
 returns-3 c =
-    let a = c .before .before .before .before .before .args in
-    asked-as 8 (a .x) (a .y) (a .z) (c .before .before .if3 .taken) (stepped (c .clock-step .ensures))
+    let at-if3 = c .before .before in let start = at-if3 .before .before .before in
+    let a = start .args in
+    asked-as 8 (a .x) (a .y) (a .z) (at-if3 .if3 .taken) (stepped (c .clock-step .ensures))
 
 returns-4 : tie.Need-returns-4
 unfolding askedOf if_then_else_ levelIn
 returns-4 c =
-    let a = c .before .before .before .before .before .before .args in
-    asked-as 10 (a .x) (a .y) (a .z) (c .before .before .if4 .taken) (worded (c .told .ensures))
+    let at-if4 = c .before .before in let back-5 = at-if4 .before .before .before in let start = back-5 .before in
+    let a = start .args in
+    asked-as 10 (a .x) (a .y) (a .z) (at-if4 .if4 .taken) (worded (c .told .ensures))
 
 returns-5 : tie.Need-returns-5
 unfolding askedOf if_then_else_ performOf
@@ -66,27 +69,7 @@ pub make-spec : {M : Type 1} → statement M
 make-spec =
     tie.close
     (tie.spec
-    (λ c κs. search needs)
-    returns
-    (λ c κs. search needs)
-    returns-2
-    (λ c κs. search needs)
-    returns-3
-    (λ c. search needs)
-    (λ c κs. search needs)
-    returns-4
-    (λ c κs. search needs)
-    returns-5
-    (λ c. search needs)
-    (λ c κs. search needs)
-    returns-6
-    (λ c κs. search needs)
-    returns-7
-    (λ c κs. search needs)
-    returns-8
-    (λ c κs. search needs)
-    returns-9
-    (λ c κs. search needs)
-    returns-10
-    (λ c κs. search needs)
-    returns-11)
+    (λ c κs. search needs) returns (λ c κs. search needs) returns-2 (λ c κs. search needs) returns-3 (λ c. search needs)
+    (λ c κs. search needs) returns-4 (λ c κs. search needs) returns-5 (λ c. search needs) (λ c κs. search needs) returns-6
+    (λ c κs. search needs) returns-7 (λ c κs. search needs) returns-8 (λ c κs. search needs) returns-9 (λ c κs. search needs) returns-10
+    (λ c κs. search needs) returns-11)

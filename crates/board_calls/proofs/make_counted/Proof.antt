@@ -14,18 +14,21 @@ use Rattle.board_calls.proofs.make_counted.Tie as tie
 returns : tie.Need-returns
 unfolding askedOf if_then_else_ levelIn performOf answerNumber
 returns c =
-    let a = c .before .before .before .before .before .args in
-    let within = c .before .before .tick-within .ensures in
+    let at-tick-within = c .before .before in let at-if1 = at-tick-within .before .before in let start = at-if1 .before in
+    let a = start .args in
+    let within = at-tick-within .tick-within .ensures in
     let taken = c .before .if2 .taken in
-    owed-asked 3 (a .x) (a .y) (a .z) (c .before .before .before .before .if1 .taken)
+    owed-asked 3 (a .x) (a .y) (a .z) (at-if1 .if1 .taken)
     (makes-owed (made (told (within .taken taken) refl)) refl refl (within-owed (a .owed) (within .goes taken)) (c .both .ensures))
 
 returns-2 : tie.Need-returns-2
 returns-2 c =
-    let a = c .before .before .before .before .before .before .before .args in
-    let left = c .before .before .before .before .tick-within .ensures .left in
-    owed-asked 3 (a .x) (a .y) (a .z) (c .before .before .before .before .before .before .if1 .taken)
-    (rw (left (c .before .before .before .if2 .left)) at (c .make-between .ensures))
+    let at-if2 = c .before .before .before in let at-tick-within = at-if2 .before in let at-if1 = at-tick-within .before .before in
+    let start = at-if1 .before in
+    let a = start .args in
+    let left = at-tick-within .tick-within .ensures .left in
+    owed-asked 3 (a .x) (a .y) (a .z) (at-if1 .if1 .taken)
+    (rw (left (at-if2 .if2 .left)) at (c .make-between .ensures))
 
 returns-3 : tie.Need-returns-3
 returns-3 c = (c .make-between2 .ensures)
@@ -34,10 +37,4 @@ pub make-counted-spec : {M : Type 1} → statement M
 make-counted-spec =
     tie.close
     (tie.spec
-    (λ c κs. search needs)
-    (λ c κs. search needs)
-    returns
-    (λ c κs. search needs)
-    returns-2
-    (λ c κs. search needs)
-    returns-3)
+    (λ c κs. search needs) (λ c κs. search needs) returns (λ c κs. search needs) returns-2 (λ c κs. search needs) returns-3)

@@ -22,12 +22,14 @@ returns-2 c =
 returns-3 : tie.Need-returns-3
 unfolding refusedNumber
 returns-3 c =
-    let is = refuses-list (c .before .before .before .before .args .count) (c .before .before .before .before .args .n) (few (omega arith)) in not-so-eq (callFault (c .before .before .before .before .args .count) (c .before .before .before .before .args .n)) 0 _ _ (λ e. omega arith) ((c .both2 .ensures) ∙ ap (bothIn _) is)
+    let back-3 = c .before .before .before in let start = back-3 .before in
+    let is = refuses-list (start .args .count) (start .args .n) (few (omega arith)) in not-so-eq (callFault (start .args .count) (start .args .n)) 0 _ _ (λ e. omega arith) ((c .both2 .ensures) ∙ ap (bothIn _) is)
 
 returns-4 : tie.Need-returns-4
 unfolding refusedNumber
 returns-4 c =
-    let is = refuses-module (c .before .before .before .before .args .count) (c .before .before .before .before .args .n) (right (omega arith) (omega arith)) (omega arith) in not-so-eq (callFault (c .before .before .before .before .args .count) (c .before .before .before .before .args .n)) 0 _ _ (λ e. omega arith) ((c .both3 .ensures) ∙ ap (bothIn _) is)
+    let back-3 = c .before .before .before in let start = back-3 .before in
+    let is = refuses-module (start .args .count) (start .args .n) (right (omega arith) (omega arith)) (omega arith) in not-so-eq (callFault (start .args .count) (start .args .n)) 0 _ _ (λ e. omega arith) ((c .both3 .ensures) ∙ ap (bothIn _) is)
 
 pub refused-spec : {M : Type 1} → statement M
 refused-spec =

@@ -13,7 +13,8 @@ returns c = enabled-already _ (c .if1 .taken)
 returns-2 : tie.Need-returns-2
 unfolding framed
 returns-2 c =
-    enable-done _ (c .before .before .before .before .before .is-whole .ensures .1) _ (c .before .before .before .if1 .left)
+    let at-if1 = c .before .before .before in let at-is-whole = at-if1 .before .before in
+    enable-done _ (at-is-whole .is-whole .ensures .1) _ (at-if1 .if1 .left)
     (c .number .ensures ∙ ap (λ (f : Frame). f .rest) (c .before .frame-of .ensures))
 
 pub enable-spec : {M : Type 1} → statement M

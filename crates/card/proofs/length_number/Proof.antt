@@ -22,16 +22,18 @@ returns-3 c =
 returns-4 : tie.Need-returns-4
 unfolding lengthNumber
 returns-4 c =
-    not-so _ _ _ (c .before .before .before .before .if1 .left)
-    (so-eq _ _ _ _ (c .before .before .before .if2 .taken)
-    (not-so-eq _ _ _ _ (c .before .before .if3 .left) (not-so-eq _ _ _ _ (c .before .if4 .left) (so-eq _ _ _ _ (c .if5 .taken) refl))))
+    let at-if3 = c .before .before in let at-if2 = at-if3 .before in let at-if1 = at-if2 .before in
+    not-so _ _ _ (at-if1 .if1 .left)
+    (so-eq _ _ _ _ (at-if2 .if2 .taken)
+    (not-so-eq _ _ _ _ (at-if3 .if3 .left) (not-so-eq _ _ _ _ (c .before .if4 .left) (so-eq _ _ _ _ (c .if5 .taken) refl))))
 
 returns-5 : tie.Need-returns-5
 unfolding lengthNumber
 returns-5 c =
-    not-so _ _ _ (c .before .before .before .before .if1 .left)
-    (so-eq _ _ _ _ (c .before .before .before .if2 .taken)
-    (not-so-eq _ _ _ _ (c .before .before .if3 .left) (not-so-eq _ _ _ _ (c .before .if4 .left) (not-so-eq _ _ _ _ (c .if5 .left) refl))))
+    let at-if3 = c .before .before in let at-if2 = at-if3 .before in let at-if1 = at-if2 .before in
+    not-so _ _ _ (at-if1 .if1 .left)
+    (so-eq _ _ _ _ (at-if2 .if2 .taken)
+    (not-so-eq _ _ _ _ (at-if3 .if3 .left) (not-so-eq _ _ _ _ (c .before .if4 .left) (not-so-eq _ _ _ _ (c .if5 .left) refl))))
 
 returns-6 : tie.Need-returns-6
 unfolding lengthNumber

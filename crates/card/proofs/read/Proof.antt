@@ -18,11 +18,13 @@ returns-2 c = read-empty _ (c .before .before .before .if1 .left) (sym (c .befor
 
 returns-3 : tie.Need-returns-3
 returns-3 c =
-    let w = c .before .before .before .before .before .before .before .before .before .before .args .w .now in
-    let held = c .before .before .before .before .held .ensures in
+    let at-if2 = c .before .before .before in let at-held = at-if2 .before in let at-if1 = at-held .before .before in
+    let at-is-whole = at-if1 .before .before in let start = at-is-whole .before .before in
+    let w = start .args .w .now in
+    let held = at-held .held .ensures in
     subst₂ (λ (v n : ℕ). Tells (readOf (cardIn w)) v w (set (set w 15 ((getD w 15 0 % 8 + 1) % 8)) 16 (n - 1)))
     (sym (c .wide .ensures)) (sym held)
-    (read-done w (c .before .before .before .before .before .before .before .before .is-whole .ensures .1) (c .before .before .before .before .before .before .if1 .left) (λ e. c .before .before .before .if2 .left (held ∙ e)))
+    (read-done w (at-is-whole .is-whole .ensures .1) (at-if1 .if1 .left) (λ e. at-if2 .if2 .left (held ∙ e)))
 
 pub read-spec : {M : Type 1} → statement M
 read-spec =

@@ -19,20 +19,25 @@ returns-2 c = length-unnamed _ _ _ (c .before .before .if1 .left) (sym (c .befor
 
 mul-w : tie.Need-mul-w
 mul-w c =
-    omega (arith, c .before .length-number .ensures, length-is (c .before .before .before .before .before .before .args .bits) (c .before .before .before .before .before .before .args .frame) .small)
+    let back-3 = c .before .before .before in let start = back-3 .before .before .before in
+    omega (arith, c .before .length-number .ensures, length-is (start .args .bits) (start .args .frame) .small)
 
 add-w : tie.Need-add-w
 add-w c =
-    omega (arith, c .before .before .length-number .ensures, length-is (c .before .before .before .before .before .before .before .args .bits) (c .before .before .before .before .before .before .before .args .frame) .small)
+    let at-length-number = c .before .before in let back-5 = at-length-number .before .before .before in
+    let start = back-5 .before .before in
+    omega (arith, at-length-number .length-number .ensures, length-is (start .args .bits) (start .args .frame) .small)
 
 returns-3 : tie.Need-returns-3
 returns-3 c =
-    let w = c .before .before .before .before .before .before .before .args .w .now in
-    let bits = c .before .before .before .before .before .before .before .args .bits in
-    let frame = c .before .before .before .before .before .before .before .args .frame in
-    let number = c .before .before .length-number .ensures in
+    let at-length-number = c .before .before in let at-if1 = at-length-number .before in let at-is-whole = at-if1 .before .before in
+    let start = at-is-whole .before .before in
+    let w = start .args .w .now in
+    let bits = start .args .bits in
+    let frame = start .args .frame in
+    let number = at-length-number .length-number .ensures in
     subst (λ (n : ℕ). Tells (setLengthOf (cardIn w) bits frame) 0 w (set w 1 (n * 4 + getD w 1 0 % 4))) (sym number)
-    (length-done w bits frame (c .before .before .before .before .before .is-whole .ensures .1) (c .before .before .before .if1 .left) (λ e. c .before .if2 .left (number ∙ e)))
+    (length-done w bits frame (at-is-whole .is-whole .ensures .1) (at-if1 .if1 .left) (λ e. c .before .if2 .left (number ∙ e)))
 
 pub set-length-spec : {M : Type 1} → statement M
 set-length-spec = tie.close (tie.spec

@@ -12,7 +12,8 @@ returns-2 c = write-full _ _ (c .before .before .if1 .left) (c .if2 .taken)
 
 returns-3 : tie.Need-returns-3
 returns-3 c =
-    write-done _ _ _ (c .before .before .before .before .before .before .before .is-whole .ensures .1) (c .before .before .before .before .before .if1 .left) (c .before .before .before .if2 .left) (c .before .cut .ensures)
+    let at-if2 = c .before .before .before in let at-if1 = at-if2 .before .before in let at-is-whole = at-if1 .before .before in
+    write-done _ _ _ (at-is-whole .is-whole .ensures .1) (at-if1 .if1 .left) (at-if2 .if2 .left) (c .before .cut .ensures)
 
 pub write-spec : {M : Type 1} → statement M
 write-spec =

@@ -15,10 +15,14 @@ clock-requires c κs = frame-still _ _ _ (frame-here _ _ (c .before .before .bef
 
 turn-requires : tie.Need-turn-requires
 turn-requires c κs =
-    frame-still _ _ _ (frame-still _ _ _ (frame-here _ _ (c .before .before .before .before .before .frame-of .ensures)) (c .before .before .before .begin .ensures)) (c .before .clock .ensures)
+    let at-begin = c .before .before .before in let at-frame-of = at-begin .before .before in
+    frame-still _ _ _ (frame-still _ _ _ (frame-here _ _ (at-frame-of .frame-of .ensures)) (at-begin .begin .ensures)) (c .before .clock .ensures)
 
 returns-2 : tie.Need-returns-2
-returns-2 c = edge-done _ _ _ _ _ (c .before .before .before .before .before .before .before .before .if1 .left) (c .before .before .before .before .begin .ensures) (c .before .before .clock .ensures) (c .turn .ensures)
+returns-2 c =
+    let at-clock = c .before .before in let at-begin = at-clock .before .before in let back-7 = at-begin .before .before .before in
+    let at-if1 = back-7 .before in
+    edge-done _ _ _ _ _ (at-if1 .if1 .left) (at-begin .begin .ensures) (at-clock .clock .ensures) (c .turn .ensures)
 
 pub edge-spec : {M : Type 1} → statement M
 edge-spec = tie.close (tie.spec

@@ -9,7 +9,9 @@ returns : tie.Need-returns
 returns c = take-none _ (c .before .before .before .is-whole .ensures .1) (sym (c .before .held .ensures) ∙ c .if1 .taken)
 
 returns-2 : tie.Need-returns-2
-returns-2 c = take-first _ (c .before .before .before .before .before .is-whole .ensures .1) _ (c .before .before .before .held .ensures) (c .before .before .if1 .left)
+returns-2 c =
+    let at-if1 = c .before .before in let at-held = at-if1 .before in let at-is-whole = at-held .before .before in
+    take-first _ (at-is-whole .is-whole .ensures .1) _ (at-held .held .ensures) (at-if1 .if1 .left)
 
 pub take-spec : {M : Type 1} → statement M
 take-spec =

@@ -6,11 +6,15 @@ use Rattle.card_edge.proofs.turn.Tie as tie
 
 returns : tie.Need-returns
 returns c =
-    turn-on _ (c .before .before .before .before .before .before .before .before .is-whole .ensures .1) _ (c .before .before .before .before .before .before .before .before .before .before .pre) _ _ (c .before .before .before .before .before .number .ensures) (c .before .before .number2 .ensures) (c .if1 .taken)
+    let at-number2 = c .before .before in let at-number = at-number2 .before .before .before in
+    let at-is-whole = at-number .before .before .before in let start = at-is-whole .before .before in
+    turn-on _ (at-is-whole .is-whole .ensures .1) _ (start .pre) _ _ (at-number .number .ensures) (at-number2 .number2 .ensures) (c .if1 .taken)
 
 returns-2 : tie.Need-returns-2
 returns-2 c =
-    turn-round _ (c .before .before .before .before .before .before .before .before .is-whole .ensures .1) _ (c .before .before .before .before .before .before .before .before .before .before .pre) _ _ (c .before .before .before .before .before .number .ensures) (c .before .before .number2 .ensures) (c .if1 .left)
+    let at-number2 = c .before .before in let at-number = at-number2 .before .before .before in
+    let at-is-whole = at-number .before .before .before in let start = at-is-whole .before .before in
+    turn-round _ (at-is-whole .is-whole .ensures .1) _ (start .pre) _ _ (at-number .number .ensures) (at-number2 .number2 .ensures) (c .if1 .left)
 
 pub turn-spec : {M : Type 1} → statement M
 turn-spec = tie.close (tie.spec

@@ -66,12 +66,14 @@ client-sees-requires : (t : ℕ) → client-turn-lts.Need-client-sees-requires (
 client-sees-requires t c κs = c .before .before .pre .1 .1
 
 one-fewer : (t : ℕ) → client-turn-lts.Need-sub-host-turn (client-turn-callees t) (client-turn-at t) client-turn.Post
-one-fewer t c = omega (arith, c .before .before .before .before .before .pre .1 .0)
+one-fewer t c =
+    let back-3 = c .before .before .before in let start = back-3 .before .before in
+    omega (arith, start .pre .1 .0)
 
 host-turn-requires : (t : ℕ) → client-turn-lts.Need-host-turn-requires (client-turn-callees t) (client-turn-at t) client-turn.Post
 host-turn-requires t c κs =
-    let start = c .before .before .before .before .before in
-    (omega (arith, start .pre .0, start .pre .1 .0), running-shown _ _ (start .pre .1 .1) (c .before .before .client-sees .ensures))
+    let at-client-sees = c .before .before in let start = at-client-sees .before .before .before in
+    (omega (arith, start .pre .0, start .pre .1 .0), running-shown _ _ (start .pre .1 .1) (at-client-sees .client-sees .ensures))
 
 one-more : (t : ℕ) → client-turn-lts.Need-add-result (client-turn-callees t) (client-turn-at t) client-turn.Post
 one-more t c = omega (arith, c .host-turn .ensures .1)
@@ -79,10 +81,11 @@ one-more t c = omega (arith, c .host-turn .ensures .1)
 client-turn-returns : (t : ℕ) → client-turn-lts.Need-returns (client-turn-callees t) (client-turn-at t) client-turn.Post
 unfolding clientTurn oneMore
 client-turn-returns t c =
-    let start = c .before .before .before .before .before .before in (
+    let at-client-sees = c .before .before .before in let back-6 = at-client-sees .before .before .before in
+    let start = back-6 in (
       ap oneMore
           (c .host-turn .ensures .0
-          ∙ ap (hostTurn (start .args .left - 1) (moduleIn (start .args .host .now))) (c .before .before .before .client-sees .ensures)),
+          ∙ ap (hostTurn (start .args .left - 1) (moduleIn (start .args .host .now))) (at-client-sees .client-sees .ensures)),
       omega (arith, c .host-turn .ensures .1, start .pre .1 .0),
     )
 
@@ -98,8 +101,8 @@ is-free-requires t c κs = search needs
 no-word : (t : ℕ) → host-turn-lts.Need-returns-2 (host-turn-callees t) (host-turn-at t) host-turn.Post
 unfolding runStops
 no-word t c =
-    let start = c .before .before .before .before in
-    (stops _ _ (c .before .before .before .if1 .left) (start .pre .1 .matched) (sym (c .before .is-free .ensures) ∙ c .if2 .taken) refl, omega arith)
+    let at-if1 = c .before .before .before in let start = at-if1 .before in
+    (stops _ _ (at-if1 .if1 .left) (start .pre .1 .matched) (sym (c .before .is-free .ensures) ∙ c .if2 .taken) refl, omega arith)
 
 level-requires : (t : ℕ) → host-turn-lts.Need-level-requires (host-turn-callees t) (host-turn-at t) host-turn.Post
 level-requires t c κs = search needs
@@ -109,8 +112,8 @@ turn-requires t c κs = search needs
 
 client-turn-requires : (t : ℕ) → host-turn-lts.Need-client-turn-requires (host-turn-callees t) (host-turn-at t) host-turn.Post
 client-turn-requires t c κs =
-    let turned = c .before .before in
-    let start = turned .before .before .before .before .before .before .before .before in
+    let turned = c .before .before in let back-5 = turned .before .before .before in let back-8 = back-5 .before .before .before in
+    let start = back-8 .before .before in
     (omega (arith, start .pre .0), (omega arith, rw (turned .turn .ensures .settings) (start .pre .1 .matched)))
 
 hands : (t : ℕ) → host-turn-lts.Need-returns-3 (host-turn-callees t) (host-turn-at t) host-turn.Post

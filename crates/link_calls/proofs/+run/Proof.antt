@@ -71,8 +71,7 @@ are-beginning-requires t c κs = search needs
 
 host-turn-requires : (t : ℕ) → run-lts.Need-host-turn-requires (run-callees t) (run-at t) run.Post
 host-turn-requires t c κs =
-    let tested = c .before .before .before in
-    let start = tested .before .before .before .before .before .before in
+    let tested = c .before .before .before in let back-6 = tested .before .before .before in let start = back-6 .before .before .before in
     start .pre .1
 
 by-turns : (t : ℕ) → run-lts.Need-returns (run-callees t) (run-at t) run.Post
@@ -87,7 +86,8 @@ begins : (t : ℕ) (e : Goes t) →
     (moduleIn (e .before .before .before .before .before .before .before .args .client .now))
     ≡ true
 begins t e =
-    let few = ltb (e .before .before .before .before .before .before .before .args .left) (2 * e .before .before .before .before .width .result) in
+    let back-3 = e .before .before .before in let at-width = back-3 .before in let start = at-width .before .before .before in
+    let few = ltb (start .args .left) (2 * at-width .width .result) in
     sym (e .before .are-beginning .ensures) ∙ not-false _ (or-right few _ (e .if1 .left))
 
 enough : (t : ℕ) (e : Goes t) →
@@ -98,38 +98,38 @@ is-edges : (t : ℕ) (e : Goes t) →
     2 * e .before .before .before .before .width .result
     ≡ wordEdges (settingsIn (e .before .before .before .before .before .before .before .args .host .now))
 is-edges t e =
-    let width = e .before .before .before .before in
-    ap (λ (k : ℕ). 2 * k) (width .width .ensures ∙ ap widthOf (width .before .settings-in .ensures))
+    let back-3 = e .before .before .before in let width = back-3 .before in let at-settings-in = width .before in
+    ap (λ (k : ℕ). 2 * k) (width .width .ensures ∙ ap widthOf (at-settings-in .settings-in .ensures))
 
 exchange-requires : (t : ℕ) → run-lts.Need-exchange-requires (run-callees t) (run-at t) run.Post
 exchange-requires t c κs =
-    let goes = c .before .before in
-    let start = goes .before .before .before .before .before .before .before in
+    let goes = c .before .before in let back-5 = goes .before .before .before in let back-8 = back-5 .before .before .before in
+    let start = back-8 .before in
     (start .pre .1, begins t goes)
 
 sub-run : (t : ℕ) → run-lts.Need-sub-run (run-callees t) (run-at t) run.Post
-sub-run t c = enough t (c .before .before .before .before .before)
+sub-run t c =
+    let back-3 = c .before .before .before in let back-5 = back-3 .before .before in
+    enough t back-5
 
 run-requires : (t : ℕ) → run-lts.Need-run-requires (run-callees t) (run-at t) run.Post
 run-requires t c κs =
-    let made = c .before .before in
-    let goes = made .before .before .before in
-    let start = goes .before .before .before .before .before .before .before in
+    let made = c .before .before in let goes = made .before .before .before in let back-8 = goes .before .before .before in
+    let back-11 = back-8 .before .before .before in let start = back-11 .before in
     let most = enough t goes in
     let some = width-least (settingsIn (start .args .host .now)) in
     (omega (arith, start .pre .0, is-edges t goes), running-on _ _ (start .pre .1) (begins t goes) (made .exchange .ensures .0) (made .exchange .ensures .1))
 
 add-result : (t : ℕ) → run-lts.Need-add-result (run-callees t) (run-at t) run.Post
 add-result t c =
-    let goes = c .before .before .before .before .before .before in
+    let back-3 = c .before .before .before in let goes = back-3 .before .before .before in
     omega (arith, c .run .ensures .1, enough t goes)
 
 by-word : (t : ℕ) → run-lts.Need-returns-2 (run-callees t) (run-at t) run.Post
 unfolding further
 by-word t c =
-    let made = c .before .before .before in
-    let goes = made .before .before .before in
-    let start = goes .before .before .before .before .before .before .before in
+    let made = c .before .before .before in let goes = made .before .before .before in let back-9 = goes .before .before .before in
+    let back-12 = back-9 .before .before .before in let start = back-12 .before in
     let most = enough t goes in (
       word-first _ _ (start .pre .1) (begins t goes) (is-edges t goes) most (made .exchange .ensures .0) (made .exchange .ensures .1) (c .run .ensures .0),
       omega (arith, c .run .ensures .1, most),

@@ -8,9 +8,10 @@ use Rattle.link_calls.proofs.client_sees.Tie as tie
 
 returns : tie.Need-returns
 returns c =
-    let pins-in = c .before .before .before .pins-in .ensures in
-    let given = c .before .before .before .before .pre in
-    rw ((c .before .before .level .ensures), pins-in) at (module-after (c .see .ensures)) ∙ shown _ _ given
+    let at-level = c .before .before in let at-pins-in = at-level .before in let start = at-pins-in .before in
+    let pins-in = at-pins-in .pins-in .ensures in
+    let given = start .pre in
+    rw ((at-level .level .ensures), pins-in) at (module-after (c .see .ensures)) ∙ shown _ _ given
 
 pub client-sees-spec : {M : Type 1} → statement M
 client-sees-spec = tie.close (tie.spec (λ c κs. search needs) (λ c κs. search needs) (λ c κs. search needs) returns)

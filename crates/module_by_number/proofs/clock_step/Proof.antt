@@ -13,17 +13,12 @@ returns c =
 
 returns-2 : tie.Need-returns-2
 returns-2 c =
-    rw ((c .before .before .before .before .before .before .step-within .ensures .left) (c .before .before .before .before .before .if1 .left)) at
-    (step-told (c .before .before .before .clock-step .ensures) (c .before .levels2 .ensures .0) (c .step-number .ensures))
+    let at-clock-step = c .before .before .before in let at-if1 = at-clock-step .before .before in let at-step-within = at-if1 .before in
+    rw ((at-step-within .step-within .ensures .left) (at-if1 .if1 .left)) at
+    (step-told (at-clock-step .clock-step .ensures) (c .before .levels2 .ensures .0) (c .step-number .ensures))
 
 pub clock-step-spec : {M : Type 1} → statement M
 clock-step-spec =
     tie.close
     (tie.spec
-    (λ c κs. search needs)
-    (λ c κs. search needs)
-    returns
-    (λ c κs. search needs)
-    (λ c κs. search needs)
-    (λ c κs. search needs)
-    returns-2)
+    (λ c κs. search needs) (λ c κs. search needs) returns (λ c κs. search needs) (λ c κs. search needs) (λ c κs. search needs) returns-2)

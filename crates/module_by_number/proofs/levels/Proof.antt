@@ -8,21 +8,13 @@ use Rattle.module_by_number.proofs.levels.Tie as tie
 returns : tie.Need-returns
 unfolding levelsNumber seenNumber interruptOf sckOf
 returns c =
-    (rw ((c .before .before .before .weight .ensures .0), (c .before .before .weight2 .ensures .0), (c .before .sdo-bits .ensures .0), (c .ss-bits .ensures .0), (c .before .before .before .before .interrupt-in .ensures), (c .before .before .before .before .before .pins-in .ensures)), search needs)
+    let at-weight2 = c .before .before in let at-weight = at-weight2 .before in let at-interrupt-in = at-weight .before in
+    let at-pins-in = at-interrupt-in .before in
+    (rw ((at-weight .weight .ensures .0), (at-weight2 .weight2 .ensures .0), (c .before .sdo-bits .ensures .0), (c .ss-bits .ensures .0), (at-interrupt-in .interrupt-in .ensures), (at-pins-in .pins-in .ensures)), search needs)
 
 pub levels-spec : {M : Type 1} → statement M
 levels-spec =
     tie.close
     (tie.spec
-    (λ c κs. search needs)
-    (λ c κs. search needs)
-    (λ c κs. search needs)
-    (λ c κs. search needs)
-    (λ c κs. search needs)
-    (λ c κs. search needs)
-    (λ c. search needs)
-    (λ c. search needs)
-    (λ c. search needs)
-    (λ c. search needs)
-    (λ c. search needs)
-    returns)
+    (λ c κs. search needs) (λ c κs. search needs) (λ c κs. search needs) (λ c κs. search needs) (λ c κs. search needs)
+    (λ c κs. search needs) (λ c. search needs) (λ c. search needs) (λ c. search needs) (λ c. search needs) (λ c. search needs) returns)

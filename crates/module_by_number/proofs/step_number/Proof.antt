@@ -10,7 +10,9 @@ use Rattle.module_by_number.proofs.step_number.Tie as tie
 
 returns : tie.Need-returns
 unfolding stepNumber
-returns c = by-case (λ (a : Answer). stepNumber a (c .before .before .before .before .args .seen)) (c .before .before .a .given .1) (omega (arith, (c .refusal-number .ensures)))
+returns c =
+    let at-a = c .before .before in let start = at-a .before .before in
+    by-case (λ (a : Answer). stepNumber a (start .args .seen)) (at-a .a .given .1) (omega (arith, (c .refusal-number .ensures)))
 
 returns-2 : tie.Need-returns-2
 unfolding stepNumber

@@ -12,7 +12,8 @@ returns c = told ((c .before .frame-within .ensures .taken) (c .if1 .taken)) ref
 
 returns-2 : tie.Need-returns-2
 returns-2 c =
-    rw ((c .before .before .before .before .frame-within .ensures .left) (c .before .before .before .if1 .left)) at (told (c .before .tick .ensures) (c .answer-number .ensures))
+    let at-if1 = c .before .before .before in let at-frame-within = at-if1 .before in
+    rw ((at-frame-within .frame-within .ensures .left) (at-if1 .if1 .left)) at (told (c .before .tick .ensures) (c .answer-number .ensures))
 
 pub tick-spec : {M : Type 1} → statement M
 tick-spec =

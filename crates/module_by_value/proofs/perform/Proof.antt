@@ -5,8 +5,9 @@ use Rattle.module_by_value.proofs.perform.Tie as tie
 
 returns : tie.Need-returns
 returns c =
-    let memory-of = c .before .before .before .before .memory-of .ensures in
-    rw (c .module-in .ensures) (rw memory-of at (c .before .before .perform .ensures .outcome))
+    let at-perform = c .before .before in let at-memory-of = at-perform .before .before in
+    let memory-of = at-memory-of .memory-of .ensures in
+    rw (c .module-in .ensures) (rw memory-of at (at-perform .perform .ensures .outcome))
 
 pub perform-spec : {M : Type 1} → statement M
 perform-spec = tie.close (tie.spec (λ c κs. search needs) (λ c κs. search needs) (λ c κs. search needs) returns)

@@ -14,25 +14,25 @@ returns c = kept (so _ _ _ (rw (c .before .before .settings-in .ensures) at (c .
 returns-2 : tie.Need-returns-2
 unfolding tickOf refuse
 returns-2 c =
-    let settings-in = c .before .before .before .before .settings-in .ensures in
-    kept (not-so _ _ _ (rw settings-in at (c .before .before .if1 .left)) (so _ _ _ (rw ((c .before .own-clock .ensures), settings-in) at (c .if2 .taken)) refl))
+    let at-if1 = c .before .before in let at-settings-in = at-if1 .before .before in
+    let settings-in = at-settings-in .settings-in .ensures in
+    kept (not-so _ _ _ (rw settings-in at (at-if1 .if1 .left)) (so _ _ _ (rw ((c .before .own-clock .ensures), settings-in) at (c .if2 .taken)) refl))
 
 returns-3 : tie.Need-returns-3
 unfolding tickOf
 returns-3 c =
-    let settings-in = c .before .before .before .before .before .before .before .settings-in .ensures in
-    let if1 = c .before .before .before .before .before .if1 .left in
-    let own-clock = c .before .before .before .before .own-clock .ensures in
+    let at-if2 = c .before .before .before in let at-own-clock = at-if2 .before in let at-if1 = at-own-clock .before in
+    let at-settings-in = at-if1 .before .before in
+    let settings-in = at-settings-in .settings-in .ensures in
+    let if1 = at-if1 .if1 .left in
+    let own-clock = at-own-clock .own-clock .ensures in
     likewise (edge-told (c .before .clock-step .ensures) (c .edge-for .ensures))
-    (not-so _ _ _ (rw settings-in at if1) (not-so _ _ _ (rw (own-clock, settings-in) at (c .before .before .before .if2 .left)) refl))
+    (not-so _ _ _ (rw settings-in at if1) (not-so _ _ _ (rw (own-clock, settings-in) at (at-if2 .if2 .left)) refl))
 
 pub tick-spec : {M : Type 1} → statement M
 tick-spec =
     tie.close
     (tie.spec
-    (λ c κs. search needs)
-    returns
-    (λ c κs. search needs)
-    returns-2
+    (λ c κs. search needs) returns (λ c κs. search needs) returns-2
     (λ c κs. search needs) (λ c κs. search needs)
     returns-3)

@@ -13,12 +13,15 @@ use Rattle.module_edges.proofs.begin.Tie as tie
 returns : tie.Need-returns
 unfolding advanced shifted progressed
 returns c =
-    let w = c .before .before .before .before .before .before .before .before .before .before .args .w .now in
-    let received-after = c .before .before .before .before .before .received-after .ensures in
-    let sdo-after = c .before .before .before .before .sdo-after .ensures in
-    let pins-in = c .before .before .before .before .before .before .pins-in .ensures in
-    let settings-in = c .before .before .before .before .before .before .before .before .settings-in .ensures in
-    alike ((c .before .before .store-begun .ensures) then (c .store-sdo .ensures))
+    let at-store-begun = c .before .before in let at-sdo-after = at-store-begun .before .before in
+    let at-received-after = at-sdo-after .before in let at-pins-in = at-received-after .before in
+    let at-settings-in = at-pins-in .before .before in let start = at-settings-in .before .before in
+    let w = start .args .w .now in
+    let received-after = at-received-after .received-after .ensures in
+    let sdo-after = at-sdo-after .sdo-after .ensures in
+    let pins-in = at-pins-in .pins-in .ensures in
+    let settings-in = at-settings-in .settings-in .ensures in
+    alike ((at-store-begun .store-begun .ensures) then (c .store-sdo .ensures))
     (so-lt 1 (wordEdges (settingsIn w)) _ _ (omega (arith, width-least (settingsIn w)))
     (rw (received-after, sdo-after, pins-in, settings-in)))
 

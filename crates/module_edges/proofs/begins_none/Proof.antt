@@ -7,8 +7,9 @@ use Rattle.module_edges.proofs.begins_none.Tie as tie
 returns : tie.Need-returns
 unfolding awaitsPulse
 returns c =
-    let settings-in = c .before .before .before .before .before .before .settings-in .ensures in
-    let pins-in = c .before .before .before .before .before .pins-in .ensures in
+    let back-3 = c .before .before .before in let at-pins-in = back-3 .before .before in let at-settings-in = at-pins-in .before in
+    let settings-in = at-settings-in .settings-in .ensures in
+    let pins-in = at-pins-in .pins-in .ensures in
     rw (settings-in, pins-in)
 
 pub begins-none-spec : {M : Type 1} → statement M

@@ -13,8 +13,9 @@ free-edge-requires c κs =
 
 loaded-edge-requires : tie.Need-loaded-edge-requires
 loaded-edge-requires c κs =
-    let shift-in = c .before .before .before .before .shift-in .ensures in
-    sym shift-in ∙ (c .before .before .shift .given .1)
+    let at-shift = c .before .before in let at-shift-in = at-shift .before .before in
+    let shift-in = at-shift-in .shift-in .ensures in
+    sym shift-in ∙ (at-shift .shift .given .1)
 
 returns : tie.Need-returns
 returns c = (c .free-edge .ensures)
@@ -24,8 +25,9 @@ returns-2 c = (c .loaded-edge .ensures)
 
 returns-3 : tie.Need-returns-3
 returns-3 c =
-    let given = c .before .before .before .before .pre in
-    clash _ (ap isBegun (sym (c .before .before .shift-in .ensures) ∙ (c .enum-told2 .given .1))) given
+    let at-shift-in = c .before .before in let start = at-shift-in .before .before in
+    let given = start .pre in
+    clash _ (ap isBegun (sym (at-shift-in .shift-in .ensures) ∙ (c .enum-told2 .given .1))) given
 
 pub first-edge-spec : {M : Type 1} → statement M
 first-edge-spec =

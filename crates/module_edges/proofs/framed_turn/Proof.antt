@@ -6,7 +6,9 @@ use Rattle.module_edges.proofs.framed_turn.Statement.{statement}
 use Rattle.module_edges.proofs.framed_turn.Tie as tie
 
 framed-edge-requires : tie.Need-framed-edge-requires
-framed-edge-requires c κs = c .before .before .before .before .pre
+framed-edge-requires c κs =
+    let back-3 = c .before .before .before in let start = back-3 .before in
+    start .pre
 
 returns : tie.Need-returns
 unfolding turned

@@ -19,28 +19,35 @@ use Rattle.module_edges.proofs.go_on.Tie as tie
 
 cast-store-gone : tie.Need-cast-store-gone
 cast-store-gone c =
-    let settings-in-result = c .before .before .before .before .before .before .before .before .before .settings-in .result in
-    let width = c .before .before .before .before .before .width .ensures in
+    let back-3 = c .before .before .before in let at-width = back-3 .before .before in let back-8 = at-width .before .before .before in
+    let at-settings-in = back-8 .before in
+    let settings-in-result = at-settings-in .settings-in .result in
+    let width = at-width .width .ensures in
     omega (arith, width-most settings-in-result, width)
 
 cast-store-gone-2 : tie.Need-cast-store-gone-2
 cast-store-gone-2 c =
-    let settings-in-result = c .before .before .before .before .before .before .before .before .before .settings-in .result in
-    let width = c .before .before .before .before .before .width .ensures in
+    let back-3 = c .before .before .before in let at-width = back-3 .before .before in let back-8 = at-width .before .before .before in
+    let at-settings-in = back-8 .before in
+    let settings-in-result = at-settings-in .settings-in .result in
+    let width = at-width .width .ensures in
     omega (arith, width-most settings-in-result, width)
 
 returns : tie.Need-returns
 unfolding advanced
 returns c =
-    let progress-in-result = c .before .before .before .before .before .before .before .before .progress-in .result in
-    let w = c .before .before .before .before .before .before .before .before .before .before .before .before .args .w .now in
-    let given = c .before .before .before .before .before .before .before .before .before .before .before .before .pre in
-    let progress-in = c .before .before .before .before .before .before .before .before .progress-in .ensures in
-    let settings-in = c .before .before .before .before .before .before .before .before .before .before .settings-in .ensures in
-    let width = c .before .before .before .before .before .before .width .ensures in
-    let is-sampling = c .before .before .before .before .before .is-sampling .ensures in
-    let if1 = c .before .before .before .before .if1 .taken in
-    let shift-in = c .before .before .before .shift-in .ensures in
+    let at-shift-in = c .before .before .before in let at-if1 = at-shift-in .before in let at-is-sampling = at-if1 .before in
+    let at-width = at-is-sampling .before in let at-progress-in = at-width .before .before in
+    let at-settings-in = at-progress-in .before .before in let start = at-settings-in .before .before in
+    let progress-in-result = at-progress-in .progress-in .result in
+    let w = start .args .w .now in
+    let given = start .pre in
+    let progress-in = at-progress-in .progress-in .ensures in
+    let settings-in = at-settings-in .settings-in .ensures in
+    let width = at-width .width .ensures in
+    let is-sampling = at-is-sampling .is-sampling .ensures in
+    let if1 = at-if1 .if1 .taken in
+    let shift-in = at-shift-in .shift-in .ensures in
     let p = progress-in-result in
     let word = begun-there w (given .0) ∙ ap Begun (sym progress-in) in
     alike (c .store-gone .ensures)
@@ -51,15 +58,18 @@ returns c =
 returns-2 : tie.Need-returns-2
 unfolding advanced receivedAfter
 returns-2 c =
-    let progress-in-result = c .before .before .before .before .before .before .before .before .progress-in .result in
-    let w = c .before .before .before .before .before .before .before .before .before .before .before .before .args .w .now in
-    let given = c .before .before .before .before .before .before .before .before .before .before .before .before .pre in
-    let progress-in = c .before .before .before .before .before .before .before .before .progress-in .ensures in
-    let settings-in = c .before .before .before .before .before .before .before .before .before .before .settings-in .ensures in
-    let width = c .before .before .before .before .before .before .width .ensures in
-    let is-sampling = c .before .before .before .before .before .is-sampling .ensures in
-    let if1 = c .before .before .before .before .if1 .taken in
-    let shift-in = c .before .before .before .shift-in .ensures in
+    let at-shift-in = c .before .before .before in let at-if1 = at-shift-in .before in let at-is-sampling = at-if1 .before in
+    let at-width = at-is-sampling .before in let at-progress-in = at-width .before .before in
+    let at-settings-in = at-progress-in .before .before in let start = at-settings-in .before .before in
+    let progress-in-result = at-progress-in .progress-in .result in
+    let w = start .args .w .now in
+    let given = start .pre in
+    let progress-in = at-progress-in .progress-in .ensures in
+    let settings-in = at-settings-in .settings-in .ensures in
+    let width = at-width .width .ensures in
+    let is-sampling = at-is-sampling .is-sampling .ensures in
+    let if1 = at-if1 .if1 .taken in
+    let shift-in = at-shift-in .shift-in .ensures in
     let p = progress-in-result in
     let word = begun-there w (given .0) ∙ ap Begun (sym progress-in) in
     alike (c .finish .ensures)
@@ -70,18 +80,21 @@ returns-2 c =
 returns-3 : tie.Need-returns-3
 unfolding advanced shownBit
 returns-3 c =
-    let progress-in-result = c .before .before .before .before .before .before .before .before .before .before .progress-in .result in
-    let w = c .before .before .before .before .before .before .before .before .before .before .before .before .before .before .args .w .now in
-    let given = c .before .before .before .before .before .before .before .before .before .before .before .before .before .before .pre in
-    let progress-in = c .before .before .before .before .before .before .before .before .before .before .progress-in .ensures in
-    let settings-in = c .before .before .before .before .before .before .before .before .before .before .before .before .settings-in .ensures in
-    let width = c .before .before .before .before .before .before .before .before .width .ensures in
-    let is-sampling = c .before .before .before .before .before .before .before .is-sampling .ensures in
-    let if1 = c .before .before .before .before .before .before .if1 .left in
-    let bit = c .before .before .before .before .bit .ensures in
+    let at-store-gone2 = c .before .before in let at-bit = at-store-gone2 .before .before in let at-if1 = at-bit .before .before in
+    let at-is-sampling = at-if1 .before in let at-width = at-is-sampling .before in let at-progress-in = at-width .before .before in
+    let at-settings-in = at-progress-in .before .before in let start = at-settings-in .before .before in
+    let progress-in-result = at-progress-in .progress-in .result in
+    let w = start .args .w .now in
+    let given = start .pre in
+    let progress-in = at-progress-in .progress-in .ensures in
+    let settings-in = at-settings-in .settings-in .ensures in
+    let width = at-width .width .ensures in
+    let is-sampling = at-is-sampling .is-sampling .ensures in
+    let if1 = at-if1 .if1 .left in
+    let bit = at-bit .bit .ensures in
     let p = progress-in-result in
     let word = begun-there w (given .0) ∙ ap Begun (sym progress-in) in
-    alike ((c .before .before .store-gone2 .ensures) then (c .store-sdo .ensures))
+    alike ((at-store-gone2 .store-gone2 .ensures) then (c .store-sdo .ensures))
     (on-begun _ _ word _
     (so-lt (p .edges + 1) (wordEdges (settingsIn w)) _ _ (omega (arith, rw settings-in at width))
     (shown _ _ word _ (rw (is-sampling, given .1) at if1)
@@ -90,14 +103,17 @@ returns-3 c =
 returns-4 : tie.Need-returns-4
 unfolding advanced receivedAfter
 returns-4 c =
-    let progress-in-result = c .before .before .before .before .before .before .before .progress-in .result in
-    let w = c .before .before .before .before .before .before .before .before .before .before .before .args .w .now in
-    let given = c .before .before .before .before .before .before .before .before .before .before .before .pre in
-    let progress-in = c .before .before .before .before .before .before .before .progress-in .ensures in
-    let settings-in = c .before .before .before .before .before .before .before .before .before .settings-in .ensures in
-    let width = c .before .before .before .before .before .width .ensures in
-    let is-sampling = c .before .before .before .before .is-sampling .ensures in
-    let if1 = c .before .before .before .if1 .left in
+    let at-if1 = c .before .before .before in let at-is-sampling = at-if1 .before in let at-width = at-is-sampling .before in
+    let at-progress-in = at-width .before .before in let at-settings-in = at-progress-in .before .before in
+    let start = at-settings-in .before .before in
+    let progress-in-result = at-progress-in .progress-in .result in
+    let w = start .args .w .now in
+    let given = start .pre in
+    let progress-in = at-progress-in .progress-in .ensures in
+    let settings-in = at-settings-in .settings-in .ensures in
+    let width = at-width .width .ensures in
+    let is-sampling = at-is-sampling .is-sampling .ensures in
+    let if1 = at-if1 .if1 .left in
     let p = progress-in-result in
     let word = begun-there w (given .0) ∙ ap Begun (sym progress-in) in
     alike (c .finish2 .ensures)

@@ -10,9 +10,10 @@ use Rattle.module_edges.proofs.hear_select.Tie as tie
 returns : tie.Need-returns
 unfolding selectRemembered
 returns c =
-    let is-frame-client = c .before .before .before .is-frame-client .ensures in
-    let settings-in = c .before .before .before .before .settings-in .ensures in
-    alike (c .store-ss .ensures) (so _ _ _ (rw (is-frame-client, settings-in) at (c .before .before .if1 .taken)) refl)
+    let at-if1 = c .before .before in let at-is-frame-client = at-if1 .before in let at-settings-in = at-is-frame-client .before in
+    let is-frame-client = at-is-frame-client .is-frame-client .ensures in
+    let settings-in = at-settings-in .settings-in .ensures in
+    alike (c .store-ss .ensures) (so _ _ _ (rw (is-frame-client, settings-in) at (at-if1 .if1 .taken)) refl)
 
 returns-2 : tie.Need-returns-2
 returns-2 c =

@@ -10,17 +10,20 @@ use Rattle.module_edges.proofs.loaded_edge.Tie as tie
 returns : tie.Need-returns
 unfolding clocked
 returns c =
-    let given = c .before .before .before .before .before .pre in
-    let begins-none = c .before .before .before .begins-none .ensures in
+    let at-begins-none = c .before .before .before in let start = at-begins-none .before .before in
+    let given = start .pre in
+    let begins-none = at-begins-none .begins-none .ensures in
     alike (c .before .store-sck .ensures) (begins-loaded _ _ _ _ (unbegun _ _ _ given (sym begins-none ∙ (c .if1 .taken))))
 
 returns-2 : tie.Need-returns-2
 unfolding clocked begun
 returns-2 c =
-    let store-sck = c .before .before .before .store-sck .ensures in
-    let given = c .before .before .before .before .before .before .before .pre in
-    let begins-none = c .before .before .before .before .before .begins-none .ensures in
-    alike (store-sck then (c .begin .ensures)) (begins _ _ _ _ (active _ _ _ given (sym begins-none ∙ (c .before .before .if1 .left)) refl))
+    let at-if1 = c .before .before in let at-store-sck = at-if1 .before in let at-begins-none = at-store-sck .before .before in
+    let start = at-begins-none .before .before in
+    let store-sck = at-store-sck .store-sck .ensures in
+    let given = start .pre in
+    let begins-none = at-begins-none .begins-none .ensures in
+    alike (store-sck then (c .begin .ensures)) (begins _ _ _ _ (active _ _ _ given (sym begins-none ∙ (at-if1 .if1 .left)) refl))
 
 pub loaded-edge-spec : {M : Type 1} → statement M
 loaded-edge-spec =

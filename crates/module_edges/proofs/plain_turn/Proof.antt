@@ -6,7 +6,9 @@ use Rattle.module_edges.proofs.plain_turn.Statement.{statement}
 use Rattle.module_edges.proofs.plain_turn.Tie as tie
 
 plain-edge-requires : tie.Need-plain-edge-requires
-plain-edge-requires c κs = c .before .before .before .before .pre
+plain-edge-requires c κs =
+    let back-3 = c .before .before .before in let start = back-3 .before in
+    start .pre
 
 returns : tie.Need-returns
 unfolding turned

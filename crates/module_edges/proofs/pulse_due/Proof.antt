@@ -21,18 +21,20 @@ returns-2 c =
 returns-3 : tie.Need-returns-3
 unfolding pulseDue
 returns-3 c =
-    let s = c .before .before .before .before .before .args .s in
-    let count = c .before .before .before .before .before .args .count in
-    let shift = c .before .before .before .shift .given .1 in
+    let at-shift = c .before .before .before in let start = at-shift .before .before in
+    let s = start .args .s in
+    let count = start .args .count in
+    let shift = at-shift .shift .given .1 in
     by-case (pulseDue s count) shift (so _ _ _ (c .before .if1 .taken) refl)
 
 returns-4 : tie.Need-returns-4
 unfolding pulseDue
 returns-4 c =
-    let s = c .before .before .before .before .before .before .args .s in
-    let count = c .before .before .before .before .before .before .args .count in
-    let shift = c .before .before .before .before .shift .given .1 in
-    by-case (pulseDue s count) shift (not-so _ _ _ (c .before .before .if1 .left) (rw (c .width .ensures)))
+    let at-if1 = c .before .before in let at-shift = at-if1 .before .before in let start = at-shift .before .before in
+    let s = start .args .s in
+    let count = start .args .count in
+    let shift = at-shift .shift .given .1 in
+    by-case (pulseDue s count) shift (not-so _ _ _ (at-if1 .if1 .left) (rw (c .width .ensures)))
 
 pub pulse-due-spec : {M : Type 1} → statement M
 pulse-due-spec =

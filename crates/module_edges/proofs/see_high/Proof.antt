@@ -14,17 +14,20 @@ deselect-requires c κs =
 
 see-selected-requires : tie.Need-see-selected-requires
 see-selected-requires c κs =
-    let w = c .before .before .before .before .before .args .w .now in
-    let settings-in = c .before .before .before .settings-in .ensures in
-    sym (select-high (settingsIn w)) ∙ rw settings-in at (sym (c .before .before .ssen-client .ensures) ∙ (c .before .if1 .left))
+    let at-ssen-client = c .before .before in let at-settings-in = at-ssen-client .before in let start = at-settings-in .before .before in
+    let w = start .args .w .now in
+    let settings-in = at-settings-in .settings-in .ensures in
+    sym (select-high (settingsIn w)) ∙ rw settings-in at (sym (at-ssen-client .ssen-client .ensures) ∙ (c .before .if1 .left))
 
 returns : tie.Need-returns
 returns c =
-    let w = c .before .before .before .before .before .before .before .before .args .w .now in
-    let settings-in = c .before .before .before .before .before .before .settings-in .ensures in
-    let ssen-client = c .before .before .before .before .before .ssen-client .ensures in
-    let if1 = c .before .before .before .before .if1 .taken in
-    alike ((c .before .before .deselect .ensures) then (c .store-sck .ensures)) (seen-off _ _ _ _ _ (sym (select-high (settingsIn w)) ∙ rw settings-in at (sym ssen-client ∙ if1)))
+    let at-deselect = c .before .before in let at-if1 = at-deselect .before .before in let at-ssen-client = at-if1 .before in
+    let at-settings-in = at-ssen-client .before in let start = at-settings-in .before .before in
+    let w = start .args .w .now in
+    let settings-in = at-settings-in .settings-in .ensures in
+    let ssen-client = at-ssen-client .ssen-client .ensures in
+    let if1 = at-if1 .if1 .taken in
+    alike ((at-deselect .deselect .ensures) then (c .store-sck .ensures)) (seen-off _ _ _ _ _ (sym (select-high (settingsIn w)) ∙ rw settings-in at (sym ssen-client ∙ if1)))
 
 returns-2 : tie.Need-returns-2
 returns-2 c = (c .see-selected .ensures)

@@ -7,7 +7,8 @@ use Rattle.module_memory_looks.proofs.receive_in.Tie as tie
 returns : tie.Need-returns
 unfolding bitIn byteIn engineIn
 returns c =
-    let words-in = c .before .before .before .before .words-in .ensures in
+    let back-3 = c .before .before .before in let at-words-in = back-3 .before in
+    let words-in = at-words-in .words-in .ensures in
     rw words-in
 
 pub receive-in-spec : {M : Type 1} → statement M

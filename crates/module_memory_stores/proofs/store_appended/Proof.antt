@@ -10,8 +10,9 @@ use Rattle.module_memory_stores.proofs.store_appended.Tie as tie
 returns : tie.Need-returns
 unfolding engineIn byteIn
 returns c =
-    let w = c .before .before .before .before .before .args .w .now in
-    receive-arrived w (c .before .before .before .is-whole .ensures .1) (placeIn w 60 % 16) _ _ _ _ _ (c .before .byte-number .ensures) (c .byte-number2 .ensures) (omega arith) (omega arith)
+    let at-is-whole = c .before .before .before in let start = at-is-whole .before .before in
+    let w = start .args .w .now in
+    receive-arrived w (at-is-whole .is-whole .ensures .1) (placeIn w 60 % 16) _ _ _ _ _ (c .before .byte-number .ensures) (c .byte-number2 .ensures) (omega arith) (omega arith)
 
 pub store-appended-spec : {M : Type 1} → statement M
 store-appended-spec =

@@ -11,13 +11,15 @@ use Rattle.module_midword.proofs.end_pulse.Tie as tie
 
 returns : tie.Need-returns
 returns c =
-    let w = (c .before .before .before .before .args .w .now) in
-    stays (ap (λ (b : Bool). withPulse b (engineIn w)) (so _ _ _ (rw (c .before .before .settings-in .ensures) at (c .if1 .taken)) refl))
+    let at-settings-in = c .before .before in let start = at-settings-in .before .before in
+    let w = (start .args .w .now) in
+    stays (ap (λ (b : Bool). withPulse b (engineIn w)) (so _ _ _ (rw (at-settings-in .settings-in .ensures) at (c .if1 .taken)) refl))
 
 returns-2 : tie.Need-returns-2
 returns-2 c =
-    let w = (c .before .before .before .before .before .before .args .w .now) in
-    alike (c .store-pulse .ensures) (ap (λ (b : Bool). withPulse b (engineIn w)) (not-so _ _ _ (rw (c .before .before .before .before .settings-in .ensures) at (c .before .before .if1 .left)) refl))
+    let at-if1 = c .before .before in let at-settings-in = at-if1 .before .before in let start = at-settings-in .before .before in
+    let w = (start .args .w .now) in
+    alike (c .store-pulse .ensures) (ap (λ (b : Bool). withPulse b (engineIn w)) (not-so _ _ _ (rw (at-settings-in .settings-in .ensures) at (at-if1 .if1 .left)) refl))
 
 pub end-pulse-spec : {M : Type 1} → statement M
 end-pulse-spec = tie.close (tie.spec (λ c κs. search needs) returns (λ c κs. search needs) returns-2)

@@ -22,80 +22,100 @@ use Rattle.module_midword.proofs.go_within.Tie as tie
 
 cast-store-gone : tie.Need-cast-store-gone
 cast-store-gone c =
-    let w = (c .before .before .before .before .before .before .before .before .before .before .before .before .before .args .w .now) in
-    let given = (c .before .before .before .before .before .before .before .before .before .before .before .before .before .pre) in
-    let p = (c .before .before .before .before .before .before .before .before .before .progress-in .result) in
-    let edges = ap (λ (x : Progress). x .edges) (c .before .before .before .before .before .before .before .before .before .progress-in .ensures) in
-    let width = rw (c .before .before .before .before .before .before .before .before .before .before .before .settings-in .ensures) at (c .before .before .before .before .before .before .before .width .ensures) in
+    let back-3 = c .before .before .before in let back-6 = back-3 .before .before .before in let at-width = back-6 .before in
+    let at-progress-in = at-width .before .before in let at-settings-in = at-progress-in .before .before in
+    let start = at-settings-in .before .before in
+    let w = (start .args .w .now) in
+    let given = (start .pre) in
+    let p = (at-progress-in .progress-in .result) in
+    let edges = ap (λ (x : Progress). x .edges) (at-progress-in .progress-in .ensures) in
+    let width = rw (at-settings-in .settings-in .ensures) at (at-width .width .ensures) in
     let short = given .short in
     omega (arith, width-most (settingsIn w))
 
 sub-at : tie.Need-sub-at
 sub-at c =
-    let w = (c .before .before .before .before .before .before .before .before .before .before .before .before .args .w .now) in
-    let given = (c .before .before .before .before .before .before .before .before .before .before .before .before .pre) in
-    let p = (c .before .before .before .before .before .before .before .before .progress-in .result) in
-    let edges = ap (λ (x : Progress). x .edges) (c .before .before .before .before .before .before .before .before .progress-in .ensures) in
-    let width = rw (c .before .before .before .before .before .before .before .before .before .before .settings-in .ensures) at (c .before .before .before .before .before .before .width .ensures) in
+    let back-3 = c .before .before .before in let at-width = back-3 .before .before .before in
+    let at-progress-in = at-width .before .before in let at-settings-in = at-progress-in .before .before in
+    let start = at-settings-in .before .before in
+    let w = (start .args .w .now) in
+    let given = (start .pre) in
+    let p = (at-progress-in .progress-in .result) in
+    let edges = ap (λ (x : Progress). x .edges) (at-progress-in .progress-in .ensures) in
+    let width = rw (at-settings-in .settings-in .ensures) at (at-width .width .ensures) in
     let short = given .short in
     omega arith
 
 sub-at-2 : tie.Need-sub-at-2
 sub-at-2 c =
-    let w = (c .before .before .before .before .before .before .before .before .before .before .before .before .args .w .now) in
-    let given = (c .before .before .before .before .before .before .before .before .before .before .before .before .pre) in
-    let p = (c .before .before .before .before .before .before .before .before .progress-in .result) in
-    let edges = ap (λ (x : Progress). x .edges) (c .before .before .before .before .before .before .before .before .progress-in .ensures) in
-    let width = rw (c .before .before .before .before .before .before .before .before .before .before .settings-in .ensures) at (c .before .before .before .before .before .before .width .ensures) in
+    let back-3 = c .before .before .before in let at-width = back-3 .before .before .before in
+    let at-progress-in = at-width .before .before in let at-settings-in = at-progress-in .before .before in
+    let start = at-settings-in .before .before in
+    let w = (start .args .w .now) in
+    let given = (start .pre) in
+    let p = (at-progress-in .progress-in .result) in
+    let edges = ap (λ (x : Progress). x .edges) (at-progress-in .progress-in .ensures) in
+    let width = rw (at-settings-in .settings-in .ensures) at (at-width .width .ensures) in
     let short = given .short in
     omega arith
 
 cast-store-gone-2 : tie.Need-cast-store-gone-2
 cast-store-gone-2 c =
-    let w = (c .before .before .before .before .before .before .before .before .before .before .before .before .before .before .args .w .now) in
-    let given = (c .before .before .before .before .before .before .before .before .before .before .before .before .before .before .pre) in
-    let p = (c .before .before .before .before .before .before .before .before .before .before .progress-in .result) in
-    let edges = ap (λ (x : Progress). x .edges) (c .before .before .before .before .before .before .before .before .before .before .progress-in .ensures) in
-    let width = rw (c .before .before .before .before .before .before .before .before .before .before .before .before .settings-in .ensures) at (c .before .before .before .before .before .before .before .before .width .ensures) in
+    let back-3 = c .before .before .before in let back-6 = back-3 .before .before .before in let at-width = back-6 .before .before in
+    let at-progress-in = at-width .before .before in let at-settings-in = at-progress-in .before .before in
+    let start = at-settings-in .before .before in
+    let w = (start .args .w .now) in
+    let given = (start .pre) in
+    let p = (at-progress-in .progress-in .result) in
+    let edges = ap (λ (x : Progress). x .edges) (at-progress-in .progress-in .ensures) in
+    let width = rw (at-settings-in .settings-in .ensures) at (at-width .width .ensures) in
     let short = given .short in
     omega (arith, width-most (settingsIn w))
 
 returns : tie.Need-returns
 unfolding advanced clocked
 returns c =
-    let w = (c .before .before .before .before .before .before .before .before .before .before .before .before .before .before .args .w .now) in
-    let given = (c .before .before .before .before .before .before .before .before .before .before .before .before .before .before .pre) in
-    let p = (c .before .before .before .before .before .before .before .before .before .before .progress-in .result) in
-    let edges = ap (λ (x : Progress). x .edges) (c .before .before .before .before .before .before .before .before .before .before .progress-in .ensures) in
-    let width = rw (c .before .before .before .before .before .before .before .before .before .before .before .before .settings-in .ensures) at (c .before .before .before .before .before .before .before .before .width .ensures) in
+    let at-shift-in = c .before .before in let at-if1 = at-shift-in .before in let at-is-sampling = at-if1 .before in
+    let at-cke = at-is-sampling .before in let at-store-sck = at-cke .before in let at-width = at-store-sck .before .before in
+    let at-progress-in = at-width .before .before in let at-settings-in = at-progress-in .before .before in
+    let start = at-settings-in .before .before in
+    let w = (start .args .w .now) in
+    let given = (start .pre) in
+    let p = (at-progress-in .progress-in .result) in
+    let edges = ap (λ (x : Progress). x .edges) (at-progress-in .progress-in .ensures) in
+    let width = rw (at-settings-in .settings-in .ensures) at (at-width .width .ensures) in
     let short = given .short in
-    let word = begun-there w (given .begun) ∙ ap Begun (sym (c .before .before .before .before .before .before .before .before .before .before .progress-in .ensures)) in
-    let step = (c .before .before .before .before .before .before .store-sck .ensures) then (c .store-gone .ensures) in (
+    let word = begun-there w (given .begun) ∙ ap Begun (sym (at-progress-in .progress-in .ensures)) in
+    let step = (at-store-sck .store-sck .ensures) then (c .store-gone .ensures) in (
       alike step
           (on-begun _ (clocked _ (engineIn w)) word _
           (so-lt (p .edges + 1) (wordEdges (settingsIn w)) _ _ (omega arith)
-          (sampled _ _ word _ (rw ((c .before .before .before .before .is-sampling .ensures), (c .before .before .before .before .before .cke .ensures), (c .before .before .before .before .before .before .before .before .before .before .before .before .settings-in .ensures)) at (c .before .before .before .if1 .taken)) (c .before .before .shift-in .ensures)))
+          (sampled _ _ word _ (rw ((at-is-sampling .is-sampling .ensures), (at-cke .cke .ensures), (at-settings-in .settings-in .ensures)) at (at-if1 .if1 .taken)) (at-shift-in .shift-in .ensures)))
           ∙ goes-on _ _ _ _ (given .begun)),
-      goes (p .edges + 1) (c .before .before .shift-in .result) step refl refl,
+      goes (p .edges + 1) (at-shift-in .shift-in .result) step refl refl,
     )
 
 returns-2 : tie.Need-returns-2
 unfolding advanced clocked shownBit
 returns-2 c =
-    let w = (c .before .before .before .before .before .before .before .before .before .before .before .before .before .before .before .before .before .args .w .now) in
-    let given = (c .before .before .before .before .before .before .before .before .before .before .before .before .before .before .before .before .before .pre) in
-    let p = (c .before .before .before .before .before .before .before .before .before .before .before .before .before .progress-in .result) in
-    let edges = ap (λ (x : Progress). x .edges) (c .before .before .before .before .before .before .before .before .before .before .before .before .before .progress-in .ensures) in
-    let width = rw (c .before .before .before .before .before .before .before .before .before .before .before .before .before .before .before .settings-in .ensures) at (c .before .before .before .before .before .before .before .before .before .before .before .width .ensures) in
+    let at-store-gone2 = c .before .before in let at-bit = at-store-gone2 .before .before in let at-if2 = at-bit .before in
+    let at-if1 = at-if2 .before in let at-is-sampling = at-if1 .before in let at-cke = at-is-sampling .before in
+    let at-store-sck = at-cke .before in let at-width = at-store-sck .before .before in let at-progress-in = at-width .before .before in
+    let at-settings-in = at-progress-in .before .before in let start = at-settings-in .before .before in
+    let w = (start .args .w .now) in
+    let given = (start .pre) in
+    let p = (at-progress-in .progress-in .result) in
+    let edges = ap (λ (x : Progress). x .edges) (at-progress-in .progress-in .ensures) in
+    let width = rw (at-settings-in .settings-in .ensures) at (at-width .width .ensures) in
     let short = given .short in
-    let word = begun-there w (given .begun) ∙ ap Begun (sym (c .before .before .before .before .before .before .before .before .before .before .before .before .before .progress-in .ensures)) in
-    let at : (c .before .before .before .before .before .if2 .at) ≡ widthOf (settingsIn w) - 1 - (p .edges + 1) / 2 =
-    ⊎-elim (λ k. omega arith) (λ k. omega arith) (c .before .before .before .before .before .if2 .came) in
-    let step = (c .before .before .before .before .before .before .before .before .before .store-sck .ensures) then (c .before .before .store-gone2 .ensures) then (c .store-sdo .ensures) in (
+    let word = begun-there w (given .begun) ∙ ap Begun (sym (at-progress-in .progress-in .ensures)) in
+    let at : (at-if2 .if2 .at) ≡ widthOf (settingsIn w) - 1 - (p .edges + 1) / 2 =
+    ⊎-elim (λ k. omega arith) (λ k. omega arith) (at-if2 .if2 .came) in
+    let step = (at-store-sck .store-sck .ensures) then (at-store-gone2 .store-gone2 .ensures) then (c .store-sdo .ensures) in (
       alike step
           (on-begun _ (clocked _ (engineIn w)) word _
           (so-lt (p .edges + 1) (wordEdges (settingsIn w)) _ _ (omega arith)
-          (shown _ _ word _ (rw ((c .before .before .before .before .before .before .before .is-sampling .ensures), (c .before .before .before .before .before .before .before .before .cke .ensures), (c .before .before .before .before .before .before .before .before .before .before .before .before .before .before .before .settings-in .ensures)) at (c .before .before .before .before .before .before .if1 .left)) ((c .before .before .before .before .bit .ensures) ∙ ap (bitOf (p .word)) at)))
+          (shown _ _ word _ (rw ((at-is-sampling .is-sampling .ensures), (at-cke .cke .ensures), (at-settings-in .settings-in .ensures)) at (at-if1 .if1 .left)) ((at-bit .bit .ensures) ∙ ap (bitOf (p .word)) at)))
           ∙ goes-on _ _ _ _ (given .begun)),
       goes (p .edges + 1) (p .received) step refl refl,
     )
@@ -104,24 +124,7 @@ pub go-within-spec : {M : Type 1} → statement M
 go-within-spec =
     tie.close
     (tie.spec
-    (λ c κs. search needs)
-    (λ c κs. search needs)
-    (λ c. search needs)
-    (λ c. search needs)
-    (λ c κs. search needs)
-    (λ c. search needs)
-    (λ c. search needs)
-    (λ c κs. search needs)
-    (λ c κs. search needs)
-    (λ c κs. search needs)
-    (λ c κs. search needs)
-    cast-store-gone
-    (λ c κs. search needs)
-    sub-at
-    sub-at-2
-    (λ c κs. search needs)
-    cast-store-gone-2
-    (λ c κs. search needs)
-    (λ c κs. search needs)
-    returns
+    (λ c κs. search needs) (λ c κs. search needs) (λ c. search needs) (λ c. search needs) (λ c κs. search needs) (λ c. search needs)
+    (λ c. search needs) (λ c κs. search needs) (λ c κs. search needs) (λ c κs. search needs) (λ c κs. search needs) cast-store-gone
+    (λ c κs. search needs) sub-at sub-at-2 (λ c κs. search needs) cast-store-gone-2 (λ c κs. search needs) (λ c κs. search needs) returns
     returns-2)

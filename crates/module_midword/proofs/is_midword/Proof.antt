@@ -17,19 +17,15 @@ returns c = λ e. clash false e refl
 
 returns-2 : tie.Need-returns-2
 returns-2 c =
+    let at-is-begun = c .before .before in let at-progress-in = at-is-begun .before in let at-settings-in = at-progress-in .before in
     λ e.
-    let edges = ap (λ (x : Progress). x .edges) (c .before .before .before .progress-in .ensures) in
-    let width = ap widthOf (c .before .before .before .before .settings-in .ensures) in
-    let below = ltb-true ((c .before .before .before .progress-in .result) .edges + 1) (wordEdges (c .before .before .before .before .settings-in .result)) (sym (c .goes-on .ensures) ∙ e) in
-    record { begun = sym (c .before .before .is-begun .ensures) ∙ not-false _ (c .before .if1 .left); short = omega arith }
+    let edges = ap (λ (x : Progress). x .edges) (at-progress-in .progress-in .ensures) in
+    let width = ap widthOf (at-settings-in .settings-in .ensures) in
+    let below = ltb-true ((at-progress-in .progress-in .result) .edges + 1) (wordEdges (at-settings-in .settings-in .result)) (sym (c .goes-on .ensures) ∙ e) in
+    record { begun = sym (at-is-begun .is-begun .ensures) ∙ not-false _ (c .before .if1 .left); short = omega arith }
 
 pub is-midword-spec : {M : Type 1} → statement M
 is-midword-spec =
     tie.close
     (tie.spec
-    (λ c κs. search needs)
-    (λ c κs. search needs)
-    (λ c κs. search needs)
-    returns
-    (λ c κs. search needs)
-    returns-2)
+    (λ c κs. search needs) (λ c κs. search needs) (λ c κs. search needs) returns (λ c κs. search needs) returns-2)

@@ -13,7 +13,9 @@ returns-2 c = untold
 
 returns-3 : tie.Need-returns-3
 returns-3 c =
-    let own = (not-false _ (rw ((c .before .before .before .own-clock .ensures), (c .before .before .before .before .before .before .settings-in .ensures)) at (c .before .before .if2 .left))) in tick-shortly _ _ own (own-shortly (not-false _ (rw (c .before .before .before .before .before .before .settings-in .ensures) at (c .before .before .before .before .if1 .left))) _ _ _ own (c .within .ensures))
+    let at-if2 = c .before .before in let at-own-clock = at-if2 .before in let at-if1 = at-own-clock .before in
+    let at-settings-in = at-if1 .before .before in
+    let own = (not-false _ (rw ((at-own-clock .own-clock .ensures), (at-settings-in .settings-in .ensures)) at (at-if2 .if2 .left))) in tick-shortly _ _ own (own-shortly (not-false _ (rw (at-settings-in .settings-in .ensures) at (at-if1 .if1 .left))) _ _ _ own (c .within .ensures))
 
 pub tick-within-spec : {M : Type 1} → statement M
 tick-within-spec =

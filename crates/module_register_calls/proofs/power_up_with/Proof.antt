@@ -26,9 +26,10 @@ returns-2 c =
 returns-3 : tie.Need-returns-3
 unfolding powerUpOf
 returns-3 c =
+    let at-if3 = c .before .before in let at-if2 = at-if3 .before in let at-if1 = at-if2 .before in
     changed refl
-    (not-so-eq _ _ _ _ (c .before .before .before .before .if1 .left)
-    (not-so-eq _ _ _ _ (c .before .before .before .if2 .left) (so-eq _ _ _ _ (c .before .before .if3 .taken) (ap done (c .power-up-at3 .ensures)))))
+    (not-so-eq _ _ _ _ (at-if1 .if1 .left)
+    (not-so-eq _ _ _ _ (at-if2 .if2 .left) (so-eq _ _ _ _ (at-if3 .if3 .taken) (ap done (c .power-up-at3 .ensures)))))
 
 returns-4 : tie.Need-returns-4
 unfolding powerUpOf refuse

@@ -20,19 +20,21 @@ returns-2 c =
 returns-3 : tie.Need-returns-3
 unfolding readOf
 returns-3 c =
-    let if1 = c .before .before .before .before .before .if1 .left in
-    let if2 = c .before .before .before .before .if2 .left in
-    let if3 = c .before .before .before .if3 .taken in
+    let at-if3 = c .before .before .before in let at-if2 = at-if3 .before in let at-if1 = at-if2 .before in
+    let if1 = at-if1 .if1 .left in
+    let if2 = at-if2 .if2 .left in
+    let if3 = at-if3 .if3 .taken in
     kept
     (not-so-lt _ _ _ _ if1 (not-so-eq _ _ _ _ if2 (so-eq _ _ _ _ if3 (rw ((c .con1-value .ensures), (c .before .con1-in .ensures))))))
 
 returns-4 : tie.Need-returns-4
 unfolding readOf
 returns-4 c =
-    let if1 = c .before .before .before .before .before .before .if1 .left in
-    let if2 = c .before .before .before .before .before .if2 .left in
-    let if3 = c .before .before .before .before .if3 .left in
-    let if4 = c .before .before .before .if4 .taken in
+    let at-if4 = c .before .before .before in let at-if3 = at-if4 .before in let at-if2 = at-if3 .before in let at-if1 = at-if2 .before in
+    let if1 = at-if1 .if1 .left in
+    let if2 = at-if2 .if2 .left in
+    let if3 = at-if3 .if3 .left in
+    let if4 = at-if4 .if4 .taken in
     kept
     (not-so-lt _ _ _ _ if1
     (not-so-eq _ _ _ _ if2 (not-so-eq _ _ _ _ if3 (so-eq _ _ _ _ if4 (rw ((c .con2-value .ensures), (c .before .con2-in .ensures)))))))
@@ -40,19 +42,18 @@ returns-4 c =
 returns-5 : tie.Need-returns-5
 unfolding readOf
 returns-5 c =
-    let if1 = c .before .before .before .before .before .if1 .left in
-    let if2 = c .before .before .before .before .if2 .left in
-    let if3 = c .before .before .before .if3 .left in
+    let at-if4 = c .before .before in let at-if3 = at-if4 .before in let at-if2 = at-if3 .before in let at-if1 = at-if2 .before in
+    let if1 = at-if1 .if1 .left in
+    let if2 = at-if2 .if2 .left in
+    let if3 = at-if3 .if3 .left in
     likewise (c .read-buf .ensures)
-    (not-so-lt _ _ _ _ if1 (not-so-eq _ _ _ _ if2 (not-so-eq _ _ _ _ if3 (not-so-eq _ _ _ _ (c .before .before .if4 .left) refl))))
+    (not-so-lt _ _ _ _ if1 (not-so-eq _ _ _ _ if2 (not-so-eq _ _ _ _ if3 (not-so-eq _ _ _ _ (at-if4 .if4 .left) refl))))
 
 pub read-spec : {M : Type 1} → statement M
 read-spec =
     tie.close
     (tie.spec
-    returns
-    (λ c κs. search needs)
-    returns-2
+    returns (λ c κs. search needs) returns-2
     (λ c κs. search needs) (λ c κs. search needs)
     returns-3
     (λ c κs. search needs) (λ c κs. search needs)

@@ -11,27 +11,24 @@ use Rattle.module_register_calls.proofs.write_stat.Tie as tie
 returns : tie.Need-returns
 unfolding writeStat turnsOn bitOf refuse
 returns c =
-    let s = c .before .before .before .before .settings-in .ensures in
+    let at-are-bad = c .before .before in let at-settings-in = at-are-bad .before .before in
+    let s = at-settings-in .settings-in .ensures in
     let cause = rw s at (c .first-cause .ensures) in
-    kept (so _ _ _ (rw (c .before .before .are-bad .ensures, s) at (c .before .if1 .taken)) cc)
+    kept (so _ _ _ (rw (at-are-bad .are-bad .ensures, s) at (c .before .if1 .taken)) cc)
 
 returns-2 : tie.Need-returns-2
 unfolding writeStat turnsOn bitOf
 returns-2 c =
-    let s = c .before .before .before .before .before .before .before .settings-in .ensures in
-    let bad = c .before .before .before .before .before .are-bad .ensures in
+    let at-stat-written = c .before .before in let at-if1 = at-stat-written .before .before in let at-are-bad = at-if1 .before in
+    let at-settings-in = at-are-bad .before .before in
+    let s = at-settings-in .settings-in .ensures in
+    let bad = at-are-bad .are-bad .ensures in
     changed refl
-    (not-so _ _ _ (rw (bad, s) at (c .before .before .before .before .if1 .left))
-    (then-set _ (c .before .before .stat-written .ensures) (c .store-stat .ensures) refl refl))
+    (not-so _ _ _ (rw (bad, s) at (at-if1 .if1 .left))
+    (then-set _ (at-stat-written .stat-written .ensures) (c .store-stat .ensures) refl refl))
 
 pub write-stat-spec : {M : Type 1} → statement M
 write-stat-spec =
     tie.close
     (tie.spec
-    (λ c κs. search needs)
-    (λ c κs. search needs)
-    (λ c κs. search needs)
-    returns
-    (λ c κs. search needs)
-    (λ c κs. search needs)
-    returns-2)
+    (λ c κs. search needs) (λ c κs. search needs) (λ c κs. search needs) returns (λ c κs. search needs) (λ c κs. search needs) returns-2)

@@ -14,19 +14,12 @@ returns-2 c = (disabled-none _ _ _ _ (not-true _ (c .if2 .taken)), omega arith)
 
 returns-3 : tie.Need-returns-3
 returns-3 c =
-    (shown _ _ _ _ (not-false _ (c .before .before .before .if2 .left)) (not-false _ (c .before .before .before .before .before .if1 .left)) (c .before .before .spibec-value .ensures .0) (c .before .weigh .ensures .0) (c .weigh2 .ensures .0), omega (arith, (c .before .before .spibec-value .ensures .1), (c .before .weigh .ensures .1), (c .weigh2 .ensures .1)))
+    let at-spibec-value = c .before .before in let at-if2 = at-spibec-value .before in let at-if1 = at-if2 .before .before in
+    (shown _ _ _ _ (not-false _ (at-if2 .if2 .left)) (not-false _ (at-if1 .if1 .left)) (at-spibec-value .spibec-value .ensures .0) (c .before .weigh .ensures .0) (c .weigh2 .ensures .0), omega (arith, (at-spibec-value .spibec-value .ensures .1), (c .before .weigh .ensures .1), (c .weigh2 .ensures .1)))
 
 pub enhanced-value-spec : {M : Type 1} → statement M
 enhanced-value-spec =
     tie.close
     (tie.spec
-    returns
-    returns-2
-    (λ c κs. search needs)
-    (λ c. search needs)
-    (λ c. search needs)
-    (λ c κs. search needs)
-    (λ c. search needs)
-    (λ c κs. search needs)
-    (λ c. search needs)
-    returns-3)
+    returns returns-2 (λ c κs. search needs) (λ c. search needs) (λ c. search needs) (λ c κs. search needs) (λ c. search needs)
+    (λ c κs. search needs) (λ c. search needs) returns-3)

@@ -9,16 +9,14 @@ use Rattle.module_word_steps.proofs.accept_word.Tie as tie
 returns : tie.Need-returns
 unfolding wordWritten
 returns c =
-    let pushes = (c .before .before .before .before .before .before .before .before .before .before .push .ensures) in let loads = (c .before .before .before .before .before .before .before .before .load .ensures) in alike (pushes then loads then noting _ (c .before .before .before .before .written-raises .ensures) (c .before .before .raise .ensures) then (c .rest .ensures)) (rw ((c .before .before .before .before .before .before .waiting-in .ensures), (loads .engine), (pushes .settings), (pushes .engine)))
+    let at-raise = c .before .before in let at-written-raises = at-raise .before .before in
+    let at-waiting-in = at-written-raises .before .before in let at-load = at-waiting-in .before .before in
+    let at-push = at-load .before .before in
+    let pushes = (at-push .push .ensures) in let loads = (at-load .load .ensures) in alike (pushes then loads then noting _ (at-written-raises .written-raises .ensures) (at-raise .raise .ensures) then (c .rest .ensures)) (rw ((at-waiting-in .waiting-in .ensures), (loads .engine), (pushes .settings), (pushes .engine)))
 
 pub accept-word-spec : {M : Type 1} → statement M
 accept-word-spec =
     tie.close
     (tie.spec
-    (λ c κs. search needs)
-    (λ c κs. search needs)
-    (λ c κs. search needs)
-    (λ c κs. search needs)
-    (λ c κs. search needs)
-    (λ c κs. search needs)
-    returns)
+    (λ c κs. search needs) (λ c κs. search needs) (λ c κs. search needs) (λ c κs. search needs) (λ c κs. search needs)
+    (λ c κs. search needs) returns)

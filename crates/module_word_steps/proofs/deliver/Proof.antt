@@ -11,26 +11,22 @@ use Rattle.module_word_steps.proofs.deliver.Tie as tie
 returns : tie.Need-returns
 unfolding overrun overflowed isLost delivered
 returns c =
-    let marked = (c .before .before .before .before .before .before .marked-in .ensures) in alike ((c .before .before .store-mark .ensures) then (c .store-spirov .ensures)) (so _ _ _ (rw ((c .before .before .before .before .before .before .before .before .before .before .room-in .ensures), (c .before .before .before .before .before .before .before .before .unread-in .ensures), marked) at (c .before .before .before .before .before .if1 .taken)) (rw (marked, (c .before .before .before .before .before .before .before .before .before .before .before .before .settings-in .ensures))))
+    let at-store-mark = c .before .before in let at-if1 = at-store-mark .before .before .before in let at-marked-in = at-if1 .before in
+    let at-unread-in = at-marked-in .before .before in let at-room-in = at-unread-in .before .before in
+    let at-settings-in = at-room-in .before .before in
+    let marked = (at-marked-in .marked-in .ensures) in alike ((at-store-mark .store-mark .ensures) then (c .store-spirov .ensures)) (so _ _ _ (rw ((at-room-in .room-in .ensures), (at-unread-in .unread-in .ensures), marked) at (at-if1 .if1 .taken)) (rw (marked, (at-settings-in .settings-in .ensures))))
 
 returns-2 : tie.Need-returns-2
 unfolding wordAppended isLost delivered
 returns-2 c =
-    let appends = (c .before .before .before .before .before .before .append .ensures) in alike (appends then noting _ (c .before .before .appended-raises .ensures) (c .raise .ensures)) (not-so _ _ _ (rw ((c .before .before .before .before .before .before .before .before .before .before .before .before .before .room-in .ensures), (c .before .before .before .before .before .before .before .before .before .before .before .unread-in .ensures), (c .before .before .before .before .before .before .before .before .before .marked-in .ensures)) at (c .before .before .before .before .before .before .before .before .if1 .left)) (rw ((c .before .before .before .before .unread-in2 .ensures), (appends .engine))))
+    let at-appended-raises = c .before .before in let at-unread-in2 = at-appended-raises .before .before in
+    let at-append = at-unread-in2 .before .before in let at-if1 = at-append .before .before in let at-marked-in = at-if1 .before in
+    let at-unread-in = at-marked-in .before .before in let at-room-in = at-unread-in .before .before in
+    let appends = (at-append .append .ensures) in alike (appends then noting _ (at-appended-raises .appended-raises .ensures) (c .raise .ensures)) (not-so _ _ _ (rw ((at-room-in .room-in .ensures), (at-unread-in .unread-in .ensures), (at-marked-in .marked-in .ensures)) at (at-if1 .if1 .left)) (rw ((at-unread-in2 .unread-in2 .ensures), (appends .engine))))
 
 pub deliver-spec : {M : Type 1} → statement M
 deliver-spec =
     tie.close
     (tie.spec
-    (λ c κs. search needs)
-    (λ c κs. search needs)
-    (λ c κs. search needs)
-    (λ c κs. search needs)
-    (λ c κs. search needs)
-    (λ c κs. search needs)
-    (λ c κs. search needs)
-    (λ c κs. search needs)
-    (λ c κs. search needs)
-    (λ c κs. search needs)
-    returns
-    returns-2)
+    (λ c κs. search needs) (λ c κs. search needs) (λ c κs. search needs) (λ c κs. search needs) (λ c κs. search needs)
+    (λ c κs. search needs) (λ c κs. search needs) (λ c κs. search needs) (λ c κs. search needs) (λ c κs. search needs) returns returns-2)

@@ -10,9 +10,10 @@ use Rattle.module_word_steps.proofs.drop_sent.Tie as tie
 returns : tie.Need-returns
 unfolding sentDropped
 returns c =
-    let ssen-client = c .before .before .before .ssen-client .ensures in
-    let settings-in = c .before .before .before .before .settings-in .ensures in
-    alike (c .leave .ensures) (so _ _ _ (rw (ssen-client, settings-in) at (c .before .before .if1 .taken)) refl)
+    let at-if1 = c .before .before in let at-ssen-client = at-if1 .before in let at-settings-in = at-ssen-client .before in
+    let ssen-client = at-ssen-client .ssen-client .ensures in
+    let settings-in = at-settings-in .settings-in .ensures in
+    alike (c .leave .ensures) (so _ _ _ (rw (ssen-client, settings-in) at (at-if1 .if1 .taken)) refl)
 
 returns-2 : tie.Need-returns-2
 unfolding sentDropped

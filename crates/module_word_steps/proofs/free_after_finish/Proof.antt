@@ -9,14 +9,12 @@ use Rattle.module_word_steps.proofs.free_after_finish.Tie as tie
 returns : tie.Need-returns
 unfolding freed
 returns c =
-    alike ((c .before .before .before .before .store-free .ensures) then noting _ (c .before .before .finished-raises .ensures) (c .raise .ensures)) (rw (c .before .before .before .before .before .before .waiting-in .ensures))
+    let at-finished-raises = c .before .before in let at-store-free = at-finished-raises .before .before in
+    let at-waiting-in = at-store-free .before .before in
+    alike ((at-store-free .store-free .ensures) then noting _ (at-finished-raises .finished-raises .ensures) (c .raise .ensures)) (rw (at-waiting-in .waiting-in .ensures))
 
 pub free-after-finish-spec : {M : Type 1} → statement M
 free-after-finish-spec =
     tie.close
     (tie.spec
-    (λ c κs. search needs)
-    (λ c κs. search needs)
-    (λ c κs. search needs)
-    (λ c κs. search needs)
-    returns)
+    (λ c κs. search needs) (λ c κs. search needs) (λ c κs. search needs) (λ c κs. search needs) returns)

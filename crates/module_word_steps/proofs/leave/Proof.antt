@@ -9,7 +9,9 @@ use Rattle.module_word_steps.proofs.leave.Tie as tie
 returns : tie.Need-returns
 unfolding wordLeaves
 returns c =
-    alike ((c .before .before .before .before .before .before .pop .ensures) then noting _ (c .before .before .left-raises .ensures) (c .raise .ensures)) (rw ((c .before .before .before .before .waiting-in .ensures), ((c .before .before .before .before .before .before .pop .ensures) .engine)))
+    let at-left-raises = c .before .before in let at-waiting-in = at-left-raises .before .before in
+    let at-pop = at-waiting-in .before .before in
+    alike ((at-pop .pop .ensures) then noting _ (at-left-raises .left-raises .ensures) (c .raise .ensures)) (rw ((at-waiting-in .waiting-in .ensures), ((at-pop .pop .ensures) .engine)))
 
 pub leave-spec : {M : Type 1} → statement M
 leave-spec =

@@ -12,20 +12,16 @@ returns c =
 
 returns-2 : tie.Need-returns-2
 returns-2 c =
-    enhanced _ _ (not-false _ (rw (c .before .before .before .before .before .settings-in .ensures) at (c .before .before .before .if1 .left))) (rw ((rw (c .before .before .before .before .before .settings-in .ensures) at (c .before .if2 .taken)), (c .room-in .ensures)) (or-false _))
+    let at-if1 = c .before .before .before in let at-settings-in = at-if1 .before .before in
+    enhanced _ _ (not-false _ (rw (at-settings-in .settings-in .ensures) at (at-if1 .if1 .left))) (rw ((rw (at-settings-in .settings-in .ensures) at (c .before .if2 .taken)), (c .room-in .ensures)) (or-false _))
 
 returns-3 : tie.Need-returns-3
 returns-3 c =
-    enhanced _ _ (not-false _ (rw (c .before .before .before .before .before .settings-in .ensures) at (c .before .before .before .if1 .left))) (rw (ne-eqb _ _ (rw (c .before .before .before .before .before .settings-in .ensures) at (c .before .if2 .left)), (c .before .before .before .before .before .settings-in .ensures)))
+    let at-if1 = c .before .before .before in let at-settings-in = at-if1 .before .before in
+    enhanced _ _ (not-false _ (rw (at-settings-in .settings-in .ensures) at (at-if1 .if1 .left))) (rw (ne-eqb _ _ (rw (at-settings-in .settings-in .ensures) at (c .before .if2 .left)), (at-settings-in .settings-in .ensures)))
 
 pub left-raises-spec : {M : Type 1} → statement M
 left-raises-spec =
     tie.close
     (tie.spec
-    (λ c κs. search needs)
-    returns
-    (λ c. search needs)
-    (λ c κs. search needs)
-    (λ c. search needs)
-    returns-2
-    returns-3)
+    (λ c κs. search needs) returns (λ c. search needs) (λ c κs. search needs) (λ c. search needs) returns-2 returns-3)

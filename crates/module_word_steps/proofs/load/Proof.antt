@@ -13,29 +13,27 @@ returns c =
     stays (busy-waits _ _ (not-true _ (rw (c .before .is-free .ensures) at (c .if1 .taken))))
 
 returns-2 : tie.Need-returns-2
-returns-2 c = stays (none-waits _ _ (rw (c .before .before .before .before .waiting-in .ensures) at (c .if2 .taken)))
+returns-2 c =
+    let back-3 = c .before .before .before in let at-waiting-in = back-3 .before in
+    stays (none-waits _ _ (rw (at-waiting-in .waiting-in .ensures) at (c .if2 .taken)))
 
 returns-3 : tie.Need-returns-3
 returns-3 c =
-    stays (kept-back _ _ (rw ((c .before .ssen-client .ensures), (c .before .before .before .before .before .before .before .before .settings-in .ensures)) at (c .if3 .taken)))
+    let back-3 = c .before .before .before in let back-6 = back-3 .before .before .before in let at-settings-in = back-6 .before .before in
+    stays (kept-back _ _ (rw ((c .before .ssen-client .ensures), (at-settings-in .settings-in .ensures)) at (c .if3 .taken)))
 
 returns-4 : tie.Need-returns-4
 unfolding moved
 returns-4 c =
-    alike ((c .before .before .store-loaded .ensures) then (c .leave .ensures)) (rw (c .before .before .before .before .first-waiting-in .ensures) (loads _ _ (not-false _ (rw (c .before .before .before .before .before .before .before .before .before .before .is-free .ensures) at (c .before .before .before .before .before .before .before .before .before .if1 .left))) (rw (c .before .before .before .before .before .before .before .before .before .before .before .before .waiting-in .ensures) at (c .before .before .before .before .before .before .before .before .if2 .left)) (rw ((c .before .before .before .before .before .before .before .ssen-client .ensures), (c .before .before .before .before .before .before .before .before .before .before .before .before .before .before .settings-in .ensures)) at (c .before .before .before .before .before .before .if3 .left))))
+    let at-store-loaded = c .before .before in let at-first-waiting-in = at-store-loaded .before .before in
+    let at-if3 = at-first-waiting-in .before .before in let at-ssen-client = at-if3 .before in let at-if2 = at-ssen-client .before in
+    let at-if1 = at-if2 .before in let at-is-free = at-if1 .before in let at-waiting-in = at-is-free .before .before in
+    let at-settings-in = at-waiting-in .before .before in
+    alike ((at-store-loaded .store-loaded .ensures) then (c .leave .ensures)) (rw (at-first-waiting-in .first-waiting-in .ensures) (loads _ _ (not-false _ (rw (at-is-free .is-free .ensures) at (at-if1 .if1 .left))) (rw (at-waiting-in .waiting-in .ensures) at (at-if2 .if2 .left)) (rw ((at-ssen-client .ssen-client .ensures), (at-settings-in .settings-in .ensures)) at (at-if3 .if3 .left))))
 
 pub load-spec : {M : Type 1} → statement M
 load-spec =
     tie.close
     (tie.spec
-    (λ c κs. search needs)
-    (λ c κs. search needs)
-    (λ c κs. search needs)
-    returns
-    returns-2
-    (λ c κs. search needs)
-    returns-3
-    (λ c κs. search needs)
-    (λ c κs. search needs)
-    (λ c κs. search needs)
-    returns-4)
+    (λ c κs. search needs) (λ c κs. search needs) (λ c κs. search needs) returns returns-2 (λ c κs. search needs) returns-3
+    (λ c κs. search needs) (λ c κs. search needs) (λ c κs. search needs) returns-4)

@@ -14,23 +14,22 @@ use Rattle.module_word_steps.proofs.push.Tie as tie
 
 returns : tie.Need-returns
 returns c =
-    let w = (c .before .before .before .before .before .before .before .before .before .before .args .w .now) in let n = engineIn w in let depth = (c .before .before .before .before .before .before .before .before .room-in .ensures) in let count = (c .before .before .before .before .before .before .waiting-in .ensures) in
-    alike (c .store-written .ensures) (ap (λ (b : Transmit). withTransmit b n) (pushed-written (depthOf (settingsIn w)) (n .transmit) (c .before .before .before .before .before .before .before .before .before .before .args .word) _ _ (omega arith) (rw (depth, (c .before .before .before .before .cpu-write-in .ensures)) at (c .before .before .next-position .ensures)) (ap (λ (x : ℕ). x + 1) count)))
+    let at-next-position = c .before .before in let at-cpu-write-in = at-next-position .before .before in
+    let at-waiting-in = at-cpu-write-in .before .before in let at-room-in = at-waiting-in .before .before in
+    let start = at-room-in .before .before in
+    let w = (start .args .w .now) in let n = engineIn w in let depth = (at-room-in .room-in .ensures) in let count = (at-waiting-in .waiting-in .ensures) in
+    alike (c .store-written .ensures) (ap (λ (b : Transmit). withTransmit b n) (pushed-written (depthOf (settingsIn w)) (n .transmit) (start .args .word) _ _ (omega arith) (rw (depth, (at-cpu-write-in .cpu-write-in .ensures)) at (at-next-position .next-position .ensures)) (ap (λ (x : ℕ). x + 1) count)))
 
 returns-2 : tie.Need-returns-2
 returns-2 c =
-    let w = (c .before .before .before .before .before .before .before .args .w .now) in let n = engineIn w in let depth = (c .before .before .before .before .before .room-in .ensures) in let count = (c .before .before .before .waiting-in .ensures) in
-    stays (ap (λ (b : Transmit). withTransmit b n) (full-stays (depthOf (settingsIn w)) (n .transmit) (c .before .before .before .before .before .before .before .args .word) (omega arith)))
+    let at-waiting-in = c .before .before .before in let at-room-in = at-waiting-in .before .before in
+    let start = at-room-in .before .before in
+    let w = (start .args .w .now) in let n = engineIn w in let depth = (at-room-in .room-in .ensures) in let count = (at-waiting-in .waiting-in .ensures) in
+    stays (ap (λ (b : Transmit). withTransmit b n) (full-stays (depthOf (settingsIn w)) (n .transmit) (start .args .word) (omega arith)))
 
 pub push-spec : {M : Type 1} → statement M
 push-spec =
     tie.close
     (tie.spec
-    (λ c κs. search needs)
-    (λ c κs. search needs)
-    (λ c κs. search needs)
-    (λ c κs. search needs)
-    (λ c. search needs)
-    (λ c κs. search needs)
-    returns
-    returns-2)
+    (λ c κs. search needs) (λ c κs. search needs) (λ c κs. search needs) (λ c κs. search needs) (λ c. search needs) (λ c κs. search needs)
+    returns returns-2)

@@ -17,17 +17,13 @@ returns-2 c = stays (begun-stays _ _ (rw (c .before .is-begun .ensures) at (c .i
 returns-3 : tie.Need-returns-3
 unfolding sdoAt
 returns-3 c =
-    alike (c .store-sdo .ensures) (rw (c .before .before .next-top .ensures) (rests _ _ (not-false _ (rw ((c .before .before .before .before .before .before .before .before .cke .ensures), (c .before .before .before .before .before .before .before .before .before .settings-in .ensures)) at (c .before .before .before .before .before .before .before .if1 .left))) (rw (c .before .before .before .before .before .is-begun .ensures) at (c .before .before .before .before .if2 .left))))
+    let at-next-top = c .before .before in let at-if2 = at-next-top .before .before in let at-is-begun = at-if2 .before in
+    let at-if1 = at-is-begun .before .before in let at-cke = at-if1 .before in let at-settings-in = at-cke .before in
+    alike (c .store-sdo .ensures) (rw (at-next-top .next-top .ensures) (rests _ _ (not-false _ (rw ((at-cke .cke .ensures), (at-settings-in .settings-in .ensures)) at (at-if1 .if1 .left))) (rw (at-is-begun .is-begun .ensures) at (at-if2 .if2 .left))))
 
 pub rest-spec : {M : Type 1} → statement M
 rest-spec =
     tie.close
     (tie.spec
-    (λ c κs. search needs)
-    (λ c κs. search needs)
-    returns
-    (λ c κs. search needs)
-    returns-2
-    (λ c κs. search needs)
-    (λ c κs. search needs)
+    (λ c κs. search needs) (λ c κs. search needs) returns (λ c κs. search needs) returns-2 (λ c κs. search needs) (λ c κs. search needs)
     returns-3)

@@ -9,15 +9,12 @@ use Rattle.module_word_steps.proofs.take_word.Tie as tie
 returns : tie.Need-returns
 unfolding wordTaken noted
 returns c =
-    let fetched = (c .before .before .before .before .before .before .before .before .fetch .ensures) in alike (fetched then (c .store-interrupt .ensures)) (rw ((c .before .before .interrupt-in .ensures), (c .before .before .before .before .taken-raises .ensures), (c .before .before .before .before .before .before .unread-in .ensures), (fetched .settings), (fetched .engine)))
+    let at-interrupt-in = c .before .before in let at-taken-raises = at-interrupt-in .before .before in
+    let at-unread-in = at-taken-raises .before .before in let at-fetch = at-unread-in .before .before in
+    let fetched = (at-fetch .fetch .ensures) in alike (fetched then (c .store-interrupt .ensures)) (rw ((at-interrupt-in .interrupt-in .ensures), (at-taken-raises .taken-raises .ensures), (at-unread-in .unread-in .ensures), (fetched .settings), (fetched .engine)))
 
 pub take-word-spec : {M : Type 1} → statement M
 take-word-spec =
     tie.close
     (tie.spec
-    (λ c κs. search needs)
-    (λ c κs. search needs)
-    (λ c κs. search needs)
-    (λ c κs. search needs)
-    (λ c κs. search needs)
-    returns)
+    (λ c κs. search needs) (λ c κs. search needs) (λ c κs. search needs) (λ c κs. search needs) (λ c κs. search needs) returns)

@@ -12,11 +12,13 @@ returns c =
 
 returns-2 : tie.Need-returns-2
 returns-2 c =
-    enhanced _ _ (not-false _ (rw (c .before .before .before .before .before .settings-in .ensures) at (c .before .before .before .if1 .left))) (rw ((rw (c .before .before .before .before .before .settings-in .ensures) at (c .before .if2 .taken)), (c .room-in .ensures)))
+    let at-if1 = c .before .before .before in let at-settings-in = at-if1 .before .before in
+    enhanced _ _ (not-false _ (rw (at-settings-in .settings-in .ensures) at (at-if1 .if1 .left))) (rw ((rw (at-settings-in .settings-in .ensures) at (c .before .if2 .taken)), (c .room-in .ensures)))
 
 returns-3 : tie.Need-returns-3
 returns-3 c =
-    enhanced _ _ (not-false _ (rw (c .before .before .before .before .settings-in .ensures) at (c .before .before .if1 .left))) (rw (ne-eqb _ _ (rw (c .before .before .before .before .settings-in .ensures) at (c .if2 .left))))
+    let at-if1 = c .before .before in let at-settings-in = at-if1 .before .before in
+    enhanced _ _ (not-false _ (rw (at-settings-in .settings-in .ensures) at (at-if1 .if1 .left))) (rw (ne-eqb _ _ (rw (at-settings-in .settings-in .ensures) at (c .if2 .left))))
 
 pub written-raises-spec : {M : Type 1} → statement M
 written-raises-spec =

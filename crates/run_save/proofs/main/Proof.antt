@@ -10,7 +10,8 @@ use Rattle.run_save.proofs.main.Tie as tie
 
 slice-aggregate-write-all : tie.Need-slice-aggregate-write-all
 slice-aggregate-write-all c =
-    sym (length-take-le _ _ (omega (arith, ap length (c .before .before .before .before .before .save .ensures .1) ∙ buffer-length _ _)))
+    let back-3 = c .before .before .before in let at-save = back-3 .before .before in
+    sym (length-take-le _ _ (omega (arith, ap length (at-save .save .ensures .1) ∙ buffer-length _ _)))
 
 pub main-spec : {M : Type 1} → statement M
 main-spec =

@@ -33,19 +33,21 @@ loop-holds c =
 
 add-at : tie.Need-add-at Inv-loop μ-loop
 add-at c =
-    let l = c .before .before .before .before .before in
-    let script = l .before .before .before .before .args .script .now in
-    let taken = c .before .before .before .before .loop-test .taken in
-    omega (arith, c .before .before .before .next-line .ensures .1, within script (l .loop .at) _ refl taken)
+    let at-next-line = c .before .before .before in let at-loop-test = at-next-line .before in let l = at-loop-test .before in
+    let back-8 = l .before .before .before in let start = back-8 .before in
+    let script = start .args .script .now in
+    let taken = at-loop-test .loop-test .taken in
+    omega (arith, at-next-line .next-line .ensures .1, within script (l .loop .at) _ refl taken)
 
 loop-again : tie.Need-loop-again Inv-loop μ-loop
 loop-again c =
-    let l = c .before .before .before .before .before in
-    let script = l .before .before .before .before .args .script .now in
+    let at-next-line = c .before .before .before in let at-loop-test = at-next-line .before in let l = at-loop-test .before in
+    let back-8 = l .before .before .before in let start = back-8 .before in
+    let script = start .args .script .now in
     let m : Module = moduleIn (l .loop .w) in
     let after : Module = moduleIn (c .before .step .last .0) in
-    let next = c .before .before .before .next-line .ensures in
-    let taken = c .before .before .before .before .loop-test .taken in
+    let next = at-next-line .next-line .ensures in
+    let taken = at-loop-test .loop-test .taken in
     let behind : ℕ = l .loop .at + length (firstLine (drop (l .loop .at) script)) in (
       omega (arith, next .1),
       omega (arith, next .1, within script (l .loop .at) _ refl taken),
@@ -58,22 +60,12 @@ loop-again c =
 
 returns : tie.Need-returns Inv-loop μ-loop
 returns c =
-    let l = c .before .before in
-    sym (l .loop .inv .2 ∙ no-line (l .before .before .before .before .args .script .now) (moduleIn (l .loop .w)) (l .loop .at) (c .before .loop-test .left))
+    let l = c .before .before in let back-5 = l .before .before .before in let start = back-5 .before in
+    sym (l .loop .inv .2 ∙ no-line (start .args .script .now) (moduleIn (l .loop .w)) (l .loop .at) (c .before .loop-test .left))
 
 pub write-spec : {M : Type 1} → statement M
 write-spec =
     tie.close
     (tie.spec
-    Inv-loop
-    μ-loop
-    (λ c κs. search needs)
-    loop-holds
-    (λ c κs. search needs)
-    (λ c κs. search needs)
-    add-at
-    (λ c. search needs)
-    (λ c. search needs)
-    loop-again
-    (λ c κs. search needs)
-    returns)
+    Inv-loop μ-loop (λ c κs. search needs) loop-holds (λ c κs. search needs) (λ c κs. search needs) add-at (λ c. search needs)
+    (λ c. search needs) loop-again (λ c κs. search needs) returns)

@@ -85,39 +85,39 @@ repeats-left f next w₀ left kind named times₀ to₀ w repeats to = repeats
 makes : (t : ℕ) → play-entry-lts.Need-returns (play-entry-callees t) (play-entry-at t) play-entry.Post repeats-inv repeats-left
 unfolding isPlay
 makes t c =
-    let b = c .before .before .before .before in
-    let call : isPlay (b .args .e) ≡ false = ne-eqb (b .args .e .kind) 5 (c .before .before .if1 .taken) in
+    let at-if1 = c .before .before in let b = at-if1 .before .before in
+    let call : isPlay (b .args .e) ≡ false = ne-eqb (b .args .e .kind) 5 (at-if1 .if1 .taken) in
     c .make .ensures
     ∙ sym (ap (afterCalls (moduleIn (b .args .w .now))) (entry-makes (b .args .f .now) (b .args .left) (b .args .e) call))
 
 plays-requires : (t : ℕ) → play-entry-lts.Need-play-section-requires (play-entry-callees t) (play-entry-at t) play-entry.Post repeats-inv repeats-left
 unfolding isPlay
 plays-requires t c κs =
-    let b = c .before .before .before .before .before .before in (
+    let back-3 = c .before .before .before in let at-if1 = back-3 .before in let back-6 = at-if1 .before .before in
+    let b = back-6 in (
       omega (arith, b .pre .0),
-      (b .pre .1 .0, b .pre .1 .1 (eq-eqb (b .args .e .kind) 5 (c .before .before .before .before .if1 .left))),
+      (b .pre .1 .0, b .pre .1 .1 (eq-eqb (b .args .e .kind) 5 (at-if1 .if1 .left))),
     )
 
 plays-again : (t : ℕ) → play-entry-lts.Need-loop-again (play-entry-callees t) (play-entry-at t) play-entry.Post repeats-inv repeats-left
 plays-again t c =
-    let l = c .before .before .before in
-    let b = l .before .before .before .before in
+    let at-loop-test = c .before .before in let l = at-loop-test .before in let back-6 = l .before .before .before in
+    let b = back-6 .before in
     let cs : List Call = playCalls (b .args .f .now) (b .args .left) (b .args .e .argument) in
     l .loop .inv
-    ∙ repeated (moduleIn (l .loop .w)) (l .loop .times) cs (c .before .before .loop-test .taken)
+    ∙ repeated (moduleIn (l .loop .w)) (l .loop .times) cs (at-loop-test .loop-test .taken)
     ∙ ap (λ (m : Module). afterCalls m (times (l .loop .times - 1) cs)) (sym (c .play-section .ensures))
 
 plays-all : (t : ℕ) → play-entry-lts.Need-returns-2 (play-entry-callees t) (play-entry-at t) play-entry.Post repeats-inv repeats-left
 unfolding isPlay
 plays-all t c =
-    let l = c .before in
-    let b = l .before .before .before .before in
+    let at-if1 = c .before .before .before in let b = at-if1 .before .before in
     let f = b .args .f .now in
-    let play : isPlay (b .args .e) ≡ true = eq-eqb (b .args .e .kind) 5 (l .before .before .if1 .left) in
+    let play : isPlay (b .args .e) ≡ true = eq-eqb (b .args .e .kind) 5 (at-if1 .if1 .left) in
     sym
     (ap (afterCalls (moduleIn (b .args .w .now))) (entry-plays f (b .args .left) (b .args .e) play)
-    ∙ l .loop .inv
-    ∙ repeated-none (moduleIn (l .loop .w)) (l .loop .times) (playCalls f (b .args .left) (b .args .e .argument)) (c .loop-test .left))
+    ∙ c .before .loop .inv
+    ∙ repeated-none (moduleIn (c .before .loop .w)) (c .before .loop .times) (playCalls f (b .args .left) (b .args .e .argument)) (c .loop-test .left))
 
 -- A section.
 abbrev records-inv : play-section-lts.InvT-loop
@@ -144,11 +144,11 @@ behind : (t : ℕ) (c : play-section-lts.Then2 (play-section-callees t) (play-se
     Next (l .before .before .before .before .before .args .f .now) (l .loop .at)
     (getD (l .before .before .before .before .before .args .next .now) (l .loop .at / 4) 0)
 behind t c =
-    let l = c .before .before .before .before in
-    let b = l .before .before .before .before .before in
+    let at-entry-of = c .before .before in let at-loop-test = at-entry-of .before in let l = at-loop-test .before in
+    let back-7 = l .before .before .before in let b = back-7 .before .before in
     upcoming (b .args .f .now) (b .pre .1 .0 .0) (b .pre .1 .0 .1) (b .args .k) (b .pre .1 .1) (l .loop .at) (l .loop .records)
-    (l .loop .inv .1) (l .loop .inv .2) (b .args .next .now) (b .pre .1 .0 .2) (c .before .before .before .loop-test .taken)
-    (ap idle (sym (c .before .before .entry-of .ensures)) ∙ sym (c .before .is-idle .ensures) ∙ c .if2 .taken)
+    (l .loop .inv .1) (l .loop .inv .2) (b .args .next .now) (b .pre .1 .0 .2) (at-loop-test .loop-test .taken)
+    (ap idle (sym (at-entry-of .entry-of .ensures)) ∙ sym (c .before .is-idle .ensures) ∙ c .if2 .taken)
 
 no-level : (t : ℕ) → play-section-lts.Need-returns (play-section-callees t) (play-section-at t) play-section.Post records-inv records-left
 no-level t c =
@@ -157,9 +157,9 @@ no-level t c =
 
 records-first : (t : ℕ) → play-section-lts.Need-loop-holds (play-section-callees t) (play-section-at t) play-section.Post records-inv records-left
 records-first t c =
-    let b = c .before .before .before .before in
+    let at-if1 = c .before .before in let b = at-if1 .before .before in
     let f = b .args .f .now in
-    let some : 0 < b .args .left = omega (arith, c .before .before .if1 .left) in (
+    let some : 0 < b .args .left = omega (arith, at-if1 .if1 .left) in (
       some,
       omega arith,
       omega arith,
@@ -177,7 +177,8 @@ mul-to t c = omega arith
 
 copy-to : (t : ℕ) → play-section-lts.Need-element-copy-out-behind (play-section-callees t) (play-section-at t) play-section.Post records-inv records-left
 copy-to t c =
-    let r = there t (c .before .before .before .before) (c .before .before .before .loop-test .taken) in
+    let at-loop-test = c .before .before .before in let back-4 = at-loop-test .before in
+    let r = there t back-4 (at-loop-test .loop-test .taken) in
     omega (arith, r .inside, r .short)
 
 sub-passed : (t : ℕ) → play-section-lts.Need-sub-passed (play-section-callees t) (play-section-at t) play-section.Post records-inv records-left
@@ -185,73 +186,75 @@ sub-passed t c = omega (arith, behind t (c .before) .further)
 
 nothing-more : (t : ℕ) → play-section-lts.Need-returns-2 (play-section-callees t) (play-section-at t) play-section.Post records-inv records-left
 nothing-more t c =
-    let l = c .before .before .before .before .before .before in
-    let b = l .before .before .before .before .before in
+    let back-2 = c .before .before in let at-loop-test = back-2 .before .before .before in let l = at-loop-test .before in
+    let back-9 = l .before .before .before in let b = back-9 .before .before in
     sym
     (l .loop .inv .3
     ∙ ap (afterCalls (moduleIn (l .loop .w)))
-    (played-out (b .args .f .now) (b .args .left - 1) (l .loop .at) (l .loop .records) (behind t (c .before .before))
-    (there t l (c .before .before .before .before .before .loop-test .taken) .inside) (c .if3 .taken)))
+    (played-out (b .args .f .now) (b .args .left - 1) (l .loop .at) (l .loop .records) (behind t back-2)
+    (there t l (at-loop-test .loop-test .taken) .inside) (c .if3 .taken)))
 
 passed-less : (t : ℕ) → play-section-lts.Need-loop-less (play-section-callees t) (play-section-at t) play-section.Post records-inv records-left
 passed-less t c = omega (arith, c .if3 .left, behind t (c .before .before) .further)
 
 passed-again : (t : ℕ) → play-section-lts.Need-loop-again (play-section-callees t) (play-section-at t) play-section.Post records-inv records-left
 passed-again t c =
-    let l = c .before .before .before .before .before .before in
-    let b = l .before .before .before .before .before in
-    let u = behind t (c .before .before) in (
+    let back-2 = c .before .before in let at-loop-test = back-2 .before .before .before in let l = at-loop-test .before in
+    let back-9 = l .before .before .before in let b = back-9 .before .before in
+    let u = behind t back-2 in (
       l .loop .inv .0,
       omega (arith, l .loop .inv .1),
       omega (arith, l .loop .inv .2, c .if3 .left, u .further, u .whole),
       l .loop .inv .3
           ∙ ap (afterCalls (moduleIn (l .loop .w)))
           (passed-on (b .args .f .now) (b .args .left - 1) (l .loop .at) (l .loop .records) u
-          (there t l (c .before .before .before .before .before .loop-test .taken) .inside)),
+          (there t l (at-loop-test .loop-test .taken) .inside)),
     )
 
 sub-left : (t : ℕ) → play-section-lts.Need-sub-play-entry (play-section-callees t) (play-section-at t) play-section.Post records-inv records-left
-sub-left t c = c .before .before .before .before .before .loop .inv .0
+sub-left t c =
+    let back-3 = c .before .before .before in let at-loop = back-3 .before .before in
+    at-loop .loop .inv .0
 
 entry-requires : (t : ℕ) → play-section-lts.Need-play-entry-requires (play-section-callees t) (play-section-at t) play-section.Post records-inv records-left
 entry-requires t c κs =
-    let l = c .before .before .before .before .before in
-    let b = l .before .before .before .before .before in
-    let e = c .before .before .before .entry-of in
-    let right = ap (rightOf (b .args .f .now) (b .args .k)) (e .ensures) ∙ there t l (c .before .before .before .before .loop-test .taken) .right in (
+    let at-entry-of = c .before .before .before in let at-loop-test = at-entry-of .before in let l = at-loop-test .before in
+    let back-8 = l .before .before .before in let b = back-8 .before .before in
+    let e = at-entry-of .entry-of in
+    let right = ap (rightOf (b .args .f .now) (b .args .k)) (e .ensures) ∙ there t l (at-loop-test .loop-test .taken) .right in (
       omega (arith, b .pre .0, l .loop .inv .0),
       (b .pre .1 .0, names-one (b .args .f .now) (b .args .k) (e .result) right),
     )
 
 add-at : (t : ℕ) → play-section-lts.Need-add-at (play-section-callees t) (play-section-at t) play-section.Post records-inv records-left
 add-at t c =
-    let r = there t (c .before .before .before .before .before .before) (c .before .before .before .before .before .loop-test .taken) in
+    let back-3 = c .before .before .before in let at-loop-test = back-3 .before .before in let back-6 = at-loop-test .before in
+    let r = there t back-6 (at-loop-test .loop-test .taken) in
     omega (arith, r .inside, r .short)
 
 records-again : (t : ℕ) → play-section-lts.Need-loop-again-2 (play-section-callees t) (play-section-at t) play-section.Post records-inv records-left
 records-again t c =
-    let l = c .before .before .before .before .before .before in
-    let b = l .before .before .before .before .before in
+    let back-3 = c .before .before .before in let at-entry-of = back-3 .before in let at-loop-test = at-entry-of .before in
+    let l = at-loop-test .before in let back-9 = l .before .before .before in let b = back-9 .before .before in
     let f = b .args .f .now in
     let left = b .args .left - 1 in
     let m : Module = moduleIn (l .loop .w) in
-    let some = c .before .before .before .before .before .loop-test .taken in (
+    let some = at-loop-test .loop-test .taken in (
       l .loop .inv .0,
       omega (arith, l .loop .inv .1),
       omega (arith, l .loop .inv .2, some),
       l .loop .inv .3
           ∙ played-on f left (l .loop .at) (l .loop .records) m some
           ∙ ap (λ (x : Module). afterCalls x (callsBy (playCalls f left) (entriesAt f (l .loop .records - 1) (l .loop .at + 4))))
-          (sym (c .play-entry .ensures ∙ ap (λ (e : Entry). afterCalls m (entryCalls f left e)) (c .before .before .before .before .entry-of .ensures))),
+          (sym (c .play-entry .ensures ∙ ap (λ (e : Entry). afterCalls m (entryCalls f left e)) (at-entry-of .entry-of .ensures))),
     )
 
 records-done : (t : ℕ) → play-section-lts.Need-returns-3 (play-section-callees t) (play-section-at t) play-section.Post records-inv records-left
 records-done t c =
-    let l = c .before in
-    let b = l .before .before .before .before .before in
+    let back-3 = c .before .before .before in let b = back-3 .before .before .before in
     sym
-    (l .loop .inv .3
-    ∙ none-left (b .args .f .now) (b .args .left - 1) (l .loop .records) (l .loop .at) (moduleIn (l .loop .w)) (c .loop-test .left))
+    (c .before .loop .inv .3
+    ∙ none-left (b .args .f .now) (b .args .left - 1) (c .before .loop .records) (c .before .loop .at) (moduleIn (c .before .loop .w)) (c .loop-test .left))
 
 pub +play-entry+play-section-spec : {M : Type 1} → statement M
 +play-entry+play-section-spec =

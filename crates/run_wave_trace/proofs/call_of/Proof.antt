@@ -29,9 +29,10 @@ returns-3 c =
 returns-4 : tie.Need-returns-4
 unfolding callOf wireIn
 returns-4 c =
-    let wires = c .before .before .before .before .args .e .argument in
-    not-so-eq _ 0 _ _ (c .before .before .before .if1 .left)
-    (not-so-eq _ 1 _ _ (c .before .before .if2 .left)
+    let at-if2 = c .before .before in let at-if1 = at-if2 .before in let start = at-if1 .before in
+    let wires = start .args .e .argument in
+    not-so-eq _ 0 _ _ (at-if1 .if1 .left)
+    (not-so-eq _ 1 _ _ (at-if2 .if2 .left)
     (not-so-eq _ 2 _ _ (c .before .if3 .left)
     (so-eq _ 3 _ _ (c .if4 .taken) (ap (λ (n : ℕ). Pin (eqb (wires / 2 % 2) 1) (eqb (n % 2) 1) (eqb (wires / 4 % 2) 1)) (bit-0 wires)))))
 

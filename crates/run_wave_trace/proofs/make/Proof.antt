@@ -16,18 +16,14 @@ slice-aggregate-print c = sym (length-take-le _ _ (omega arith))
 returns : tie.Need-returns
 unfolding lineAfter
 returns c =
-    let b = c .before .before .before .before .before .before .before .before .before in
-    c .before .before .before .before .step .ensures .0
-    ∙ ap (λ (x : Call). performOf (moduleIn (b .args .w .now)) x .after) (c .before .before .before .before .before .before .before .call-of .ensures)
+    let back-3 = c .before .before .before in let at-step = back-3 .before in let at-call-of = at-step .before .before .before in
+    let b = at-call-of .before .before in
+    at-step .step .ensures .0
+    ∙ ap (λ (x : Call). performOf (moduleIn (b .args .w .now)) x .after) (at-call-of .call-of .ensures)
 
 pub make-spec : {M : Type 1} → statement M
 make-spec =
     tie.close
     (tie.spec
-    (λ c κs. search needs)
-    (λ c κs. search needs)
-    (λ c. search needs)
-    slice-aggregate-print
-    (λ c κs. search needs)
-    (λ c κs. search needs)
+    (λ c κs. search needs) (λ c κs. search needs) (λ c. search needs) slice-aggregate-print (λ c κs. search needs) (λ c κs. search needs)
     returns)

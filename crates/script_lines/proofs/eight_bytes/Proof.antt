@@ -14,13 +14,15 @@ use Rattle.script_lines.proofs.eight_bytes.Tie as tie
 -- The line of the eight bytes.
 abbrev line : tie.Then1 → List ℕ
 line c =
-    let a = c .before .before .before .before .before .before .args in
+    let back-3 = c .before .before .before in let start = back-3 .before .before .before in
+    let a = start .args in
     a .k ∷ a .s ∷ a .n ∷ a .t ∷ a .a ∷ a .b ∷ a .c ∷ a .d ∷ []
 
 -- The test is whether the line has the form of a write.
 is-write : (c : tie.Then1) → hasForm writeForm (line c) ≡ true
 is-write c =
-    let a = c .before .before .before .before .before .before .args in
+    let back-3 = c .before .before .before in let start = back-3 .before .before .before in
+    let a = start .args in
     cc (write-tests (a .k) (a .s) (a .n) (a .t) (a .a) (a .b) (a .c) (a .d))
 
 hex-value-requires : tie.Need-hex-value-requires
@@ -42,19 +44,21 @@ hex-value-requires-4 c κs = fits-at writeForm (line (c .before .before .before)
 sub-t28 : tie.Need-sub-t28
 unfolding writeForm
 sub-t28 c =
-    let t = c .before .before .before .before in
-    let n = t .before .before .before .before .before .before .args .n in
+    let back-3 = c .before .before .before in let t = back-3 .before in let back-7 = t .before .before .before in
+    let start = back-7 .before .before .before in
+    let n = start .args .n in
     omega (arith, digit-range n (fits-at writeForm (line t) (is-write t) 2 (omega arith)) .0)
 
 returns : tie.Need-returns
 unfolding digitValue fourHexValue
 returns c =
-    let t = c .before .before .before .before in
+    let back-3 = c .before .before .before in let t = back-3 .before in
     cc (as-write (line t) (is-write t))
 
 returns-2 : tie.Need-returns-2
 returns-2 c =
-    let a = c .before .before .before .before .before .before .args in
+    let back-3 = c .before .before .before in let start = back-3 .before .before .before in
+    let a = start .args in
     sym
     (unread _ (cc (write-tests (a .k) (a .s) (a .n) (a .t) (a .a) (a .b) (a .c) (a .d))) (not-read _ (λ e. omega arith))
     (not-tick _ (λ e. omega arith)) (not-tick-ss _ (λ e. omega arith)) (not-pin _ (λ e. omega arith)) (not-clear _ (λ e. omega arith)))

@@ -27,8 +27,9 @@ sub-result c = omega arith
 
 returns : tie.Need-returns Inv-loop μ-loop
 returns c =
-    let e = c .before .before .before .loop .end in
-    omega (arith, stops (c .before .before .before .before .args .script .now) e (omega arith) (c .if1 .taken))
+    let at-loop = c .before .before .before in let start = at-loop .before in
+    let e = at-loop .loop .end in
+    omega (arith, stops (start .args .script .now) e (omega arith) (c .if1 .taken))
 
 add-end : tie.Need-add-end Inv-loop μ-loop
 add-end c = omega arith
@@ -38,8 +39,9 @@ loop-less c = omega arith
 
 loop-again : tie.Need-loop-again Inv-loop μ-loop
 loop-again c =
-    let e = c .before .before .before .loop .end in
-    (omega arith, omega (arith, goes-on (c .before .before .before .before .args .script .now) e (omega arith) (c .if1 .left)))
+    let at-loop = c .before .before .before in let start = at-loop .before in
+    let e = at-loop .loop .end in
+    (omega arith, omega (arith, goes-on (start .args .script .now) e (omega arith) (c .if1 .left)))
 
 sub-result-2 : tie.Need-sub-result-2 Inv-loop μ-loop
 sub-result-2 c = omega arith
@@ -51,14 +53,4 @@ pub line-length-spec : {M : Type 1} → statement M
 line-length-spec =
     tie.close
     (tie.spec
-    Inv-loop
-    μ-loop
-    loop-holds
-    shared-slice-read-if1
-    sub-result
-    returns
-    add-end
-    loop-less
-    loop-again
-    sub-result-2
-    returns-2)
+    Inv-loop μ-loop loop-holds shared-slice-read-if1 sub-result returns add-end loop-less loop-again sub-result-2 returns-2)

@@ -11,28 +11,31 @@ use Rattle.script_lines.proofs.reading.Tie as tie
 
 returns : tie.Need-returns
 returns c =
-    let t = c .before .before .before .before .before .before .before .before .before in
-    by-case readingOf (all-bytes 8 (t .before .before .args .line .now) (t .if1 .taken)) (c .eight-bytes .ensures)
+    let back-3 = c .before .before .before in let back-6 = back-3 .before .before .before in let t = back-6 .before .before .before in
+    let start = t .before .before in
+    by-case readingOf (all-bytes 8 (start .args .line .now) (t .if1 .taken)) (c .eight-bytes .ensures)
 
 returns-2 : tie.Need-returns-2
 returns-2 c =
-    let t = c .before .before .before .before in
-    by-case readingOf (all-bytes 3 (t .before .before .before .args .line .now) (t .if2 .taken)) (c .three-bytes .ensures)
+    let back-3 = c .before .before .before in let t = back-3 .before in let start = t .before .before .before in
+    by-case readingOf (all-bytes 3 (start .args .line .now) (t .if2 .taken)) (c .three-bytes .ensures)
 
 returns-3 : tie.Need-returns-3
 returns-3 c =
-    let t = c .before .before .before .before .before .before in
-    by-case readingOf (all-bytes 5 (t .before .before .before .before .args .line .now) (t .if3 .taken)) (c .five-bytes .ensures)
+    let back-3 = c .before .before .before in let t = back-3 .before .before .before in let back-9 = t .before .before .before in
+    let start = back-9 .before in
+    by-case readingOf (all-bytes 5 (start .args .line .now) (t .if3 .taken)) (c .five-bytes .ensures)
 
 returns-4 : tie.Need-returns-4
 returns-4 c =
-    let t = c .before .before .before .before .before .before .before .before in
-    by-case readingOf (all-bytes 7 (t .before .before .before .before .before .args .line .now) (t .if4 .taken)) (c .seven-bytes .ensures)
+    let back-3 = c .before .before .before in let back-6 = back-3 .before .before .before in let t = back-6 .before .before in
+    let back-11 = t .before .before .before in let start = back-11 .before .before in
+    by-case readingOf (all-bytes 7 (start .args .line .now) (t .if4 .taken)) (c .seven-bytes .ensures)
 
 returns-5 : tie.Need-returns-5
 returns-5 c =
-    let t = c .before .before in
-    by-case readingOf (all-bytes 1 (t .before .before .before .before .before .before .args .line .now) (t .if5 .taken)) (c .one-byte .ensures)
+    let t = c .before .before in let back-5 = t .before .before .before in let start = back-5 .before .before .before in
+    by-case readingOf (all-bytes 1 (start .args .line .now) (t .if5 .taken)) (c .one-byte .ensures)
 
 returns-6 : tie.Need-returns-6
 returns-6 c =

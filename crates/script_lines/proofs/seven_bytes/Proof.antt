@@ -10,12 +10,14 @@ use Rattle.script_lines.proofs.seven_bytes.Tie as tie
 returns : tie.Need-returns
 unfolding levelValue
 returns c =
-    let a = c .before .before .before .before .args in
+    let back-3 = c .before .before .before in let start = back-3 .before in
+    let a = start .args in
     sym (as-pin _ refl (cc (pin-tests (a .k) (a .s) (a .a) (a .t) (a .b) (a .u) (a .c))))
 
 returns-2 : tie.Need-returns-2
 returns-2 c =
-    let a = c .before .before .before .before .args in
+    let back-3 = c .before .before .before in let start = back-3 .before in
+    let a = start .args in
     sym
     (unread _ (not-write _ (λ e. omega arith)) (not-read _ (λ e. omega arith)) (not-tick _ (λ e. omega arith))
     (not-tick-ss _ (λ e. omega arith)) (cc (pin-tests (a .k) (a .s) (a .a) (a .t) (a .b) (a .u) (a .c))) (not-clear _ (λ e. omega arith)))

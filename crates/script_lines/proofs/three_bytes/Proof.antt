@@ -39,15 +39,17 @@ returns c = sym (as-read (line (c .before .before)) refl (is-read c))
 returns-2 : tie.Need-returns-2
 unfolding levelValue
 returns-2 c =
-    let a = c .before .before .before .before .args in
+    let back-2 = c .before .before in let start = back-2 .before .before in
+    let a = start .args in
     sym
-    (as-tick (line (c .before .before .before .before)) refl (not-a-read (c .before .before)) (cc (tick-tests (a .k) (a .s) (a .n))))
+    (as-tick (line start) refl (not-a-read back-2) (cc (tick-tests (a .k) (a .s) (a .n))))
 
 returns-3 : tie.Need-returns-3
 returns-3 c =
-    let a = c .before .before .before .before .args in
+    let back-2 = c .before .before in let start = back-2 .before .before in
+    let a = start .args in
     sym
-    (unread _ (not-write _ (λ e. omega arith)) (not-a-read (c .before .before)) (cc (tick-tests (a .k) (a .s) (a .n)))
+    (unread _ (not-write _ (λ e. omega arith)) (not-a-read back-2) (cc (tick-tests (a .k) (a .s) (a .n)))
     (not-tick-ss _ (λ e. omega arith)) (not-pin _ (λ e. omega arith)) (not-clear _ (λ e. omega arith)))
 
 pub three-bytes-spec : {M : Type 1} → statement M

@@ -23,61 +23,69 @@ put-requires c κs =
 
 put-refused-requires : tie.Need-put-refused-requires
 put-refused-requires c κs =
-    let number = c .before .before .before .before .before .before .before .args .number in
+    let back-3 = c .before .before .before in let back-6 = back-3 .before .before .before in let start = back-6 .before in
+    let number = start .args .number in
     omega (arith, line-number-short number (omega arith))
 
 put-requires-2 : tie.Need-put-requires-2
 put-requires-2 c κs =
-    let number = c .before .before .before .before .before .before .before .before .before .args .number in
+    let back-3 = c .before .before .before in let back-6 = back-3 .before .before .before in let start = back-6 .before .before .before in
+    let number = start .args .number in
     omega (arith, line-number-short number (omega arith), refused-length UnreadableLine)
 
 put-answer-requires : tie.Need-put-answer-requires
 put-answer-requires c κs =
-    let number = c .before .before .before .before .before .before .before .before .before .before .before .args .number in
+    let back-3 = c .before .before .before in let back-6 = back-3 .before .before .before in let back-9 = back-6 .before .before .before in
+    let start = back-9 .before .before in
+    let number = start .args .number in
     omega (arith, line-number-short number (omega arith))
 
 put-requires-3 : tie.Need-put-requires-3
 put-requires-3 c κs =
-    let number = c .before .before .before .before .before .before .before .before .before .before .before .before .before .args .number in
+    let back-3 = c .before .before .before in let back-6 = back-3 .before .before .before in let back-9 = back-6 .before .before .before in
+    let back-12 = back-9 .before .before .before in let start = back-12 .before in
+    let number = start .args .number in
     omega (arith, line-number-short number (omega arith), answer-short _ _ _ (c .before .put-answer .ensures))
 
 returns : tie.Need-returns
 unfolding lineAfter lineText answerLine
 returns c =
-    let w = c .before .before .before .before .before .before .before .before .before .before .args .w .now in
-    let enum-told = c .before .before .before .before .enum-told .given .1 in
-    let number = c .before .before .before .before .before .before .before .before .before .before .args .number in
-    let put-decimal = c .before .before .before .before .before .before .before .before .put-decimal .ensures in
-    let put = c .before .before .before .before .before .before .put .ensures in
+    let at-put-refused = c .before .before in let at-enum-told = at-put-refused .before .before in
+    let at-put = at-enum-told .before .before in let at-put-decimal = at-put .before .before in
+    let start = at-put-decimal .before .before in
+    let w = start .args .w .now in
+    let enum-told = at-enum-told .enum-told .given .1 in
+    let number = start .args .number in
+    let put-decimal = at-put-decimal .put-decimal .ensures in
+    let put = at-put .put .ensures in
     let m = moduleIn w in (
       by-case (lineAfter m) enum-told refl,
-      written-case (answerLine number m) enum-told (written-then put-decimal (written-then put (written-then (c .before .before .put-refused .ensures) (c .put2 .ensures)))),
+      written-case (answerLine number m) enum-told (written-then put-decimal (written-then put (written-then (at-put-refused .put-refused .ensures) (c .put2 .ensures)))),
     )
 
 returns-2 : tie.Need-returns-2
 unfolding lineAfter answerLine
 returns-2 c =
-    let w = c .before .before .before .before .before .before .before .before .before .before .before .before .before .before .args .w .now in
-    let line = c .before .before .before .before .before .before .before .before .line .given .1 in
-    let perform-ensures-outcome = c .before .before .before .before .before .perform .ensures .outcome in
-    let number = c .before .before .before .before .before .before .before .before .before .before .before .before .before .before .args .number in
-    let put-decimal = c .before .before .before .before .before .before .before .before .before .before .before .before .put-decimal .ensures in
-    let put = c .before .before .before .before .before .before .before .before .before .before .put .ensures in
+    let at-put-answer = c .before .before in let at-perform = at-put-answer .before .before .before in
+    let at-line = at-perform .before .before .before in let at-put = at-line .before .before in
+    let at-put-decimal = at-put .before .before in let start = at-put-decimal .before .before in
+    let w = start .args .w .now in
+    let line = at-line .line .given .1 in
+    let perform-ensures-outcome = at-perform .perform .ensures .outcome in
+    let number = start .args .number in
+    let put-decimal = at-put-decimal .put-decimal .ensures in
+    let put = at-put .put .ensures in
     let m = moduleIn w in (
       by-case (lineAfter m) line (ap (λ (o : Outcome). o .after) perform-ensures-outcome),
       written-case (answerLine number m) line
-          (written-then put-decimal (written-then put (written-then (asked-text _ _ perform-ensures-outcome (c .before .before .put-answer .ensures)) (c .put3 .ensures)))),
+          (written-then put-decimal (written-then put (written-then (asked-text _ _ perform-ensures-outcome (at-put-answer .put-answer .ensures)) (c .put3 .ensures)))),
     )
 
 pub answer-line-spec : {M : Type 1} → statement M
 answer-line-spec =
     tie.close
     (tie.spec
-    put-decimal-requires
-    put-requires
-    (λ c. search needs)
-    put-refused-requires
-    put-requires-2
+    put-decimal-requires put-requires (λ c. search needs) put-refused-requires put-requires-2
     (λ c. search needs) (λ c κs. search needs)
     put-answer-requires
     put-requires-3

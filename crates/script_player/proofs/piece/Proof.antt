@@ -24,7 +24,9 @@ loop-holds : tie.Need-loop-holds Inv-loop μ-loop
 loop-holds c = playing-starts 256 _ _ _
 
 play-line-requires : tie.Need-play-line-requires Inv-loop μ-loop
-play-line-requires c κs = (cut-part _ _ (c .before .before .before .before .before .bytes-read .ensures), omega (arith, c .before .before .before .loop .inv .room))
+play-line-requires c κs =
+    let at-loop = c .before .before .before in let at-bytes-read = at-loop .before .before in
+    (cut-part _ _ (at-bytes-read .bytes-read .ensures), omega (arith, at-loop .loop .inv .room))
 
 add-k : tie.Need-add-k Inv-loop μ-loop
 add-k c = omega arith
@@ -33,7 +35,9 @@ loop-less : tie.Need-loop-less Inv-loop μ-loop
 loop-less c = omega arith
 
 loop-again : tie.Need-loop-again Inv-loop μ-loop
-loop-again c = playing-goes-on (c .before .before .before .before .loop .inv) (omega arith) (c .play-line .ensures .0) (c .play-line .ensures .1)
+loop-again c =
+    let back-3 = c .before .before .before in let at-loop = back-3 .before in
+    playing-goes-on (at-loop .loop .inv) (omega arith) (c .play-line .ensures .0) (c .play-line .ensures .1)
 
 returns : tie.Need-returns Inv-loop μ-loop
 returns c =
@@ -44,13 +48,4 @@ pub piece-spec : {M : Type 1} → statement M
 piece-spec =
     tie.close
     (tie.spec
-    Inv-loop
-    μ-loop
-    (λ c κs. search needs)
-    slice-aggregate-read
-    loop-holds
-    play-line-requires
-    add-k
-    loop-less
-    loop-again
-    returns)
+    Inv-loop μ-loop (λ c κs. search needs) slice-aggregate-read loop-holds play-line-requires add-k loop-less loop-again returns)

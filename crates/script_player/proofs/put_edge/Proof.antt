@@ -9,10 +9,12 @@ use Rattle.script_player.proofs.put_edge.Tie as tie
 returns : tie.Need-returns
 unfolding edgeText sckOf
 returns c =
-    let level-letter = c .before .before .before .before .before .level-letter .ensures in
-    let pins-in = c .before .before .before .before .before .before .before .pins-in .ensures in
-    let put = c .before .before .before .before .put .ensures in
-    rw (level-letter, pins-in) at (written-then put (written-then (c .before .before .put2 .ensures) (c .put-pins .ensures)))
+    let at-put2 = c .before .before in let at-put = at-put2 .before .before in let at-level-letter = at-put .before in
+    let at-pins-in = at-level-letter .before .before in
+    let level-letter = at-level-letter .level-letter .ensures in
+    let pins-in = at-pins-in .pins-in .ensures in
+    let put = at-put .put .ensures in
+    rw (level-letter, pins-in) at (written-then put (written-then (at-put2 .put2 .ensures) (c .put-pins .ensures)))
 
 pub put-edge-spec : {M : Type 1} → statement M
 put-edge-spec =

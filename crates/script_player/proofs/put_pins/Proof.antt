@@ -9,12 +9,14 @@ use Rattle.script_player.proofs.put_pins.Tie as tie
 returns : tie.Need-returns
 unfolding pinText interruptOf
 returns c =
-    let third = c .before .before .before in
-    let sdo-letter = third .before .before .before .before .before .before .before .sdo-letter .ensures in
-    let sdo = third .before .before .before .before .before .before .before .before .sdo .ensures in
-    let put = third .before .before .before .before .before .before .put .ensures in
-    let put2 = third .before .before .before .before .put2 .ensures in
-    rw (sdo-letter, sdo, (third .before .level-letter .ensures), (third .before .before .interrupt-in .ensures), (c .before .ss .ensures)) at
+    let third = c .before .before .before in let at-level-letter = third .before in let at-interrupt-in = at-level-letter .before in
+    let at-put2 = at-interrupt-in .before .before in let at-put = at-put2 .before .before in let at-sdo-letter = at-put .before in
+    let at-sdo = at-sdo-letter .before in
+    let sdo-letter = at-sdo-letter .sdo-letter .ensures in
+    let sdo = at-sdo .sdo .ensures in
+    let put = at-put .put .ensures in
+    let put2 = at-put2 .put2 .ensures in
+    rw (sdo-letter, sdo, (at-level-letter .level-letter .ensures), (at-interrupt-in .interrupt-in .ensures), (c .before .ss .ensures)) at
     (written-then put (written-then put2 (written-then (third .put3 .ensures) (c .put-ss .ensures))))
 
 pub put-pins-spec : {M : Type 1} → statement M

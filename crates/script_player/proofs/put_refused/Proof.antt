@@ -14,8 +14,9 @@ put-decimal-requires c κs = omega (arith, refusal-number-short _ _ (c .refusal-
 returns : tie.Need-returns
 unfolding refusedText
 returns c =
-    written-then (c .before .before .before .before .before .put .ensures)
-    (written-then (c .before .before .before .put2 .ensures)
+    let at-put2 = c .before .before .before in let at-put = at-put2 .before .before in
+    written-then (at-put .put .ensures)
+    (written-then (at-put2 .put2 .ensures)
     (written-case decimalOf (sym (c .before .refusal-number .ensures)) (c .put-decimal .ensures)))
 
 pub put-refused-spec : {M : Type 1} → statement M

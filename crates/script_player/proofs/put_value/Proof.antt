@@ -7,7 +7,9 @@ use Rattle.script_player.proofs.put_value.Tie as tie
 
 returns : tie.Need-returns
 unfolding fourHexOf
-returns c = written-then (c .before .before .before .before .before .before .put-hex .ensures) (written-then (c .before .before .before .before .put-hex2 .ensures) (written-then (c .before .before .put-hex3 .ensures) (c .put-hex4 .ensures)))
+returns c =
+    let at-put-hex3 = c .before .before in let at-put-hex2 = at-put-hex3 .before .before in let at-put-hex = at-put-hex2 .before .before in
+    written-then (at-put-hex .put-hex .ensures) (written-then (at-put-hex2 .put-hex2 .ensures) (written-then (at-put-hex3 .put-hex3 .ensures) (c .put-hex4 .ensures)))
 
 pub put-value-spec : {M : Type 1} → statement M
 put-value-spec =

@@ -13,12 +13,15 @@ returns c = told ((c .before .tick-within .ensures .taken) (c .if1 .taken)) refl
 returns-2 : tie.Need-returns-2
 unfolding answerNumber levelIn
 returns-2 c =
-    rw ((c .before .before .before .before .tick-within .ensures .left) (c .before .before .before .if1 .left)) at (told ((c .before .frame-within .ensures .taken) (c .if2 .taken)) refl)
+    let at-if1 = c .before .before .before in let at-tick-within = at-if1 .before in
+    rw ((at-tick-within .tick-within .ensures .left) (at-if1 .if1 .left)) at (told ((c .before .frame-within .ensures .taken) (c .if2 .taken)) refl)
 
 returns-3 : tie.Need-returns-3
 unfolding levelIn
 returns-3 c =
-    rw ((c .before .before .before .frame-within .ensures .left) (c .before .before .if2 .left) ∙ (c .before .before .before .before .before .before .tick-within .ensures .left) (c .before .before .before .before .before .if1 .left)) at (c .tick .ensures)
+    let at-if2 = c .before .before in let at-frame-within = at-if2 .before in let at-if1 = at-frame-within .before .before in
+    let at-tick-within = at-if1 .before in
+    rw ((at-frame-within .frame-within .ensures .left) (at-if2 .if2 .left) ∙ (at-tick-within .tick-within .ensures .left) (at-if1 .if1 .left)) at (c .tick .ensures)
 
 pub thurafeqa-tick-spec : {M : Type 1} → statement M
 thurafeqa-tick-spec =

@@ -20,9 +20,10 @@ returns c =
 returns-2 : tie.Need-returns-2
 unfolding enterOf
 returns-2 c =
-    let w = c .before .before .before .before .before .before .args .w .now in
-    let rest = c .before .before .rest in
-    let if1 = c .before .before .before .before .if1 in
+    let at-rest = c .before .before in let at-if1 = at-rest .before .before in let start = at-if1 .before .before in
+    let w = start .args .w .now in
+    let rest = at-rest .rest in
+    let if1 = at-if1 .if1 in
     reset-stored _ (c .is-whole .ensures .1) 0
     (ap (λ (m : Ti). withReset true m) (rest .ensures .steps) ∙ not-so _ _ _ (out-of-reset w (if1 .left)) refl)
 

@@ -10,9 +10,11 @@ use Rattle.ti.proofs.load.Tie as tie
 
 returns : tie.Need-returns
 returns c =
-    let w = c .before .before .before .before .before .before .before .before .args .w .now in
-    let is-whole = c .before .before .before .before .before .before .is-whole in
-    let bit = c .before .before .bit in
+    let at-bit = c .before .before in let back-5 = at-bit .before .before .before in let at-is-whole = back-5 .before in
+    let start = at-is-whole .before .before in
+    let w = start .args .w .now in
+    let is-whole = at-is-whole .is-whole in
+    let bit = at-bit .bit in
     load-stored w (is-whole .ensures .1) _ _
     (c .number .ensures ∙ c .before .between .ensures ∙ ap (λ (b : Bool). if flagIn (placeIn w 4) then b else flagIn (placeIn w 18)) (bit .ensures))
 

@@ -20,51 +20,57 @@ returns c =
 returns-2 : tie.Need-returns-2
 unfolding pinsOf answerNumber numberOf
 returns-2 c =
-    let w = c .before .before .before .before .args .w .now in
-    let if1 = c .before .before .if1 in
+    let at-if1 = c .before .before in let start = at-if1 .before .before in
+    let w = start .args .w .now in
+    let if1 = at-if1 .if1 in
     told (kept refl refl) (not-so _ _ _ (out-of-reset w (if1 .left)) (so _ _ _ (is-master w (c .if2 .taken)) refl))
 
 returns-3 : tie.Need-returns-3
 returns-3 c =
-    let w = c .before .before .before .before .before .before .before .before .before .before .args .w .now in
-    let if1 = c .before .before .before .before .before .before .before .before .if1 in
-    let if2 = c .before .before .before .before .before .before .if2 in
-    let given = c .before .before .before .before .before .before .before .before .before .before in
+    let back-3 = c .before .before .before in let at-if2 = back-3 .before .before .before in let at-if1 = at-if2 .before .before in
+    let given = at-if1 .before .before in
+    let w = given .args .w .now in
+    let if1 = at-if1 .if1 in
+    let if2 = at-if2 .if2 in
     pins-seen w _ _ _ _ (out-of-reset w (if1 .left)) (is-slave w (if2 .left))
     (still-seen w (given .args .sck) (given .args .select) (c .if3 .taken)) (c .before .see .ensures)
 
 returns-4 : tie.Need-returns-4
 returns-4 c =
-    let w = c .before .before .before .before .before .before .before .before .before .before .before .args .w .now in
-    let if1 = c .before .before .before .before .before .before .before .before .before .if1 in
-    let if2 = c .before .before .before .before .before .before .before .if2 in
-    let given = c .before .before .before .before .before .before .before .before .before .before .before in
-    let see = c .before .before .see in
+    let at-see = c .before .before in let back-5 = at-see .before .before .before in let at-if2 = back-5 .before .before in
+    let at-if1 = at-if2 .before .before in let given = at-if1 .before .before in
+    let w = given .args .w .now in
+    let if1 = at-if1 .if1 in
+    let if2 = at-if2 .if2 in
+    let see = at-see .see in
     pins-seen w _ _ _ _ (out-of-reset w (if1 .left)) (is-slave w (if2 .left))
     (deselected-seen w (given .args .sck) (given .args .select) (c .if4 .taken)) (see .ensures)
 
 returns-5 : tie.Need-returns-5
 returns-5 c =
-    let w = c .before .before .before .before .before .before .before .before .before .before .before .before .args .w .now in
-    let if1 = c .before .before .before .before .before .before .before .before .before .before .if1 in
-    let if2 = c .before .before .before .before .before .before .before .before .if2 in
-    let given = c .before .before .before .before .before .before .before .before .before .before .before .before in
-    let leads-on = c .before .before .before .before .before .leads-on in
-    let see = c .before .before .before .see in
+    let at-see = c .before .before .before in let at-leads-on = at-see .before .before in
+    let at-if2 = at-leads-on .before .before .before in let at-if1 = at-if2 .before .before in let given = at-if1 .before .before in
+    let w = given .args .w .now in
+    let if1 = at-if1 .if1 in
+    let if2 = at-if2 .if2 in
+    let leads-on = at-leads-on .leads-on in
+    let see = at-see .see in
     pins-seen w _ _ _ _ (out-of-reset w (if1 .left)) (is-slave w (if2 .left))
     (wrong-way-seen w (given .args .sck) (given .args .select) (ap not (sym (leads-on .ensures)) ∙ c .if5 .taken)) (see .ensures)
 
 returns-6 : tie.Need-returns-6
 returns-6 c =
-    let w = c .before .before .before .before .before .before .before .before .before .before .before .before .before .before .args .w .now in
-    let if1 = c .before .before .before .before .before .before .before .before .before .before .before .before .if1 in
-    let if2 = c .before .before .before .before .before .before .before .before .before .before .if2 in
-    let given = c .before .before .before .before .before .before .before .before .before .before .before .before .before .before in
-    let if3 = c .before .before .before .before .if3 in
-    let if4 = c .before .before .before .if4 in
-    let leads-on = c .before .before .before .before .before .before .before .leads-on in
-    let if5 = c .before .before .if5 in
-    let see = c .before .before .before .before .before .see in
+    let at-if5 = c .before .before in let at-if4 = at-if5 .before in let at-if3 = at-if4 .before in let at-see = at-if3 .before in
+    let at-leads-on = at-see .before .before in let at-if2 = at-leads-on .before .before .before in let at-if1 = at-if2 .before .before in
+    let given = at-if1 .before .before in
+    let w = given .args .w .now in
+    let if1 = at-if1 .if1 in
+    let if2 = at-if2 .if2 in
+    let if3 = at-if3 .if3 in
+    let if4 = at-if4 .if4 in
+    let leads-on = at-leads-on .leads-on in
+    let if5 = at-if5 .if5 in
+    let see = at-see .see in
     pins-edge w _ _ _ _ (out-of-reset w (if1 .left)) (is-slave w (if2 .left))
     (moves-on w (given .args .sck) (given .args .select) (if3 .left) (if4 .left) (ap not (sym (leads-on .ensures)) ∙ if5 .left))
     ((see .ensures) then (c .slave-edge .ensures))

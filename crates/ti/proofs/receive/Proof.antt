@@ -6,8 +6,9 @@ use Rattle.ti.proofs.receive.Tie as tie
 
 returns : tie.Need-returns
 returns c =
-    let w = c .before .before .before .before .before .args .w .now in
-    let is-whole = c .before .before .before .is-whole in
+    let at-is-whole = c .before .before .before in let start = at-is-whole .before .before in
+    let w = start .args .w .now in
+    let is-whole = at-is-whole .is-whole in
     land-stored w (is-whole .ensures .1) _ _ (c .number .ensures)
 
 pub receive-spec : {M : Type 1} → statement M

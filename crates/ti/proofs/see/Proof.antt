@@ -11,8 +11,9 @@ use Rattle.ti.proofs.see.Tie as tie
 
 returns : tie.Need-returns
 returns c =
-    let w = c .before .before .before .before .args .w .now in
-    let is-whole = c .before .before .is-whole in
+    let at-is-whole = c .before .before in let start = at-is-whole .before .before in
+    let w = start .args .w .now in
+    let is-whole = at-is-whole .is-whole in
     alike (seen-stored w (is-whole .ensures .1) _ _)
     (ap₂ (λ (a b : Bool). seen a b (tiIn w .engine)) (c .before .number .ensures) (c .number2 .ensures))
 

@@ -22,9 +22,10 @@ edge-requires-2 c κs =
 
 returns : tie.Need-returns
 returns c =
-    let w = c .before .before .before .before .before .before .args .w .now in
-    let begin-zeros = c .before .before .begin-zeros in
-    let if1 = c .before .before .before .before .if1 in
+    let at-begin-zeros = c .before .before in let at-if1 = at-begin-zeros .before .before in let start = at-if1 .before .before in
+    let w = start .args .w .now in
+    let begin-zeros = at-begin-zeros .begin-zeros in
+    let if1 = at-if1 .if1 in
     alike ((begin-zeros .ensures) then (c .edge .ensures)) (zeros-edge _ _ _ (free-there w (if1 .taken)))
 
 pub slave-edge-spec : {M : Type 1} → statement M

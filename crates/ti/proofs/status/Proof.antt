@@ -8,9 +8,10 @@ use Rattle.ti.proofs.status.Tie as tie
 
 returns : tie.Need-returns
 returns c =
-    let w = c .before .before .before .before .before .before .args .w .now in
-    let weighed = c .before .before .before .before .weighed in
-    let weighed2 = c .before .before .weighed2 in
+    let at-weighed2 = c .before .before in let at-weighed = at-weighed2 .before .before in let start = at-weighed .before .before in
+    let w = start .args .w .now in
+    let weighed = at-weighed .weighed in
+    let weighed2 = at-weighed2 .weighed2 in
     ap₂ (λ (a b : ℕ). a + b) (ap₂ (λ (a b : ℕ). a + b) (weighed .ensures .0) (weighed2 .ensures .0)) (c .weighed3 .ensures .0) ∙
     status-is w
 

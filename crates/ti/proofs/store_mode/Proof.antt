@@ -7,10 +7,12 @@ use Rattle.ti.proofs.store_mode.Tie as tie
 
 returns : tie.Need-returns
 returns c =
-    let w = c .before .before .before .before .before .before .args .w .now in
-    let is-whole = c .before .before .before .before .is-whole in
-    let number = c .before .before .before .number in
-    let number2 = c .before .before .number2 in
+    let at-number2 = c .before .before in let at-number = at-number2 .before in let at-is-whole = at-number .before in
+    let start = at-is-whole .before .before in
+    let w = start .args .w .now in
+    let is-whole = at-is-whole .is-whole in
+    let number = at-number .number in
+    let number2 = at-number2 .number2 in
     let number3 = c .before .number3 in
     let number4 = c .number4 in
     mode-stored w (is-whole .ensures .1) _ _ _ _

@@ -7,8 +7,9 @@ use Rattle.ti.proofs.turn.Tie as tie
 
 returns : tie.Need-returns
 returns c =
-    let w = c .before .before .before .before .args .w .now in
-    let is-whole = c .before .before .is-whole in
+    let at-is-whole = c .before .before in let start = at-is-whole .before .before in
+    let w = start .args .w .now in
+    let is-whole = at-is-whole .is-whole in
     let number = c .number in
     alike (clock-stored w (is-whole .ensures .1) _) (turned-level w (number .result) (number .ensures))
 

@@ -12,13 +12,15 @@ returns c = sym (no-end (c .before .before .before .args .f .now) (sym (c .befor
 
 returns-2 : tie.Need-returns-2
 returns-2 c =
-    sym (other-end (c .before .before .before .before .args .f .now) (λ none. (c .before .if1 .left) ((c .before .before .stated-end .ensures) ∙ none)) (λ same. (c .if2 .taken) ((c .before .before .stated-end .ensures) ∙ same)))
+    let at-stated-end = c .before .before in let start = at-stated-end .before .before in
+    sym (other-end (start .args .f .now) (λ none. (c .before .if1 .left) ((at-stated-end .stated-end .ensures) ∙ none)) (λ same. (c .if2 .taken) ((at-stated-end .stated-end .ensures) ∙ same)))
 
 returns-3 : tie.Need-returns-3
 returns-3 c =
+    let at-if1 = c .before .before .before in let at-stated-end = at-if1 .before in let start = at-stated-end .before .before in
     (c .in-fours .ensures)
-    ∙ ap (inFours (c .before .before .before .before .before .before .args .f .now)) (c .before .count .ensures)
-    ∙ sym (own-end (c .before .before .before .before .before .before .args .f .now) (λ none. (c .before .before .before .if1 .left) ((c .before .before .before .before .stated-end .ensures) ∙ none)) (sym (c .before .before .before .before .stated-end .ensures) ∙ (omega arith)))
+    ∙ ap (inFours (start .args .f .now)) (c .before .count .ensures)
+    ∙ sym (own-end (start .args .f .now) (λ none. (at-if1 .if1 .left) ((at-stated-end .stated-end .ensures) ∙ none)) (sym (at-stated-end .stated-end .ensures) ∙ (omega arith)))
 
 pub contents-right-spec : {M : Type 1} → statement M
 contents-right-spec =

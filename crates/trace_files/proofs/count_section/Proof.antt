@@ -81,14 +81,14 @@ add-total c =
 
 loop-again : tie.Need-loop-again Inv-loop μ-loop
 loop-again c =
-    let l = c .before .before .before in
-    let b = l .before .before .before .before in
+    let at-loop-test = c .before .before in let l = at-loop-test .before in let back-6 = l .before .before .before in
+    let b = back-6 .before in
     let f = b .args .f .now in
     let k = b .args .k in
     let at = l .loop .at - 4 in
     let n = sizeOf f k / 4 % 65536 in
     let sub : ℕ → ℕ = λ j. getD (b .args .counts .now) j 0 in
-    let r = before l (c .before .before .loop-test .taken) in
+    let r = before l (at-loop-test .loop-test .taken) in
     let e = c .before .whole-entry .ensures in
     let same : l .loop .at ≡ at + 4 = omega (arith, r .behind) in (
       omega arith,
@@ -107,8 +107,7 @@ loop-again c =
 
 returns : tie.Need-returns Inv-loop μ-loop
 returns c =
-    let l = c .before .before in
-    let b = l .before .before .before .before in
+    let l = c .before .before in let back-5 = l .before .before .before in let b = back-5 .before in
     let f = b .args .f .now in
     let k = b .args .k in
     let sub : ℕ → ℕ = λ j. getD (b .args .counts .now) j 0 in
@@ -125,13 +124,7 @@ pub count-section-spec : {M : Type 1} → statement M
 count-section-spec =
     tie.close
     (tie.spec
-    Inv-loop
-    μ-loop
-    (λ c κs. search needs)
-    (λ c κs. search needs)
-    mul-at
-    add-at
-    loop-holds
+    Inv-loop μ-loop (λ c κs. search needs) (λ c κs. search needs) mul-at add-at loop-holds
     (λ c. omega arith)
     (λ c. omega arith)
     cast-whole-entry

@@ -22,7 +22,9 @@ loop-holds : tie.Need-loop-holds Inv-loop μ-loop
 loop-holds c = (omega arith, counts-first (c .before .before .args .f .now) (c .count .result) (omega arith))
 
 count-section-requires : tie.Need-count-section-requires Inv-loop μ-loop
-count-section-requires c κs = (c .before .before .before .before .before .pre .0, omega arith)
+count-section-requires c κs =
+    let back-3 = c .before .before .before in let start = back-3 .before .before in
+    (start .pre .0, omega arith)
 
 array-write-counts : tie.Need-array-write-counts Inv-loop μ-loop
 array-write-counts c =
@@ -53,10 +55,7 @@ pub count-sections-spec : {M : Type 1} → statement M
 count-sections-spec =
     tie.close
     (tie.spec
-    Inv-loop
-    μ-loop
-    (λ c κs. search needs)
-    loop-holds
+    Inv-loop μ-loop (λ c κs. search needs) loop-holds
     (λ c. omega arith)
     count-section-requires
     (λ c. omega arith)

@@ -27,17 +27,19 @@ loop-holds c = (omega arith, omega arith, omega (arith, (c .before .pre)), refl)
 
 returns : tie.Need-returns Inv-loop μ-loop
 returns c =
-    sym (gap-start (c .before .before .before .before .before .before .args .f .now) (c .before .before .before .before .before .before .args .n) (c .before .before .before .before .loop .k) (omega arith) (λ e. (c .if1 .taken) ((c .before .before .start .ensures) ∙ e ∙ sym ((c .before .before .before .before .loop .inv) .2))))
+    let at-start = c .before .before in let at-loop = at-start .before .before in let start = at-loop .before .before in
+    sym (gap-start (start .args .f .now) (start .args .n) (at-loop .loop .k) (omega arith) (λ e. (c .if1 .taken) ((at-start .start .ensures) ∙ e ∙ sym ((at-loop .loop .inv) .2))))
 
 loop-again : tie.Need-loop-again Inv-loop μ-loop
 loop-again c =
-    let f = (c .before .before .before .before .before .before .args .f .now) in
-    let k = (c .before .before .before .before .loop .k) in
+    let back-3 = c .before .before .before in let at-loop = back-3 .before in let start = at-loop .before .before in
+    let f = (start .args .f .now) in
+    let k = (at-loop .loop .k) in
     let next : placeOf f (k + 1) ≡ placeOf f k + sizeOf f k = ap (placeOf f) (let same : k + 1 ≡ suc k = omega arith in same) in (
       omega arith,
       omega arith,
-      omega (arith, (c .before .before .before .before .loop .inv) .2, (c .before .size .ensures)),
-      below-next (λ j. eqb (startOf f j) (placeOf f j)) k ((c .before .before .before .before .loop .inv) .3) (eq-eqb (startOf f k) (placeOf f k) (cc)),
+      omega (arith, (at-loop .loop .inv) .2, (c .before .size .ensures)),
+      below-next (λ j. eqb (startOf f j) (placeOf f j)) k ((at-loop .loop .inv) .3) (eq-eqb (startOf f k) (placeOf f k) (cc)),
     )
 
 returns-2 : tie.Need-returns-2 Inv-loop μ-loop
@@ -51,8 +53,7 @@ pub gapless-end-spec : {M : Type 1} → statement M
 gapless-end-spec =
     tie.close
     (tie.spec
-    Inv-loop
-    μ-loop
+    Inv-loop μ-loop
     (λ c. omega arith)
     (λ c. omega arith)
     loop-holds

@@ -14,7 +14,8 @@ returns c = sym (half-beyond _ _ (c .if1 .taken))
 returns-2 : tie.Need-returns-2
 unfolding halfAt
 returns-2 c =
-    let a = c .before .before .before .before .args in
+    let back-3 = c .before .before .before in let start = back-3 .before in
+    let a = start .args in
     omega (arith, byte-beyond (a .f .now) (a .i + 1) (omega arith))
 
 pub half-at-spec : {M : Type 1} → statement M

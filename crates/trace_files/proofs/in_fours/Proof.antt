@@ -24,13 +24,16 @@ unfolding allBelow
 loop-holds c = (omega arith, refl)
 
 returns : tie.Need-returns Inv-loop μ-loop
-returns c = sym (odd-size (c .before .before .before .before .before .args .f .now) (c .before .before .before .before .before .args .n) (c .before .before .before .loop .k) (omega arith) (λ e. (c .if1 .taken) (omega (arith, (c .before .size .ensures)))))
+returns c =
+    let at-loop = c .before .before .before in let start = at-loop .before .before in
+    sym (odd-size (start .args .f .now) (start .args .n) (at-loop .loop .k) (omega arith) (λ e. (c .if1 .taken) (omega (arith, (c .before .size .ensures)))))
 
 loop-again : tie.Need-loop-again Inv-loop μ-loop
 loop-again c =
-    let f = (c .before .before .before .before .before .args .f .now) in
-    let k = (c .before .before .before .loop .k) in
-    (omega arith, below-next (λ j. eqb (sizeOf f j % 4) 0) k ((c .before .before .before .loop .inv) .1) (eq-eqb (sizeOf f k % 4) 0 (omega (arith, (c .before .size .ensures)))))
+    let at-loop = c .before .before .before in let start = at-loop .before .before in
+    let f = (start .args .f .now) in
+    let k = (at-loop .loop .k) in
+    (omega arith, below-next (λ j. eqb (sizeOf f j % 4) 0) k ((at-loop .loop .inv) .1) (eq-eqb (sizeOf f k % 4) 0 (omega (arith, (c .before .size .ensures)))))
 
 returns-2 : tie.Need-returns-2 Inv-loop μ-loop
 returns-2 c = sym (ap (inFours (c .before .before .before .args .f .now)) (let all : (c .before .before .before .args .n) ≡ (c .before .loop .k) = omega arith in all) ∙ (c .before .loop .inv) .1)
@@ -39,11 +42,7 @@ pub in-fours-spec : {M : Type 1} → statement M
 in-fours-spec =
     tie.close
     (tie.spec
-    Inv-loop
-    μ-loop
-    loop-holds
-    (λ c κs. search needs)
-    returns
+    Inv-loop μ-loop loop-holds (λ c κs. search needs) returns
     (λ c. omega arith)
     (λ c. omega arith)
     loop-again

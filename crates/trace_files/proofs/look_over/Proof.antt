@@ -76,11 +76,4 @@ pub look-over-spec : {M : Type 1} → statement M
 look-over-spec =
     tie.close
     (tie.spec
-    (λ c κs. search needs)
-    returns
-    records-right-requires
-    returns-2
-    count-sections-requires
-    returns-3
-    (λ c. search needs)
-    returns-4)
+    (λ c κs. search needs) returns records-right-requires returns-2 count-sections-requires returns-3 (λ c. search needs) returns-4)

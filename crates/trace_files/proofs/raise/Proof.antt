@@ -11,23 +11,23 @@ returns : tie.Need-returns
 returns c = raised-call (c .before .args .level) (c .before .args .levels .now) (c .before .args .e) (c .if1 .taken)
 
 returns-2 : tie.Need-returns-2
-returns-2 c = raised-kept (c .before .before .before .before .args .level) (c .before .before .before .before .args .levels .now) (c .before .before .before .before .args .e) (c .if2 .taken)
+returns-2 c =
+    let back-3 = c .before .before .before in let start = back-3 .before in
+    raised-kept (start .args .level) (start .args .levels .now) (start .args .e) (c .if2 .taken)
 
 add-levels : tie.Need-add-levels
 unfolding isPlay
-add-levels c = omega (arith, (c .before .before .before .before .pre) (eq-eqb (c .before .before .before .before .args .e .kind) 5 (omega arith)))
+add-levels c =
+    let back-3 = c .before .before .before in let start = back-3 .before in
+    omega (arith, (start .pre) (eq-eqb (start .args .e .kind) 5 (omega arith)))
 
 returns-3 : tie.Need-returns-3
-returns-3 c = raised-new (c .before .before .before .before .args .level) (c .before .before .before .before .args .levels .now) (c .before .before .before .before .args .e) (omega arith) (c .if2 .left)
+returns-3 c =
+    let back-3 = c .before .before .before in let start = back-3 .before in
+    raised-new (start .args .level) (start .args .levels .now) (start .args .e) (omega arith) (c .if2 .left)
 
 pub raise-spec : {M : Type 1} → statement M
 raise-spec =
     tie.close
     (tie.spec
-    returns
-    (λ c. search needs)
-    (λ c. search needs)
-    returns-2
-    add-levels
-    (λ c. search needs)
-    returns-3)
+    returns (λ c. search needs) (λ c. search needs) returns-2 add-levels (λ c. search needs) returns-3)

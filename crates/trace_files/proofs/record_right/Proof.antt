@@ -38,29 +38,33 @@ returns-4 c =
 returns-5 : tie.Need-returns-5
 unfolding rightRecord isPlay wireIn
 returns-5 c =
-    not-so-eq _ _ _ _ (c .before .before .before .before .if1 .left)
-    (not-so-eq _ _ _ _ (c .before .before .before .if2 .left)
-    (not-so-eq _ _ _ _ (c .before .before .if3 .left)
+    let at-if3 = c .before .before in let at-if2 = at-if3 .before in let at-if1 = at-if2 .before in
+    not-so-eq _ _ _ _ (at-if1 .if1 .left)
+    (not-so-eq _ _ _ _ (at-if2 .if2 .left)
+    (not-so-eq _ _ _ _ (at-if3 .if3 .left)
     (not-so-eq _ _ _ _ (c .before .if4 .left)
     (so-eq _ _ _ _ (c .if5 .taken) refl))))
 
 returns-6 : tie.Need-returns-6
 unfolding rightRecord isPlay wireIn
 returns-6 c =
-    not-so-eq _ _ _ _ (c .before .before .before .before .before .before .if1 .left)
-    (not-so-eq _ _ _ _ (c .before .before .before .before .before .if2 .left)
-    (not-so-eq _ _ _ _ (c .before .before .before .before .if3 .left)
-    (not-so-eq _ _ _ _ (c .before .before .before .if4 .left)
-    (not-so-eq _ _ _ _ (c .before .before .if5 .left)
+    let at-if5 = c .before .before in let at-if4 = at-if5 .before in let at-if3 = at-if4 .before in let at-if2 = at-if3 .before in
+    let at-if1 = at-if2 .before in
+    not-so-eq _ _ _ _ (at-if1 .if1 .left)
+    (not-so-eq _ _ _ _ (at-if2 .if2 .left)
+    (not-so-eq _ _ _ _ (at-if3 .if3 .left)
+    (not-so-eq _ _ _ _ (at-if4 .if4 .left)
+    (not-so-eq _ _ _ _ (at-if5 .if5 .left)
     (so-eq _ _ _ _ (c .before .if6 .taken) (cc))))))
 
 returns-7 : tie.Need-returns-7
 unfolding rightRecord isPlay wireIn
 returns-7 c =
-    not-so-eq _ _ _ _ (c .before .before .before .before .before .if1 .left)
-    (not-so-eq _ _ _ _ (c .before .before .before .before .if2 .left)
-    (not-so-eq _ _ _ _ (c .before .before .before .if3 .left)
-    (not-so-eq _ _ _ _ (c .before .before .if4 .left)
+    let at-if4 = c .before .before in let at-if3 = at-if4 .before in let at-if2 = at-if3 .before in let at-if1 = at-if2 .before in
+    not-so-eq _ _ _ _ (at-if1 .if1 .left)
+    (not-so-eq _ _ _ _ (at-if2 .if2 .left)
+    (not-so-eq _ _ _ _ (at-if3 .if3 .left)
+    (not-so-eq _ _ _ _ (at-if4 .if4 .left)
     (not-so-eq _ _ _ _ (c .before .if5 .left)
     (not-so-eq _ _ _ _ (c .if6 .left)
     refl)))))
@@ -69,12 +73,4 @@ pub record-right-spec : {M : Type 1} → statement M
 record-right-spec =
     tie.close
     (tie.spec
-    returns
-    returns-2
-    returns-3
-    returns-4
-    returns-5
-    (λ c. search needs)
-    (λ c κs. search needs)
-    returns-6
-    returns-7)
+    returns returns-2 returns-3 returns-4 returns-5 (λ c. search needs) (λ c κs. search needs) returns-6 returns-7)

@@ -44,16 +44,16 @@ loop-holds c =
 returns : tie.Need-returns Inv-loop μ-loop
 unfolding recordsRight
 returns c =
-    let l = c .before .before .before .before in
-    let f = l .before .before .before .args .f .now in
+    let back-3 = c .before .before .before in let l = back-3 .before in let start = l .before .before .before in
+    let f = start .args .f .now in
     sym
     (below-fails (λ j. allOf f j (entriesOf f j)) (sectionCount f) (l .loop .k) (omega arith)
     (sym (c .before .section-right .ensures .0) ∙ not-true (c .before .section-right .result) (c .if1 .taken)))
 
 loop-again : tie.Need-loop-again Inv-loop μ-loop
 loop-again c =
-    let l = c .before .before .before .before in
-    let f = l .before .before .before .args .f .now in
+    let back-3 = c .before .before .before in let l = back-3 .before in let start = l .before .before .before in
+    let f = start .args .f .now in
     let so = not-false (c .before .section-right .result) (c .if1 .left) in (
       l .loop .inv .0,
       omega arith,
@@ -74,12 +74,7 @@ pub records-right-spec : {M : Type 1} → statement M
 records-right-spec =
     tie.close
     (tie.spec
-    Inv-loop
-    μ-loop
-    (λ c κs. search needs)
-    loop-holds
-    section-right-requires
-    returns
+    Inv-loop μ-loop (λ c κs. search needs) loop-holds section-right-requires returns
     (λ c. omega arith)
     (λ c. omega arith)
     loop-again

@@ -21,22 +21,15 @@ returns-4 c = sym (no-table _ (omega arith))
 
 returns-5 : tie.Need-returns-5
 returns-5 c =
-    let f = c .before .before .before .before .before .before .before .args .f .now in
+    let back-3 = c .before .before .before in let at-count = back-3 .before in let start = at-count .before .before .before in
+    let f = start .args .f .now in
     c .gapless-end .ensures
-    ∙ ap (gaplessEnd f) (c .before .before .before .before .count .ensures)
+    ∙ ap (gaplessEnd f) (at-count .count .ensures)
     ∙ sym (only-gapless f (omega arith) (omega arith) (omega arith) (omega arith))
 
 pub stated-end-spec : {M : Type 1} → statement M
 stated-end-spec =
     tie.close
     (tie.spec
-    returns
-    (λ c κs. search needs)
-    returns-2
-    returns-3
-    (λ c. search needs)
-    (λ c. search needs)
-    (λ c. search needs)
-    returns-4
-    (λ c κs. search needs)
-    returns-5)
+    returns (λ c κs. search needs) returns-2 returns-3 (λ c. search needs) (λ c. search needs) (λ c. search needs) returns-4
+    (λ c κs. search needs) returns-5)

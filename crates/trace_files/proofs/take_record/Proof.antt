@@ -14,9 +14,10 @@ returns c = (sym (not-true (c .before .record-right .result) (c .if1 .taken)) �
 
 raise-requires : tie.Need-raise-requires
 raise-requires c κs =
+    let at-record-right = c .before .before in let start = at-record-right .before .before in
     λ play.
-    play-low (sectionCount (c .before .before .before .before .args .f .now)) (c .before .before .before .before .args .level) (c .before .before .before .before .args .k) (c .before .before .before .before .args .e)
-    (sym (c .before .before .record-right .ensures) ∙ not-false (c .before .before .record-right .result) (c .before .if1 .left)) play
+    play-low (sectionCount (start .args .f .now)) (start .args .level) (start .args .k) (start .args .e)
+    (sym (at-record-right .record-right .ensures) ∙ not-false (at-record-right .record-right .result) (c .before .if1 .left)) play
 
 returns-2 : tie.Need-returns-2
 returns-2 c = (sym (not-false (c .before .before .before .record-right .result) (c .before .before .if1 .left)) ∙ (c .before .before .before .record-right .ensures), (c .raise .ensures) ∙ sym (if-true true _ _ refl))

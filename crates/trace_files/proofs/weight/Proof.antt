@@ -16,12 +16,14 @@ returns c = (not-so-eq _ _ _ _ (c .if1 .taken) refl, omega arith)
 
 mul-result : tie.Need-mul-result
 mul-result c =
-    omega (arith, product-most (c .before .before .before .before .before .args .e .value) (c .wide .result) (omega arith) (omega arith))
+    let back-3 = c .before .before .before in let start = back-3 .before .before in
+    omega (arith, product-most (start .args .e .value) (c .wide .result) (omega arith) (omega arith))
 
 returns-2 : tie.Need-returns-2
 unfolding weightBy isPlay
 returns-2 c =
-    let a = c .before .before .before .before .before .args in (
+    let back-3 = c .before .before .before in let start = back-3 .before .before in
+    let a = start .args in (
       so-eq (a .e .kind) 5 _ _ (omega arith) (ap (λ (n : ℕ). a .e .value * (1 + n)) (c .wide .ensures .0)),
       product-most (a .e .value) (c .wide .result) (omega arith) (omega arith),
     )
@@ -30,12 +32,5 @@ pub weight-spec : {M : Type 1} → statement M
 weight-spec =
     tie.close
     (tie.spec
-    (λ c. search needs)
-    (λ c. search needs)
-    returns
-    (λ c. search needs)
-    (λ c. search needs)
-    (λ c κs. search needs)
-    (λ c. search needs)
-    mul-result
-    returns-2)
+    (λ c. search needs) (λ c. search needs) returns (λ c. search needs) (λ c. search needs) (λ c κs. search needs) (λ c. search needs)
+    mul-result returns-2)

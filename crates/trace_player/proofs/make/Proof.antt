@@ -30,82 +30,78 @@ returns-2 c =
 returns-3 : tie.Need-returns-3
 unfolding callOf performOf
 returns-3 c =
-    let e = (c .before .before .before .before .before .args .e) in
-    leaves (moduleIn (c .before .before .before .before .before .args .w .now)) (Read 3) e ((c .read .ensures .holds))
-    (not-so-eq _ 0 _ _ (c .before .before .before .before .if1 .left) (so-eq _ 1 _ _ (c .before .before .before .if2 .taken) (ap Read (sym (c .before .before .if3 .left)))))
+    let at-if3 = c .before .before in let at-if2 = at-if3 .before in let at-if1 = at-if2 .before in let start = at-if1 .before in
+    let e = (start .args .e) in
+    leaves (moduleIn (start .args .w .now)) (Read 3) e ((c .read .ensures .holds))
+    (not-so-eq _ 0 _ _ (at-if1 .if1 .left) (so-eq _ 1 _ _ (at-if2 .if2 .taken) (ap Read (sym (at-if3 .if3 .left)))))
 
 returns-4 : tie.Need-returns-4
 unfolding callOf performOf wireIn
 returns-4 c =
-    let e = (c .before .before .before .before .before .before .args .e) in
+    let at-if4 = c .before .before .before in let at-if2 = at-if4 .before in let at-if1 = at-if2 .before in let start = at-if1 .before in
+    let e = (start .args .e) in
     let wires = e .argument in
-    leaves (moduleIn (c .before .before .before .before .before .before .args .w .now)) (Tick (eqb (wires % 2) 1) (eqb (wires / 4 % 2) 1)) e
+    leaves (moduleIn (start .args .w .now)) (Tick (eqb (wires % 2) 1) (eqb (wires / 4 % 2) 1)) e
     (ap (λ (o : Outcome). o .after) ((c .before .tick-within .ensures .taken) (c .if5 .taken) .outcome))
-    (not-so-eq _ 0 _ _ (c .before .before .before .before .before .if1 .left)
-    (not-so-eq _ 1 _ _ (c .before .before .before .before .if2 .left)
-    (so-eq _ 2 _ _ (c .before .before .before .if4 .taken) (ap (λ (n : ℕ). Tick (eqb (n % 2) 1) (eqb (wires / 4 % 2) 1)) (bit-0 wires)))))
+    (not-so-eq _ 0 _ _ (at-if1 .if1 .left)
+    (not-so-eq _ 1 _ _ (at-if2 .if2 .left)
+    (so-eq _ 2 _ _ (at-if4 .if4 .taken) (ap (λ (n : ℕ). Tick (eqb (n % 2) 1) (eqb (wires / 4 % 2) 1)) (bit-0 wires)))))
 
 returns-5 : tie.Need-returns-5
 unfolding callOf performOf wireIn
 returns-5 c =
-    let e = (c .before .before .before .before .before .before .before .before .args .e) in
+    let at-if5 = c .before .before in let at-tick-within = at-if5 .before in let at-if4 = at-tick-within .before .before in
+    let at-if2 = at-if4 .before in let at-if1 = at-if2 .before in let start = at-if1 .before in
+    let e = (start .args .e) in
     let wires = e .argument in
-    let told = rw ((c .before .before .before .tick-within .ensures .left) (c .before .before .if5 .left)) at (c .tick .ensures) in
-    leaves (moduleIn (c .before .before .before .before .before .before .before .before .args .w .now)) (Tick (eqb (wires % 2) 1) (eqb (wires / 4 % 2) 1)) e (told .holds)
-    (not-so-eq _ 0 _ _ (c .before .before .before .before .before .before .before .if1 .left)
-    (not-so-eq _ 1 _ _ (c .before .before .before .before .before .before .if2 .left)
-    (so-eq _ 2 _ _ (c .before .before .before .before .before .if4 .taken) (ap (λ (n : ℕ). Tick (eqb (n % 2) 1) (eqb (wires / 4 % 2) 1)) (bit-0 wires)))))
+    let told = rw ((at-tick-within .tick-within .ensures .left) (at-if5 .if5 .left)) at (c .tick .ensures) in
+    leaves (moduleIn (start .args .w .now)) (Tick (eqb (wires % 2) 1) (eqb (wires / 4 % 2) 1)) e (told .holds)
+    (not-so-eq _ 0 _ _ (at-if1 .if1 .left)
+    (not-so-eq _ 1 _ _ (at-if2 .if2 .left)
+    (so-eq _ 2 _ _ (at-if4 .if4 .taken) (ap (λ (n : ℕ). Tick (eqb (n % 2) 1) (eqb (wires / 4 % 2) 1)) (bit-0 wires)))))
 
 returns-6 : tie.Need-returns-6
 unfolding callOf performOf wireIn
 returns-6 c =
-    let e = (c .before .before .before .before .before .before .before .args .e) in
+    let at-if6 = c .before .before .before in let at-if4 = at-if6 .before in let at-if2 = at-if4 .before in let at-if1 = at-if2 .before in
+    let start = at-if1 .before in
+    let e = (start .args .e) in
     let wires = e .argument in
-    leaves (moduleIn (c .before .before .before .before .before .before .before .args .w .now)) (Pin (eqb (wires / 2 % 2) 1) (eqb (wires % 2) 1) (eqb (wires / 4 % 2) 1)) e
+    leaves (moduleIn (start .args .w .now)) (Pin (eqb (wires / 2 % 2) 1) (eqb (wires % 2) 1) (eqb (wires / 4 % 2) 1)) e
     (ap (λ (o : Outcome). o .after) ((c .before .pins-within .ensures .taken) (c .if7 .taken) .outcome))
-    (not-so-eq _ 0 _ _ (c .before .before .before .before .before .before .if1 .left)
-    (not-so-eq _ 1 _ _ (c .before .before .before .before .before .if2 .left)
-    (not-so-eq _ 2 _ _ (c .before .before .before .before .if4 .left)
-    (so-eq _ 3 _ _ (c .before .before .before .if6 .taken) (ap (λ (n : ℕ). Pin (eqb (wires / 2 % 2) 1) (eqb (n % 2) 1) (eqb (wires / 4 % 2) 1)) (bit-0 wires))))))
+    (not-so-eq _ 0 _ _ (at-if1 .if1 .left)
+    (not-so-eq _ 1 _ _ (at-if2 .if2 .left)
+    (not-so-eq _ 2 _ _ (at-if4 .if4 .left)
+    (so-eq _ 3 _ _ (at-if6 .if6 .taken) (ap (λ (n : ℕ). Pin (eqb (wires / 2 % 2) 1) (eqb (n % 2) 1) (eqb (wires / 4 % 2) 1)) (bit-0 wires))))))
 
 returns-7 : tie.Need-returns-7
 unfolding callOf performOf wireIn
 returns-7 c =
-    let e = (c .before .before .before .before .before .before .before .before .before .args .e) in
+    let at-if7 = c .before .before in let at-pins-within = at-if7 .before in let at-if6 = at-pins-within .before .before in
+    let at-if4 = at-if6 .before in let at-if2 = at-if4 .before in let at-if1 = at-if2 .before in let start = at-if1 .before in
+    let e = (start .args .e) in
     let wires = e .argument in
-    let told = rw ((c .before .before .before .pins-within .ensures .left) (c .before .before .if7 .left)) at (c .pins .ensures) in
-    leaves (moduleIn (c .before .before .before .before .before .before .before .before .before .args .w .now)) (Pin (eqb (wires / 2 % 2) 1) (eqb (wires % 2) 1) (eqb (wires / 4 % 2) 1)) e (told .holds)
-    (not-so-eq _ 0 _ _ (c .before .before .before .before .before .before .before .before .if1 .left)
-    (not-so-eq _ 1 _ _ (c .before .before .before .before .before .before .before .if2 .left)
-    (not-so-eq _ 2 _ _ (c .before .before .before .before .before .before .if4 .left)
-    (so-eq _ 3 _ _ (c .before .before .before .before .before .if6 .taken) (ap (λ (n : ℕ). Pin (eqb (wires / 2 % 2) 1) (eqb (n % 2) 1) (eqb (wires / 4 % 2) 1)) (bit-0 wires))))))
+    let told = rw ((at-pins-within .pins-within .ensures .left) (at-if7 .if7 .left)) at (c .pins .ensures) in
+    leaves (moduleIn (start .args .w .now)) (Pin (eqb (wires / 2 % 2) 1) (eqb (wires % 2) 1) (eqb (wires / 4 % 2) 1)) e (told .holds)
+    (not-so-eq _ 0 _ _ (at-if1 .if1 .left)
+    (not-so-eq _ 1 _ _ (at-if2 .if2 .left)
+    (not-so-eq _ 2 _ _ (at-if4 .if4 .left)
+    (so-eq _ 3 _ _ (at-if6 .if6 .taken) (ap (λ (n : ℕ). Pin (eqb (wires / 2 % 2) 1) (eqb (n % 2) 1) (eqb (wires / 4 % 2) 1)) (bit-0 wires))))))
 
 returns-8 : tie.Need-returns-8
 unfolding callOf performOf
 returns-8 c =
-    let e = (c .before .before .before .before .before .before .args .e) in
-    leaves (moduleIn (c .before .before .before .before .before .before .args .w .now)) Clear e ((c .clear .ensures .holds))
-    (not-so-eq _ 0 _ _ (c .before .before .before .before .before .if1 .left)
-    (not-so-eq _ 1 _ _ (c .before .before .before .before .if2 .left)
-    (not-so-eq _ 2 _ _ (c .before .before .before .if4 .left) (not-so-eq _ 3 _ _ (c .before .before .if6 .left) refl))))
+    let at-if6 = c .before .before in let at-if4 = at-if6 .before in let at-if2 = at-if4 .before in let at-if1 = at-if2 .before in
+    let start = at-if1 .before in
+    let e = (start .args .e) in
+    leaves (moduleIn (start .args .w .now)) Clear e ((c .clear .ensures .holds))
+    (not-so-eq _ 0 _ _ (at-if1 .if1 .left)
+    (not-so-eq _ 1 _ _ (at-if2 .if2 .left)
+    (not-so-eq _ 2 _ _ (at-if4 .if4 .left) (not-so-eq _ 3 _ _ (at-if6 .if6 .left) refl))))
 
 pub make-spec : {M : Type 1} → statement M
 make-spec =
     tie.close
     (tie.spec
-    (λ c. search needs)
-    (λ c κs. search needs)
-    returns
-    returns-2
-    (λ c κs. search needs)
-    returns-3
-    (λ c κs. search needs)
-    returns-4
-    (λ c κs. search needs)
-    returns-5
-    (λ c κs. search needs)
-    returns-6
-    (λ c κs. search needs)
-    returns-7
-    (λ c κs. search needs)
-    returns-8)
+    (λ c. search needs) (λ c κs. search needs) returns returns-2 (λ c κs. search needs) returns-3 (λ c κs. search needs) returns-4
+    (λ c κs. search needs) returns-5 (λ c κs. search needs) returns-6 (λ c κs. search needs) returns-7 (λ c κs. search needs) returns-8)

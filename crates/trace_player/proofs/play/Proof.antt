@@ -11,8 +11,7 @@ use Rattle.trace_player.proofs.play.Tie as tie
 
 returns : tie.Need-returns
 returns c =
-    let answered = c .before .before .before .before in
-    let looked = answered .before .before in
+    let back-3 = c .before .before .before in let answered = back-3 .before in let looked = answered .before .before in
     let b = looked .before .before in
     let f = b .args .f .now in
     plays-made f (looked .look-over .result) _ (b .args .w .now) _ (looked .look-over .ensures) (answered .answer2 .given .1)
@@ -20,9 +19,9 @@ returns c =
 
 play-calls-requires : tie.Need-play-calls-requires
 play-calls-requires c κs =
-    let answered = c .before .before .before .before .before in
-    let looked = answered .before .before in
-    made-right (looked .before .before .args .f .now) _ (sym (looked .look-over .ensures) ∙ answered .answer2 .given .1)
+    let back-3 = c .before .before .before in let answered = back-3 .before .before in let looked = answered .before .before in
+    let start = looked .before .before in
+    made-right (start .args .f .now) _ (sym (looked .look-over .ensures) ∙ answered .answer2 .given .1)
 
 returns-2 : tie.Need-returns-2
 returns-2 c =
@@ -44,11 +43,4 @@ pub play-spec : {M : Type 1} → statement M
 play-spec =
     tie.close
     (tie.spec
-    (λ c κs. search needs)
-    (λ c. search needs)
-    (λ c. search needs)
-    (λ c κs. search needs)
-    returns
-    play-calls-requires
-    returns-2
-    returns-3)
+    (λ c κs. search needs) (λ c. search needs) (λ c. search needs) (λ c κs. search needs) returns play-calls-requires returns-2 returns-3)

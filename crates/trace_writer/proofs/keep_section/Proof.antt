@@ -43,69 +43,80 @@ goes level ls next first whole left e rest inv more is =
 
 loop-holds : tie.Need-loop-holds Inv-loop μ-loop
 loop-holds c =
-    let count = sectionCount (c .before .before .before .before .args .f .now) in
-    let level = getD (c .before .before .before .before .args .levels .now) (c .before .before .before .before .args .k) 0 in
+    let back-3 = c .before .before .before in let start = back-3 .before in
+    let count = sectionCount (start .args .f .now) in
+    let level = getD (start .args .levels .now) (start .args .k) 0 in
     let are =
-    entries-are (c .before .before .before .before .args .body .now)
-    ∙ ap (λ (n : ℕ). entriesAt (c .before .before .before .before .args .body .now) n 0)
-    (let all : length (c .before .before .before .before .args .body .now) / 4 ≡ (length (c .before .before .before .before .args .body .now) - 0) / 4 = omega arith in all) in (
+    entries-are (start .args .body .now)
+    ∙ ap (λ (n : ℕ). entriesAt (start .args .body .now) n 0)
+    (let all : length (start .args .body .now) / 4 ≡ (length (start .args .body .now) - 0) / 4 = omega arith in all) in (
       omega arith,
-      omega (arith, ap (λ (es : List Entry). 4 * length (beginning count level (c .before .before .before .before .args .k) es)) are),
-      ap (λ (es : List Entry). raisedBy level (c .before .before .before .before .args .levels .now) (beginning count level (c .before .before .before .before .args .k) es)) are,
+      omega (arith, ap (λ (es : List Entry). 4 * length (beginning count level (start .args .k) es)) are),
+      ap (λ (es : List Entry). raisedBy level (start .args .levels .now) (beginning count level (start .args .k) es)) are,
     )
 
 -- Too short for a record.
 returns : tie.Need-returns Inv-loop μ-loop
 returns c =
-    let count = sectionCount (c .before .before .before .before .args .f .now) in
-    let level = getD (c .before .before .before .before .args .levels .now) (c .before .before .before .before .args .k) 0 in
+    let back-3 = c .before .before .before in let start = back-3 .before in
+    let count = sectionCount (start .args .f .now) in
+    let level = getD (start .args .levels .now) (start .args .k) 0 in
     let none =
-    ap (beginning count level (c .before .before .before .before .args .k)) (entries-are (c .before .before .before .before .args .body .now))
-    ∙ keep-none count level (c .before .before .before .before .args .k) (c .before .before .before .before .args .body .now) (length (c .before .before .before .before .args .body .now) / 4) 0 (omega (arith, (c .if1 .taken))) in (
+    ap (beginning count level (start .args .k)) (entries-are (start .args .body .now))
+    ∙ keep-none count level (start .args .k) (start .args .body .now) (length (start .args .body .now) / 4) 0 (omega (arith, (c .if1 .taken))) in (
       omega (arith, ap length none),
-      stays level (c .before .before .before .before .args .levels .now) _ _ _ refl none,
+      stays level (start .args .levels .now) _ _ _ refl none,
     )
 
 returns-2 : tie.Need-returns-2 Inv-loop μ-loop
 returns-2 c =
-    let count = sectionCount (c .before .before .before .before .before .before .before .before .before .before .args .f .now) in
-    let level = getD (c .before .before .before .before .before .before .before .before .before .before .args .levels .now) (c .before .before .before .before .before .before .before .before .before .before .args .k) 0 in
+    let at-entry-of = c .before .before .before in let at-loop-test = at-entry-of .before in let at-loop = at-loop-test .before in
+    let at-if1 = at-loop .before in let back-9 = at-if1 .before .before .before in let start = back-9 .before in
+    let count = sectionCount (start .args .f .now) in
+    let level = getD (start .args .levels .now) (start .args .k) 0 in
     let no = not-true (c .before .take-record .result) (c .if2 .taken) in
-    let wrong = ap (rightRecord count level (c .before .before .before .before .before .before .before .before .before .before .args .k)) (sym (c .before .before .before .entry-of .ensures)) ∙ sym ((c .before .take-record .ensures) .0) ∙ no in
+    let wrong = ap (rightRecord count level (start .args .k)) (sym (at-entry-of .entry-of .ensures)) ∙ sym ((c .before .take-record .ensures) .0) ∙ no in
     let none =
-    keep-wrong count level (c .before .before .before .before .before .before .before .before .before .before .args .k) (c .before .before .before .before .before .before .before .before .before .before .args .body .now) ((length (c .before .before .before .before .before .before .before .before .before .before .args .body .now) - (c .before .before .before .before .before .loop .at)) / 4) (c .before .before .before .before .before .loop .at) (omega (arith, (c .before .before .before .before .loop-test .taken), (c .before .before .before .before .before .before .if1 .left))) wrong in (
-      omega (arith, (c .before .before .before .before .before .loop .inv) .1, ap length none),
-      (c .before .take-record .ensures) .1 ∙ if-false (c .before .take-record .result) _ _ no ∙ stays level (c .before .before .before .before .before .loop .levels) _ _ _ ((c .before .before .before .before .before .loop .inv) .2) none,
+    keep-wrong count level (start .args .k) (start .args .body .now) ((length (start .args .body .now) - (at-loop .loop .at)) / 4) (at-loop .loop .at) (omega (arith, (at-loop-test .loop-test .taken), (at-if1 .if1 .left))) wrong in (
+      omega (arith, (at-loop .loop .inv) .1, ap length none),
+      (c .before .take-record .ensures) .1 ∙ if-false (c .before .take-record .result) _ _ no ∙ stays level (at-loop .loop .levels) _ _ _ ((at-loop .loop .inv) .2) none,
     )
 
 add-at : tie.Need-add-at Inv-loop μ-loop
-add-at c = omega (arith, (c .before .before .before .before .loop-test .taken), (c .before .before .before .before .before .before .if1 .left))
+add-at c =
+    let back-3 = c .before .before .before in let at-loop-test = back-3 .before in let at-if1 = at-loop-test .before .before in
+    omega (arith, (at-loop-test .loop-test .taken), (at-if1 .if1 .left))
 
 loop-less : tie.Need-loop-less Inv-loop μ-loop
-loop-less c = omega (arith, (c .before .before .before .before .loop-test .taken), (c .before .before .before .before .before .before .if1 .left))
+loop-less c =
+    let back-3 = c .before .before .before in let at-loop-test = back-3 .before in let at-if1 = at-loop-test .before .before in
+    omega (arith, (at-loop-test .loop-test .taken), (at-if1 .if1 .left))
 
 loop-again : tie.Need-loop-again Inv-loop μ-loop
 loop-again c =
-    let count = sectionCount (c .before .before .before .before .before .before .before .before .before .before .args .f .now) in
-    let level = getD (c .before .before .before .before .before .before .before .before .before .before .args .levels .now) (c .before .before .before .before .before .before .before .before .before .before .args .k) 0 in
+    let at-entry-of = c .before .before .before in let at-loop-test = at-entry-of .before in let at-loop = at-loop-test .before in
+    let at-if1 = at-loop .before in let back-9 = at-if1 .before .before .before in let start = back-9 .before in
+    let count = sectionCount (start .args .f .now) in
+    let level = getD (start .args .levels .now) (start .args .k) 0 in
     let yes = not-false (c .before .take-record .result) (c .if2 .left) in
-    let right = ap (rightRecord count level (c .before .before .before .before .before .before .before .before .before .before .args .k)) (sym (c .before .before .before .entry-of .ensures)) ∙ sym ((c .before .take-record .ensures) .0) ∙ yes in
+    let right = ap (rightRecord count level (start .args .k)) (sym (at-entry-of .entry-of .ensures)) ∙ sym ((c .before .take-record .ensures) .0) ∙ yes in
     let more =
-    keep-right count level (c .before .before .before .before .before .before .before .before .before .before .args .k) (c .before .before .before .before .before .before .before .before .before .before .args .body .now) ((length (c .before .before .before .before .before .before .before .before .before .before .args .body .now) - (c .before .before .before .before .before .loop .at)) / 4) (c .before .before .before .before .before .loop .at) (omega (arith, (c .before .before .before .before .loop-test .taken), (c .before .before .before .before .before .before .if1 .left))) right
-    ∙ ap (λ (n : ℕ). entryAt (c .before .before .before .before .before .before .before .before .before .before .args .body .now) (c .before .before .before .before .before .loop .at) ∷ beginning count level (c .before .before .before .before .before .before .before .before .before .before .args .k) (entriesAt (c .before .before .before .before .before .before .before .before .before .before .args .body .now) n ((c .before .before .before .before .before .loop .at) + 4)))
-    (let fewer : (length (c .before .before .before .before .before .before .before .before .before .before .args .body .now) - (c .before .before .before .before .before .loop .at)) / 4 - 1 ≡ (length (c .before .before .before .before .before .before .before .before .before .before .args .body .now) - ((c .before .before .before .before .before .loop .at) + 4)) / 4 = omega (arith, (c .before .before .before .before .loop-test .taken), (c .before .before .before .before .before .before .if1 .left)) in fewer) in (
-      omega (arith, (c .before .before .before .before .loop-test .taken), (c .before .before .before .before .before .before .if1 .left)),
-      omega (arith, (c .before .before .before .before .before .loop .inv) .1, ap length more),
-      goes level (c .before .before .before .before .before .loop .levels) _ _ _ _ _ _ ((c .before .before .before .before .before .loop .inv) .2) more
-          ((c .before .take-record .ensures) .1 ∙ if-true (c .before .take-record .result) _ _ yes ∙ ap (raisedOne level (c .before .before .before .before .before .loop .levels)) (c .before .before .before .entry-of .ensures)),
+    keep-right count level (start .args .k) (start .args .body .now) ((length (start .args .body .now) - (at-loop .loop .at)) / 4) (at-loop .loop .at) (omega (arith, (at-loop-test .loop-test .taken), (at-if1 .if1 .left))) right
+    ∙ ap (λ (n : ℕ). entryAt (start .args .body .now) (at-loop .loop .at) ∷ beginning count level (start .args .k) (entriesAt (start .args .body .now) n ((at-loop .loop .at) + 4)))
+    (let fewer : (length (start .args .body .now) - (at-loop .loop .at)) / 4 - 1 ≡ (length (start .args .body .now) - ((at-loop .loop .at) + 4)) / 4 = omega (arith, (at-loop-test .loop-test .taken), (at-if1 .if1 .left)) in fewer) in (
+      omega (arith, (at-loop-test .loop-test .taken), (at-if1 .if1 .left)),
+      omega (arith, (at-loop .loop .inv) .1, ap length more),
+      goes level (at-loop .loop .levels) _ _ _ _ _ _ ((at-loop .loop .inv) .2) more
+          ((c .before .take-record .ensures) .1 ∙ if-true (c .before .take-record .result) _ _ yes ∙ ap (raisedOne level (at-loop .loop .levels)) (at-entry-of .entry-of .ensures)),
     )
 
 returns-3 : tie.Need-returns-3 Inv-loop μ-loop
 returns-3 c =
-    let count = sectionCount (c .before .before .before .before .before .before .args .f .now) in
-    let level = getD (c .before .before .before .before .before .before .args .levels .now) (c .before .before .before .before .before .before .args .k) 0 in
+    let at-if1 = c .before .before in let back-5 = at-if1 .before .before .before in let start = back-5 .before in
+    let count = sectionCount (start .args .f .now) in
+    let level = getD (start .args .levels .now) (start .args .k) 0 in
     let none =
-    keep-none count level (c .before .before .before .before .before .before .args .k) (c .before .before .before .before .before .before .args .body .now) ((length (c .before .before .before .before .before .before .args .body .now) - (c .before .loop .at)) / 4) (c .before .loop .at) (omega (arith, (c .loop-test .left), (c .before .before .if1 .left))) in (
+    keep-none count level (start .args .k) (start .args .body .now) ((length (start .args .body .now) - (c .before .loop .at)) / 4) (c .before .loop .at) (omega (arith, (c .loop-test .left), (at-if1 .if1 .left))) in (
       omega (arith, (c .before .loop .inv) .1, ap length none),
       stays level (c .before .loop .levels) _ _ _ ((c .before .loop .inv) .2) none,
     )
@@ -114,8 +125,7 @@ pub keep-section-spec : {M : Type 1} → statement M
 keep-section-spec =
     tie.close
     (tie.spec
-    Inv-loop
-    μ-loop
+    Inv-loop μ-loop
     (λ c. omega arith)
     returns
     (λ c. omega arith)

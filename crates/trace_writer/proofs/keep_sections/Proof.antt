@@ -20,35 +20,49 @@ loop-holds : tie.Need-loop-holds Inv-loop μ-loop
 loop-holds c = keeping-first (c .before .before .args .f .now) (c .before .before .args .sizes .now) (c .count .result) (c .count .ensures) ((c .before .before .pre) .1)
 
 keep-section-requires : tie.Need-keep-section-requires Inv-loop μ-loop
-keep-section-requires c κs = omega (arith, near (c .before .before .before .before .before .before .args .f .now) ((c .before .before .before .before .before .before .pre) .0) (c .before .before .before .loop .inv) (c .before .before .loop-test .taken))
+keep-section-requires c κs =
+    let at-loop-test = c .before .before in let at-loop = at-loop-test .before in let start = at-loop .before .before .before in
+    omega (arith, near (start .args .f .now) ((start .pre) .0) (at-loop .loop .inv) (at-loop-test .loop-test .taken))
 
 add-cut : tie.Need-add-cut Inv-loop μ-loop
-add-cut c = omega (arith, (c .before .before .before .before .before .before .loop .inv .few), (c .fell .ensures) .1, near (c .before .before .before .before .before .before .before .before .before .args .f .now) ((c .before .before .before .before .before .before .before .before .before .pre) .0) (c .before .before .before .before .before .before .loop .inv) (c .before .before .before .before .before .loop-test .taken))
+add-cut c =
+    let back-3 = c .before .before .before in let at-loop-test = back-3 .before .before in let at-loop = at-loop-test .before in
+    let start = at-loop .before .before .before in
+    omega (arith, (at-loop .loop .inv .few), (c .fell .ensures) .1, near (start .args .f .now) ((start .pre) .0) (at-loop .loop .inv) (at-loop-test .loop-test .taken))
 
 add-end-2 : tie.Need-add-end-2 Inv-loop μ-loop
 add-end-2 c =
+    let at-keep-section = c .before .before in let at-body-of = at-keep-section .before .before in let at-loop-test = at-body-of .before in
+    let at-loop = at-loop-test .before in let start = at-loop .before .before .before in
     omega (
       arith,
-      size-is (c .before .before .before .before .before .before .before .before .before .args .f .now) ((c .before .before .before .before .before .before .before .before .before .pre) .0) (c .before .before .before .before .before .before .loop .inv) (c .before .before .before .before .before .loop-test .taken) _ (c .before .before .keep-section .result) (c .before .before .before .before .body-of .ensures) ((c .before .before .keep-section .ensures) .0),
-      small-size (c .before .before .before .before .before .before .before .before .before .args .f .now) ((c .before .before .before .before .before .before .before .before .before .pre) .0) (c .before .before .before .before .before .before .loop .k) (omega (arith, (c .before .before .before .before .before .before .loop .inv .count))),
-      (c .before .before .before .before .before .before .loop .inv .ends),
+      size-is (start .args .f .now) ((start .pre) .0) (at-loop .loop .inv) (at-loop-test .loop-test .taken) _ (at-keep-section .keep-section .result) (at-body-of .body-of .ensures) ((at-keep-section .keep-section .ensures) .0),
+      small-size (start .args .f .now) ((start .pre) .0) (at-loop .loop .k) (omega (arith, (at-loop .loop .inv .count))),
+      (at-loop .loop .inv .ends),
     )
 
 cast-sizes : tie.Need-cast-sizes Inv-loop μ-loop
 cast-sizes c =
+    let at-keep-section = c .before .before in let at-body-of = at-keep-section .before .before in let at-loop-test = at-body-of .before in
+    let at-loop = at-loop-test .before in let start = at-loop .before .before .before in
     omega (
       arith,
-      size-is (c .before .before .before .before .before .before .before .before .before .args .f .now) ((c .before .before .before .before .before .before .before .before .before .pre) .0) (c .before .before .before .before .before .before .loop .inv) (c .before .before .before .before .before .loop-test .taken) _ (c .before .before .keep-section .result) (c .before .before .before .before .body-of .ensures) ((c .before .before .keep-section .ensures) .0),
-      small-size (c .before .before .before .before .before .before .before .before .before .args .f .now) ((c .before .before .before .before .before .before .before .before .before .pre) .0) (c .before .before .before .before .before .before .loop .k) (omega (arith, (c .before .before .before .before .before .before .loop .inv .count))),
+      size-is (start .args .f .now) ((start .pre) .0) (at-loop .loop .inv) (at-loop-test .loop-test .taken) _ (at-keep-section .keep-section .result) (at-body-of .body-of .ensures) ((at-keep-section .keep-section .ensures) .0),
+      small-size (start .args .f .now) ((start .pre) .0) (at-loop .loop .k) (omega (arith, (at-loop .loop .inv .count))),
     )
 
 element-write-sizes : tie.Need-element-write-sizes Inv-loop μ-loop
-element-write-sizes c = near (c .before .before .before .before .before .before .before .before .before .args .f .now) ((c .before .before .before .before .before .before .before .before .before .pre) .0) (c .before .before .before .before .before .before .loop .inv) (c .before .before .before .before .before .loop-test .taken)
+element-write-sizes c =
+    let back-3 = c .before .before .before in let at-loop-test = back-3 .before .before in let at-loop = at-loop-test .before in
+    let start = at-loop .before .before .before in
+    near (start .args .f .now) ((start .pre) .0) (at-loop .loop .inv) (at-loop-test .loop-test .taken)
 
 loop-again : tie.Need-loop-again Inv-loop μ-loop
 loop-again c =
-    keeping-goes-on (c .before .before .before .before .before .before .before .before .before .args .f .now) ((c .before .before .before .before .before .before .before .before .before .pre) .0) (c .before .before .before .before .before .before .loop .inv) (c .before .before .before .before .before .loop-test .taken) _ _ _ (c .before .before .keep-section .result) (c .fell .result) (c .before .before .before .before .body-of .ensures) ((c .before .before .keep-section .ensures) .0)
-    ((c .before .before .keep-section .ensures) .1) ((c .fell .ensures) .0 ∙ ap (λ (m : ℕ). if ltb (c .before .before .keep-section .result) m then 1 else 0) (c .before .size .ensures)) ((c .fell .ensures) .1) refl
+    let at-keep-section = c .before .before in let at-body-of = at-keep-section .before .before in let at-loop-test = at-body-of .before in
+    let at-loop = at-loop-test .before in let start = at-loop .before .before .before in
+    keeping-goes-on (start .args .f .now) ((start .pre) .0) (at-loop .loop .inv) (at-loop-test .loop-test .taken) _ _ _ (at-keep-section .keep-section .result) (c .fell .result) (at-body-of .body-of .ensures) ((at-keep-section .keep-section .ensures) .0)
+    ((at-keep-section .keep-section .ensures) .1) ((c .fell .ensures) .0 ∙ ap (λ (m : ℕ). if ltb (at-keep-section .keep-section .result) m then 1 else 0) (c .before .size .ensures)) ((c .fell .ensures) .1) refl
 
 returns : tie.Need-returns Inv-loop μ-loop
 returns c = let e = keeping-ends (c .before .loop .inv) (c .loop-test .left) in ((e .0, e .1), e .2)
@@ -57,9 +71,7 @@ pub keep-sections-spec : {M : Type 1} → statement M
 keep-sections-spec =
     tie.close
     (tie.spec
-    Inv-loop
-    μ-loop
-    (λ c κs. search needs)
+    Inv-loop μ-loop (λ c κs. search needs)
     (λ c. omega arith)
     (λ c. omega arith)
     (λ c. omega arith)

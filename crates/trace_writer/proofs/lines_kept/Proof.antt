@@ -23,18 +23,21 @@ loop-holds c = omega arith
 
 add-kept : tie.Need-add-kept Inv-loop μ-loop
 add-kept c =
-    omega (arith, counting-goes-on _ _ _ (c .before .before .loop-test .taken) (c .before .next-line .ensures .0) (c .before .next-line .ensures .1) (c .records-of .ensures .0) (c .before .before .before .loop .inv), kept-at-most (c .before .before .before .before .before .args .session .now))
+    let at-loop-test = c .before .before in let at-loop = at-loop-test .before in let start = at-loop .before .before in
+    omega (arith, counting-goes-on _ _ _ (at-loop-test .loop-test .taken) (c .before .next-line .ensures .0) (c .before .next-line .ensures .1) (c .records-of .ensures .0) (at-loop .loop .inv), kept-at-most (start .args .session .now))
 
 add-at : tie.Need-add-at Inv-loop μ-loop
 add-at c =
-    omega (arith, within (c .before .before .before .before .before .before .args .session .now) _ _ refl (c .before .before .before .loop-test .taken), (c .before .before .next-line .ensures .1))
+    let at-next-line = c .before .before in let at-loop-test = at-next-line .before in let start = at-loop-test .before .before .before in
+    omega (arith, within (start .args .session .now) _ _ refl (at-loop-test .loop-test .taken), (at-next-line .next-line .ensures .1))
 
 loop-less : tie.Need-loop-less Inv-loop μ-loop
 loop-less c = omega (arith, (c .before .before .next-line .ensures .1), (c .before .before .before .loop-test .taken))
 
 loop-again : tie.Need-loop-again Inv-loop μ-loop
 loop-again c =
-    counting-goes-on _ _ _ (c .before .before .before .loop-test .taken) (c .before .before .next-line .ensures .0) (c .before .before .next-line .ensures .1) (c .before .records-of .ensures .0) (c .before .before .before .before .loop .inv)
+    let at-next-line = c .before .before in let at-loop-test = at-next-line .before in let at-loop = at-loop-test .before in
+    counting-goes-on _ _ _ (at-loop-test .loop-test .taken) (at-next-line .next-line .ensures .0) (at-next-line .next-line .ensures .1) (c .before .records-of .ensures .0) (at-loop .loop .inv)
 
 returns : tie.Need-returns Inv-loop μ-loop
 returns c =
@@ -44,9 +47,7 @@ pub lines-kept-spec : {M : Type 1} → statement M
 lines-kept-spec =
     tie.close
     (tie.spec
-    Inv-loop
-    μ-loop
-    loop-holds
+    Inv-loop μ-loop loop-holds
     (λ c κs. search needs) (λ c κs. search needs)
     add-kept
     add-at

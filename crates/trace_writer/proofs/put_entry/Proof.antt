@@ -5,7 +5,10 @@ use Rattle.trace_writer.proofs.put_entry.Statement.{statement}
 use Rattle.trace_writer.proofs.put_entry.Tie as tie
 
 returns : tie.Need-returns
-returns c = written-then (c .before .before .before .before .before .before .before .before .before .before .put .ensures) (written-then (c .before .before .before .before .before .before .put2 .ensures) (c .before .before .put-half .ensures))
+returns c =
+    let at-put-half = c .before .before in let back-5 = at-put-half .before .before .before in let at-put2 = back-5 .before in
+    let back-9 = at-put2 .before .before .before in let at-put = back-9 .before in
+    written-then (at-put .put .ensures) (written-then (at-put2 .put2 .ensures) (at-put-half .put-half .ensures))
 
 pub put-entry-spec : {M : Type 1} → statement M
 put-entry-spec =

@@ -13,13 +13,16 @@ use Rattle.trace_writer.proofs.put_line.Tie as tie
 
 put-call-requires : tie.Need-put-call-requires
 put-call-requires c κs =
-    let on = sym (c .before .before .is-kept .ensures) ∙ (c .before .if1 .taken) in
-    (omega (arith, (c .before .before .before .before .before .before .before .pre), ap length (kept-one (c .before .before .before .before .line .given .1) on)), on)
+    let at-is-kept = c .before .before in let at-line = at-is-kept .before .before in let start = at-line .before .before .before in
+    let on = sym (at-is-kept .is-kept .ensures) ∙ (c .before .if1 .taken) in
+    (omega (arith, (start .pre), ap length (kept-one (at-line .line .given .1) on)), on)
 
 returns : tie.Need-returns
 unfolding recordBytes
 returns c =
-    written-case recordBytes (kept-one (c .before .before .before .before .before .before .before .line .given .1) (sym (c .before .before .before .before .before .is-kept .ensures) ∙ (c .before .before .before .before .if1 .taken))) (written-case (λ x. x) (append-nil _) (c .before .before .put-call .ensures))
+    let at-put-call = c .before .before in let at-if1 = at-put-call .before .before in let at-is-kept = at-if1 .before in
+    let at-line = at-is-kept .before .before in
+    written-case recordBytes (kept-one (at-line .line .given .1) (sym (at-is-kept .is-kept .ensures) ∙ (at-if1 .if1 .taken))) (written-case (λ x. x) (append-nil _) (at-put-call .put-call .ensures))
 
 returns-2 : tie.Need-returns-2
 unfolding recordBytes put

@@ -26,20 +26,26 @@ cast-size c = omega (arith, (c .wide .ensures) .1)
 
 slice-aggregate-put-bytes : tie.Need-slice-aggregate-put-bytes Inv-loop μ-loop
 slice-aggregate-put-bytes c =
-    sym (length-take-le _ _ (omega (arith, (c .before .before .before .before .before .before .before .before .before .pre) .1 .parts (c .before .before .before .before .before .before .loop .k) (c .before .before .before .before .before .loop-test .taken), ap length (c .before .before .body-of .ensures), (c .before .before .before .wide .ensures) .0)))
+    let at-body-of = c .before .before in let at-wide = at-body-of .before in let at-loop-test = at-wide .before .before in
+    let at-loop = at-loop-test .before in let start = at-loop .before .before .before in
+    sym (length-take-le _ _ (omega (arith, (start .pre) .1 .parts (at-loop .loop .k) (at-loop-test .loop-test .taken), ap length (at-body-of .body-of .ensures), (at-wide .wide .ensures) .0)))
 
 put-bytes-requires : tie.Need-put-bytes-requires Inv-loop μ-loop
 put-bytes-requires c κs =
+    let at-body-of = c .before .before in let at-wide = at-body-of .before in let at-loop-test = at-wide .before .before in
+    let at-loop = at-loop-test .before in
     omega (
       arith,
-      part-room (c .before .before .before .before .before .before .loop .inv) (c .before .before .before .before .before .loop-test .taken),
-      ap₂ (λ (n : ℕ) (b : List ℕ). length (take n b)) ((c .before .before .before .wide .ensures) .0) (c .before .before .body-of .ensures),
+      part-room (at-loop .loop .inv) (at-loop-test .loop-test .taken),
+      ap₂ (λ (n : ℕ) (b : List ℕ). length (take n b)) ((at-wide .wide .ensures) .0) (at-body-of .body-of .ensures),
     )
 
 loop-again : tie.Need-loop-again Inv-loop μ-loop
 loop-again c =
-    parting-goes-on (c .before .before .before .before .before .before .before .before .before .loop .inv) (c .before .before .before .before .before .before .before .before .loop-test .taken)
-    (written-case (λ (part : List ℕ). part) (ap₂ (λ (n : ℕ) (b : List ℕ). take n b) (sym ((c .before .before .before .before .before .before .wide .ensures) .0)) (sym (c .before .before .before .before .before .body-of .ensures))) (c .before .before .put-bytes .ensures))
+    let at-put-bytes = c .before .before in let at-body-of = at-put-bytes .before .before .before in let at-wide = at-body-of .before in
+    let at-loop-test = at-wide .before .before in let at-loop = at-loop-test .before in
+    parting-goes-on (at-loop .loop .inv) (at-loop-test .loop-test .taken)
+    (written-case (λ (part : List ℕ). part) (ap₂ (λ (n : ℕ) (b : List ℕ). take n b) (sym ((at-wide .wide .ensures) .0)) (sym (at-body-of .body-of .ensures))) (at-put-bytes .put-bytes .ensures))
 
 same-length : tie.Need-same-length Inv-loop μ-loop
 same-length c = ap length (parting-ends (c .before .loop .inv) (c .loop-test .left)) ∙ put-length _ _ _
@@ -51,9 +57,7 @@ pub put-parts-spec : {M : Type 1} → statement M
 put-parts-spec =
     tie.close
     (tie.spec
-    Inv-loop
-    μ-loop
-    loop-holds
+    Inv-loop μ-loop loop-holds
     (λ c. omega arith)
     (λ c. omega arith)
     (λ c. omega arith)

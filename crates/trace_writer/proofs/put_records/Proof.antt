@@ -27,14 +27,20 @@ put-line-requires c κs =
 
 add-at : tie.Need-add-at Inv-loop μ-loop
 add-at c =
-    omega (arith, within (c .before .before .before .before .before .before .before .before .before .before .args .session .now) _ _ refl (c .before .before .before .before .before .before .loop-test .taken), (c .before .before .before .before .before .next-line .ensures .1))
+    let back-3 = c .before .before .before in let at-next-line = back-3 .before .before in let at-loop-test = at-next-line .before in
+    let back-9 = at-loop-test .before .before .before in let start = back-9 .before in
+    omega (arith, within (start .args .session .now) _ _ refl (at-loop-test .loop-test .taken), (at-next-line .next-line .ensures .1))
 
 loop-less : tie.Need-loop-less Inv-loop μ-loop
-loop-less c = omega (arith, (c .before .before .before .before .before .next-line .ensures .1), (c .before .before .before .before .before .before .loop-test .taken))
+loop-less c =
+    let back-3 = c .before .before .before in let at-next-line = back-3 .before .before in let at-loop-test = at-next-line .before in
+    omega (arith, (at-next-line .next-line .ensures .1), (at-loop-test .loop-test .taken))
 
 loop-again : tie.Need-loop-again Inv-loop μ-loop
 loop-again c =
-    saving-goes-on (c .before .before .before .before .before .before .before .loop .inv) (c .before .before .before .before .before .before .loop-test .taken) (c .before .before .before .before .before .next-line .ensures .0) (c .before .before .before .before .before .next-line .ensures .1) (c .before .before .before .put-line .ensures)
+    let at-put-line = c .before .before .before in let at-next-line = at-put-line .before .before in
+    let at-loop-test = at-next-line .before in let at-loop = at-loop-test .before in
+    saving-goes-on (at-loop .loop .inv) (at-loop-test .loop-test .taken) (at-next-line .next-line .ensures .0) (at-next-line .next-line .ensures .1) (at-put-line .put-line .ensures)
 
 same-length : tie.Need-same-length Inv-loop μ-loop
 same-length c =
@@ -47,13 +53,4 @@ pub put-records-spec : {M : Type 1} → statement M
 put-records-spec =
     tie.close
     (tie.spec
-    Inv-loop
-    μ-loop
-    loop-holds
-    (λ c κs. search needs)
-    put-line-requires
-    add-at
-    loop-less
-    loop-again
-    same-length
-    returns)
+    Inv-loop μ-loop loop-holds (λ c κs. search needs) put-line-requires add-at loop-less loop-again same-length returns)

@@ -5,7 +5,9 @@ use Rattle.trace_writer.proofs.put_word.Statement.{statement}
 use Rattle.trace_writer.proofs.put_word.Tie as tie
 
 returns : tie.Need-returns
-returns c = written-then (c .before .before .before .before .before .before .put-half .ensures) (c .before .before .put-half2 .ensures)
+returns c =
+    let at-put-half2 = c .before .before in let back-5 = at-put-half2 .before .before .before in let at-put-half = back-5 .before in
+    written-then (at-put-half .put-half .ensures) (at-put-half2 .put-half2 .ensures)
 
 pub put-word-spec : {M : Type 1} → statement M
 put-word-spec =

@@ -14,49 +14,48 @@ slice-aggregate-session : tie.Need-slice-aggregate-session
 slice-aggregate-session c = (c .before .bytes-read .ensures) ∙ sym (ap length (session-is _ (c .before .bytes-read .ensures)))
 
 mul-size : tie.Need-mul-size
-mul-size c = omega (arith, few-kept (c .before .before .before .before .before .args .script .now) (c .before .before .bytes-read .ensures) ((c .lines-kept .ensures) .1))
+mul-size c =
+    let at-bytes-read = c .before .before in let start = at-bytes-read .before .before .before in
+    omega (arith, few-kept (start .args .script .now) (at-bytes-read .bytes-read .ensures) ((c .lines-kept .ensures) .1))
 
 add-if1 : tie.Need-add-if1
-add-if1 c = omega (arith, few-kept (c .before .before .before .before .before .args .script .now) (c .before .before .bytes-read .ensures) ((c .lines-kept .ensures) .1))
+add-if1 c =
+    let at-bytes-read = c .before .before in let start = at-bytes-read .before .before .before in
+    omega (arith, few-kept (start .args .script .now) (at-bytes-read .bytes-read .ensures) ((c .lines-kept .ensures) .1))
 
 returns : tie.Need-returns
 returns c =
-    refused (c .before .before .before .before .before .before .args .script .now) (c .before .before .before .before .before .before .args .out .now)
-    (too-long (c .before .before .before .before .before .before .args .script .now) (counted (c .before .before .before .before .before .before .args .script .now) (c .before .before .before .bytes-read .ensures) ((c .before .lines-kept .ensures) .0)) _ (c .if1 .taken))
+    let at-bytes-read = c .before .before .before in let start = at-bytes-read .before .before .before in
+    refused (start .args .script .now) (start .args .out .now)
+    (too-long (start .args .script .now) (counted (start .args .script .now) (at-bytes-read .bytes-read .ensures) ((c .before .lines-kept .ensures) .0)) _ (c .if1 .taken))
 
 returns-2 : tie.Need-returns-2
 returns-2 c =
-    refused (c .before .before .before .before .before .before .before .args .script .now) (c .before .before .before .before .before .before .before .args .out .now)
-    (too-large (c .before .before .before .before .before .before .before .args .script .now) (counted (c .before .before .before .before .before .before .before .args .script .now) (c .before .before .before .before .bytes-read .ensures) ((c .before .before .lines-kept .ensures) .0)) _ (c .if2 .taken))
+    let at-lines-kept = c .before .before in let at-bytes-read = at-lines-kept .before .before in
+    let start = at-bytes-read .before .before .before in
+    refused (start .args .script .now) (start .args .out .now)
+    (too-large (start .args .script .now) (counted (start .args .script .now) (at-bytes-read .bytes-read .ensures) ((at-lines-kept .lines-kept .ensures) .0)) _ (c .if2 .taken))
 
 put-records-requires : tie.Need-put-records-requires
 put-records-requires c κs =
-    omega (arith, (c .before .before .before .put-head .ensures .behind), head-length 1 (set (replicate 64 0) 0 (4 * (c .before .before .before .before .before .before .before .before .lines-kept .result))), (c .before .before .before .before .before .before .before .before .lines-kept .ensures) .0, (c .before .before .before .before .before .before .if2 .left), length-on (c .before .before .before .put-head .ensures))
+    let at-put-head = c .before .before .before in let at-if2 = at-put-head .before .before .before in
+    let at-lines-kept = at-if2 .before .before in
+    omega (arith, (at-put-head .put-head .ensures .behind), head-length 1 (set (replicate 64 0) 0 (4 * (at-lines-kept .lines-kept .result))), (at-lines-kept .lines-kept .ensures) .0, (at-if2 .if2 .left), length-on (at-put-head .put-head .ensures))
 
 returns-3 : tie.Need-returns-3
 returns-3 c =
-    let script = (c .before .before .before .before .before .before .before .before .before .before .before .before .before .before .before .before .args .script .now) in
+    let at-put-records = c .before .before in let back-5 = at-put-records .before .before .before in let at-put-head = back-5 .before in
+    let at-if2 = at-put-head .before .before .before in let at-if1 = at-if2 .before in let at-lines-kept = at-if1 .before in
+    let at-bytes-read = at-lines-kept .before .before in let start = at-bytes-read .before .before .before in
+    let script = (start .args .script .now) in
     let s =
-    saved script (c .before .before .before .before .before .before .before .before .before .before .before .before .before .before .before .before .args .out .now) _ _ refl (counted script (c .before .before .before .before .before .before .before .before .before .before .before .before .before .bytes-read .ensures) ((c .before .before .before .before .before .before .before .before .before .before .before .lines-kept .ensures) .0)) (c .before .before .before .before .before .before .before .before .before .before .if1 .left) (c .before .before .before .before .before .before .before .before .before .if2 .left) (c .before .before .before .before .before .before .put-head .ensures) in
-    (s .0, (c .before .before .put-records .ensures) ∙ ap (putRecords _ _) (session-is script (c .before .before .before .before .before .before .before .before .before .before .before .before .before .bytes-read .ensures)) ∙ s .1)
+    saved script (start .args .out .now) _ _ refl (counted script (at-bytes-read .bytes-read .ensures) ((at-lines-kept .lines-kept .ensures) .0)) (at-if1 .if1 .left) (at-if2 .if2 .left) (at-put-head .put-head .ensures) in
+    (s .0, (at-put-records .put-records .ensures) ∙ ap (putRecords _ _) (session-is script (at-bytes-read .bytes-read .ensures)) ∙ s .1)
 
 pub save-spec : {M : Type 1} → statement M
 save-spec =
     tie.close
     (tie.spec
-    (λ c κs. search needs)
-    slice-aggregate-session
-    (λ c κs. search needs)
-    mul-size
-    add-if1
-    returns
-    (λ c. search needs)
-    returns-2
-    (λ c. search needs)
-    (λ c. search needs)
-    (λ c κs. search needs)
-    put-records-requires
-    (λ c. search needs)
-    (λ c. search needs)
-    (λ c. search needs)
-    returns-3)
+    (λ c κs. search needs) slice-aggregate-session (λ c κs. search needs) mul-size add-if1 returns (λ c. search needs) returns-2
+    (λ c. search needs) (λ c. search needs) (λ c κs. search needs) put-records-requires (λ c. search needs) (λ c. search needs)
+    (λ c. search needs) returns-3)

@@ -78,7 +78,8 @@ put-decimal-put-requires-2 : (t : ℕ) → put-decimal-lts.Need-put-requires-2 (
   put-decimal.Post,
 ) (put-decimal-at t) put-decimal.Post
 put-decimal-put-requires-2 t c κs =
-    omega (arith, decimal-tenth (c .before .before .before .before .args .n) (omega arith) (c .before .before .before .if1 .left))
+    let at-if1 = c .before .before .before in let start = at-if1 .before in
+    omega (arith, decimal-tenth (start .args .n) (omega arith) (at-if1 .if1 .left))
 
 put-decimal-returns-2 : (t : ℕ) → put-decimal-lts.Need-returns-2 (
   put-reads.Asked,
@@ -87,8 +88,9 @@ put-decimal-returns-2 : (t : ℕ) → put-decimal-lts.Need-returns-2 (
   put-decimal.Post,
 ) (put-decimal-at t) put-decimal.Post
 put-decimal-returns-2 t c =
-    written-case (λ (text : List ℕ). text) (decimal-step _ (omega arith) (c .before .before .before .before .if1 .left))
-    (written-then (c .before .before .put-decimal .ensures) (c .put2 .ensures))
+    let at-put-decimal = c .before .before in let at-if1 = at-put-decimal .before .before in
+    written-case (λ (text : List ℕ). text) (decimal-step _ (omega arith) (at-if1 .if1 .left))
+    (written-then (at-put-decimal .put-decimal .ensures) (c .put2 .ensures))
 
 pub +put-decimal-spec : {M : Type 1} → statement M
 +put-decimal-spec = close μ-put-decimal λ t. put-decimal-lts.spec (

@@ -12,35 +12,30 @@ use Rattle.wave_steps.proofs.play.Tie as tie
 returns : tie.Need-returns
 unfolding lineAfter lineShown
 returns c =
-    let b = c .before .before .before .before in
+    let at-enum-told = c .before .before in let b = at-enum-told .before .before in
     let m = moduleIn (b .args .w .now) in
-    let told = c .before .before .enum-told .given .1 in
+    let told = at-enum-told .enum-told .given .1 in
     (by-case (lineAfter m) told refl, by-case (lineShown (b .args .sdi) m) told (c .look .ensures))
 
 returns-2 : tie.Need-returns-2
 unfolding lineAfter lineShown
 returns-2 c =
-    let b = c .before .before .before .before .before .before .before .before in
+    let at-sdi-after = c .before .before in let at-perform = at-sdi-after .before in let at-line = at-perform .before .before .before in
+    let b = at-line .before .before in
     let m = moduleIn (b .args .w .now) in
-    let asked = c .before .before .before .before .before .before .line .given .1 in
-    let performed = c .before .before .before .perform in
+    let asked = at-line .line .given .1 in
+    let performed = at-perform .perform in
     let outcome = performed .ensures .outcome in (
       by-case (lineAfter m) asked (ap (λ (o : Outcome). o .after) outcome),
       by-case (lineShown (b .args .sdi) m) asked
           (c .look2 .ensures
-          ∙ ap (shownOf (moduleIn (performed .last .0))) (c .before .before .sdi-after .ensures)
-          ∙ ap (λ (o : Outcome). shownOf (o .after) (sdiAfter (b .args .sdi) (c .before .before .before .before .before .before .line .given .0 .0) (o .answer))) outcome),
+          ∙ ap (shownOf (moduleIn (performed .last .0))) (at-sdi-after .sdi-after .ensures)
+          ∙ ap (λ (o : Outcome). shownOf (o .after) (sdiAfter (b .args .sdi) (at-line .line .given .0 .0) (o .answer))) outcome),
     )
 
 pub play-spec : {M : Type 1} → statement M
 play-spec =
     tie.close
     (tie.spec
-    (λ c. search needs)
-    (λ c κs. search needs)
-    (λ c. search needs)
-    (λ c κs. search needs)
-    (λ c κs. search needs)
-    (λ c κs. search needs)
-    returns
-    returns-2)
+    (λ c. search needs) (λ c κs. search needs) (λ c. search needs) (λ c κs. search needs) (λ c κs. search needs) (λ c κs. search needs)
+    returns returns-2)

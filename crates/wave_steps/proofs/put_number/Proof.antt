@@ -12,22 +12,18 @@ returns : tie.Need-returns
 returns c = (written-case (λ (text : List ℕ). text) (number-same _ _ _ _ (c .if1 .taken)) (written-none _ _), omega arith)
 
 returns-2 : tie.Need-returns-2
-returns-2 c = (
-  written-case (λ (text : List ℕ). text) (number-other _ _ _ _ (c .before .before .before .before .before .before .before .before .before .before .if1 .left))
-      (written-then (c .before .before .before .before .before .before .before .before .put .ensures)
-      (written-then (c .before .before .before .before .before .before .put-value .ensures .0)
-      (written-then (c .before .before .before .before .put2 .ensures) (written-then (c .before .before .put3 .ensures) (c .put4 .ensures))))),
-  omega arith,
-)
+returns-2 c =
+    let at-put3 = c .before .before in let at-put2 = at-put3 .before .before in let at-put-value = at-put2 .before .before in
+    let at-put = at-put-value .before .before in let at-if1 = at-put .before .before in (
+      written-case (λ (text : List ℕ). text) (number-other _ _ _ _ (at-if1 .if1 .left))
+          (written-then (at-put .put .ensures)
+          (written-then (at-put-value .put-value .ensures .0)
+          (written-then (at-put2 .put2 .ensures) (written-then (at-put3 .put3 .ensures) (c .put4 .ensures))))),
+      omega arith,
+    )
 
 pub put-number-spec : {M : Type 1} → statement M
 put-number-spec =
     tie.close
     (tie.spec
-    returns
-    (λ c κs. search needs)
-    (λ c κs. search needs)
-    (λ c κs. search needs)
-    (λ c κs. search needs)
-    (λ c κs. search needs)
-    returns-2)
+    returns (λ c κs. search needs) (λ c κs. search needs) (λ c κs. search needs) (λ c κs. search needs) (λ c κs. search needs) returns-2)

@@ -11,18 +11,24 @@ put-decimal-requires : tie.Need-put-decimal-requires
 put-decimal-requires c κs = omega (arith, time-short (c .before .before .before .args .time) (omega arith))
 
 put-requires-2 : tie.Need-put-requires-2
-put-requires-2 c κs = omega (arith, time-short (c .before .before .before .before .before .args .time) (omega arith))
+put-requires-2 c κs =
+    let back-3 = c .before .before .before in let start = back-3 .before .before in
+    omega (arith, time-short (start .args .time) (omega arith))
 
 put-changes-requires : tie.Need-put-changes-requires
-put-changes-requires c κs = omega (arith, time-short (c .before .before .before .before .before .before .before .args .time) (omega arith))
+put-changes-requires c κs =
+    let back-3 = c .before .before .before in let back-6 = back-3 .before .before .before in let start = back-6 .before in
+    omega (arith, time-short (start .args .time) (omega arith))
 
 returns : tie.Need-returns
 unfolding stepText
 returns c =
-    let time = c .before .before .before .before .before .before .before .before .args .time in (
-      written-then (c .before .before .before .before .before .before .put .ensures)
-          (written-then (c .before .before .before .before .put-decimal .ensures)
-          (written-then (c .before .before .put2 .ensures) (c .put-changes .ensures .0))),
+    let at-put2 = c .before .before in let at-put-decimal = at-put2 .before .before in let at-put = at-put-decimal .before .before in
+    let start = at-put .before .before in
+    let time = start .args .time in (
+      written-then (at-put .put .ensures)
+          (written-then (at-put-decimal .put-decimal .ensures)
+          (written-then (at-put2 .put2 .ensures) (c .put-changes .ensures .0))),
       omega (arith, time-short time (omega arith)),
     )
 

@@ -13,9 +13,10 @@ use Rattle.wave_steps.proofs.start.Tie as tie
 returns : tie.Need-returns
 unfolding unknown
 returns c =
-    let powered = c .before .before .before .before .before .power-up .ensures in
-    let shown = c .before .before .before .look in
-    let text = written-case (λ (old : Shown). changes old (shown .result)) (sym (c .before .before .nothing .ensures)) (c .put-changes .ensures .0) in
+    let at-nothing = c .before .before in let at-look = at-nothing .before in let at-power-up = at-look .before .before in
+    let powered = at-power-up .power-up .ensures in
+    let shown = at-look .look in
+    let text = written-case (λ (old : Shown). changes old (shown .result)) (sym (at-nothing .nothing .ensures)) (c .put-changes .ensures .0) in
     (powered, (shown .ensures ∙ ap (λ (m : Module). shownOf m unknown) powered, (text, (omega arith, buffer-stays text))))
 
 pub start-spec : {M : Type 1} → statement M

@@ -14,27 +14,26 @@ use Rattle.word_calls.proofs.beginning.Tie as tie
 returns : tie.Need-returns
 unfolding current begun
 returns c =
-    ap inProgress (so _ _ _ (rw ((c .before .is-silent .ensures), (c .before .before .before .before .settings-in .ensures)) at (c .if1 .taken)) refl) ∙ sym (ap (λ (x : Shift). inProgress (begun (settingsIn (c .before .before .before .before .before .args .w .now)) (engineIn (c .before .before .before .before .before .args .w .now)) x)) (c .before .before .before .before .before .pre))
+    let back-3 = c .before .before .before in let at-settings-in = back-3 .before in let start = at-settings-in .before in
+    ap inProgress (so _ _ _ (rw ((c .before .is-silent .ensures), (at-settings-in .settings-in .ensures)) at (c .if1 .taken)) refl) ∙ sym (ap (λ (x : Shift). inProgress (begun (settingsIn (start .args .w .now)) (engineIn (start .args .w .now)) x)) (start .pre))
 
 returns-2 : tie.Need-returns-2
 unfolding current begun
 returns-2 c =
-    ap (λ (v : ℕ). fresh false v) (c .before .before .before .before .first-waiting-in .ensures) ∙ ap inProgress (not-so _ _ _ (rw ((c .before .before .before .is-silent .ensures), (c .before .before .before .before .before .before .settings-in .ensures)) at (c .before .before .if1 .left)) (so _ _ _ (rw ((c .before .ssen-client .ensures), (c .before .before .before .before .before .before .settings-in .ensures), (c .before .before .before .before .before .waiting-in .ensures)) at (c .if2 .taken)) refl)) ∙ sym (ap (λ (x : Shift). inProgress (begun (settingsIn (c .before .before .before .before .before .before .before .args .w .now)) (engineIn (c .before .before .before .before .before .before .before .args .w .now)) x)) (c .before .before .before .before .before .before .before .pre))
+    let at-if1 = c .before .before in let at-is-silent = at-if1 .before in let at-first-waiting-in = at-is-silent .before in
+    let at-waiting-in = at-first-waiting-in .before in let at-settings-in = at-waiting-in .before in let start = at-settings-in .before in
+    ap (λ (v : ℕ). fresh false v) (at-first-waiting-in .first-waiting-in .ensures) ∙ ap inProgress (not-so _ _ _ (rw ((at-is-silent .is-silent .ensures), (at-settings-in .settings-in .ensures)) at (at-if1 .if1 .left)) (so _ _ _ (rw ((c .before .ssen-client .ensures), (at-settings-in .settings-in .ensures), (at-waiting-in .waiting-in .ensures)) at (c .if2 .taken)) refl)) ∙ sym (ap (λ (x : Shift). inProgress (begun (settingsIn (start .args .w .now)) (engineIn (start .args .w .now)) x)) (start .pre))
 
 returns-3 : tie.Need-returns-3
 unfolding current begun
 returns-3 c =
-    ap inProgress (not-so _ _ _ (rw ((c .before .before .before .is-silent .ensures), (c .before .before .before .before .before .before .settings-in .ensures)) at (c .before .before .if1 .left)) (not-so _ _ _ (rw ((c .before .ssen-client .ensures), (c .before .before .before .before .before .before .settings-in .ensures), (c .before .before .before .before .before .waiting-in .ensures)) at (c .if2 .left)) refl)) ∙ sym (ap (λ (x : Shift). inProgress (begun (settingsIn (c .before .before .before .before .before .before .before .args .w .now)) (engineIn (c .before .before .before .before .before .before .before .args .w .now)) x)) (c .before .before .before .before .before .before .before .pre))
+    let at-if1 = c .before .before in let at-is-silent = at-if1 .before in let at-waiting-in = at-is-silent .before .before in
+    let at-settings-in = at-waiting-in .before in let start = at-settings-in .before in
+    ap inProgress (not-so _ _ _ (rw ((at-is-silent .is-silent .ensures), (at-settings-in .settings-in .ensures)) at (at-if1 .if1 .left)) (not-so _ _ _ (rw ((c .before .ssen-client .ensures), (at-settings-in .settings-in .ensures), (at-waiting-in .waiting-in .ensures)) at (c .if2 .left)) refl)) ∙ sym (ap (λ (x : Shift). inProgress (begun (settingsIn (start .args .w .now)) (engineIn (start .args .w .now)) x)) (start .pre))
 
 pub beginning-spec : {M : Type 1} → statement M
 beginning-spec =
     tie.close
     (tie.spec
-    (λ c κs. search needs)
-    (λ c κs. search needs)
-    (λ c κs. search needs)
-    (λ c κs. search needs)
-    returns
-    (λ c κs. search needs)
-    returns-2
+    (λ c κs. search needs) (λ c κs. search needs) (λ c κs. search needs) (λ c κs. search needs) returns (λ c κs. search needs) returns-2
     returns-3)

@@ -18,22 +18,17 @@ returns c = (c .beginning .ensures)
 returns-2 : tie.Need-returns-2
 unfolding current begun
 returns-2 c =
-    by-case (λ (x : Shift). inProgress (begun (settingsIn (c .before .before .before .before .args .w .now)) (engineIn (c .before .before .before .before .args .w .now)) x)) (sym (c .before .before .before .shift-in .ensures) ∙ (c .before .shift .given .1)) refl
+    let at-shift-in = c .before .before .before in let start = at-shift-in .before in
+    by-case (λ (x : Shift). inProgress (begun (settingsIn (start .args .w .now)) (engineIn (start .args .w .now)) x)) (sym (at-shift-in .shift-in .ensures) ∙ (c .before .shift .given .1)) refl
 
 returns-3 : tie.Need-returns-3
 unfolding current begun
 returns-3 c =
-    by-case (λ (x : Shift). inProgress (begun (settingsIn (c .before .before .before .before .args .w .now)) (engineIn (c .before .before .before .before .args .w .now)) x)) (sym (c .before .before .before .shift-in .ensures) ∙ (c .before .shift2 .given .1)) refl
+    let at-shift-in = c .before .before .before in let start = at-shift-in .before in
+    by-case (λ (x : Shift). inProgress (begun (settingsIn (start .args .w .now)) (engineIn (start .args .w .now)) x)) (sym (at-shift-in .shift-in .ensures) ∙ (c .before .shift2 .given .1)) refl
 
 pub current-in-spec : {M : Type 1} → statement M
 current-in-spec =
     tie.close
     (tie.spec
-    (λ c κs. search needs)
-    (λ c. search needs)
-    beginning-requires
-    (λ c. search needs)
-    (λ c. search needs)
-    returns
-    returns-2
-    returns-3)
+    (λ c κs. search needs) (λ c. search needs) beginning-requires (λ c. search needs) (λ c. search needs) returns returns-2 returns-3)

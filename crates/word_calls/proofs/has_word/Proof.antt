@@ -18,29 +18,24 @@ returns c =
 
 returns-2 : tie.Need-returns-2
 returns-2 c =
-    framed-none (settingsIn (c .before .before .before .before .before .args .w .now)) (engineIn (c .before .before .before .before .before .args .w .now)) (c .before .before .before .before .before .args .ss) (rw ((c .before .is-framed .ensures), (c .before .before .before .before .settings-in .ensures)) at (c .if2 .taken))
+    let back-3 = c .before .before .before in let at-settings-in = back-3 .before in let start = at-settings-in .before in
+    framed-none (settingsIn (start .args .w .now)) (engineIn (start .args .w .now)) (start .args .ss) (rw ((c .before .is-framed .ensures), (at-settings-in .settings-in .ensures)) at (c .if2 .taken))
 
 returns-3 : tie.Need-returns-3
 returns-3 c =
-    rests-none (settingsIn (c .before .before .before .before .before .before .before .args .w .now)) (engineIn (c .before .before .before .before .before .before .before .args .w .now)) (c .before .before .before .before .before .before .before .args .ss) (sym (c .before .is-resting .ensures) ∙ (c .if3 .taken))
+    let back-3 = c .before .before .before in let back-6 = back-3 .before .before .before in let start = back-6 .before in
+    rests-none (settingsIn (start .args .w .now)) (engineIn (start .args .w .now)) (start .args .ss) (sym (c .before .is-resting .ensures) ∙ (c .if3 .taken))
 
 returns-4 : tie.Need-returns-4
 returns-4 c =
-    rw ((c .before .before .current-in .ensures), (c .width .ensures), (c .before .before .before .before .before .before .before .before .before .settings-in .ensures)) (by-edges (settingsIn (c .before .before .before .before .before .before .before .before .before .before .args .w .now)) (engineIn (c .before .before .before .before .before .before .before .before .before .before .args .w .now)) (c .before .before .before .before .before .before .before .before .before .before .args .ss) (not-false _ (rw (c .before .before .before .before .before .before .before .before .before .settings-in .ensures) at (c .before .before .before .before .before .before .before .if1 .left))) (rw ((c .before .before .before .before .before .before .is-framed .ensures), (c .before .before .before .before .before .before .before .before .before .settings-in .ensures)) at (c .before .before .before .before .before .if2 .left)) (sym (c .before .before .before .before .is-resting .ensures) ∙ (c .before .before .before .if3 .left)))
+    let at-current-in = c .before .before in let at-if3 = at-current-in .before in let at-is-resting = at-if3 .before in
+    let at-if2 = at-is-resting .before in let at-is-framed = at-if2 .before in let at-if1 = at-is-framed .before in
+    let at-settings-in = at-if1 .before .before in let start = at-settings-in .before in
+    rw ((at-current-in .current-in .ensures), (c .width .ensures), (at-settings-in .settings-in .ensures)) (by-edges (settingsIn (start .args .w .now)) (engineIn (start .args .w .now)) (start .args .ss) (not-false _ (rw (at-settings-in .settings-in .ensures) at (at-if1 .if1 .left))) (rw ((at-is-framed .is-framed .ensures), (at-settings-in .settings-in .ensures)) at (at-if2 .if2 .left)) (sym (at-is-resting .is-resting .ensures) ∙ (at-if3 .if3 .left)))
 
 pub has-word-spec : {M : Type 1} → statement M
 has-word-spec =
     tie.close
     (tie.spec
-    (λ c κs. search needs)
-    returns
-    (λ c κs. search needs)
-    returns-2
-    (λ c κs. search needs)
-    returns-3
-    (λ c κs. search needs)
-    (λ c. search needs)
-    (λ c κs. search needs)
-    (λ c. search needs)
-    (λ c. search needs)
-    returns-4)
+    (λ c κs. search needs) returns (λ c κs. search needs) returns-2 (λ c κs. search needs) returns-3 (λ c κs. search needs)
+    (λ c. search needs) (λ c κs. search needs) (λ c. search needs) (λ c. search needs) returns-4)

@@ -13,12 +13,15 @@ use Rattle.word_calls.proofs.hear.Tie as tie
 returns : tie.Need-returns
 unfolding remembered
 returns c =
-    let n = engineIn (c .before .before .before .before .args .w .now) in stays (ap (λ (b : Bool). withSs b n) (so _ _ _ (rw ((c .before .own-clock .ensures), (c .before .before .settings-in .ensures)) at (c .if1 .taken)) refl))
+    let at-settings-in = c .before .before in let start = at-settings-in .before .before in
+    let n = engineIn (start .args .w .now) in stays (ap (λ (b : Bool). withSs b n) (so _ _ _ (rw ((c .before .own-clock .ensures), (at-settings-in .settings-in .ensures)) at (c .if1 .taken)) refl))
 
 returns-2 : tie.Need-returns-2
 unfolding remembered
 returns-2 c =
-    let n = engineIn (c .before .before .before .before .before .before .args .w .now) in alike (c .store-ss .ensures) (ap (λ (b : Bool). withSs b n) (not-so _ _ _ (rw ((c .before .before .before .own-clock .ensures), (c .before .before .before .before .settings-in .ensures)) at (c .before .before .if1 .left)) refl))
+    let at-if1 = c .before .before in let at-own-clock = at-if1 .before in let at-settings-in = at-own-clock .before in
+    let start = at-settings-in .before .before in
+    let n = engineIn (start .args .w .now) in alike (c .store-ss .ensures) (ap (λ (b : Bool). withSs b n) (not-so _ _ _ (rw ((at-own-clock .own-clock .ensures), (at-settings-in .settings-in .ensures)) at (at-if1 .if1 .left)) refl))
 
 pub hear-spec : {M : Type 1} → statement M
 hear-spec =

@@ -6,7 +6,9 @@ use Rattle.word_calls.proofs.idle_first.Tie as tie
 
 returns : tie.Need-returns
 unfolding idleFirst
-returns c = rw ((c .before .before .is-begun .ensures), (c .before .before .before .pins-in .ensures), (c .before .before .before .before .settings-in .ensures))
+returns c =
+    let at-is-begun = c .before .before in let at-pins-in = at-is-begun .before in let at-settings-in = at-pins-in .before in
+    rw ((at-is-begun .is-begun .ensures), (at-pins-in .pins-in .ensures), (at-settings-in .settings-in .ensures))
 
 pub idle-first-spec : {M : Type 1} → statement M
 idle-first-spec =

@@ -19,25 +19,18 @@ add-if1-2 c = omega (arith, bit-most (c .before .cke .result))
 returns : tie.Need-returns
 unfolding lastSdo
 returns c =
-    let late = ap boolByte (c .before .before .before .before .cke .ensures) in let w = (c .before .before .width .ensures) in so-lt ((c .before .before .before .before .before .args .p) .edges + 1 + boolByte (ckeOf (c .before .before .before .before .before .args .s))) (wordEdges (c .before .before .before .before .before .args .s)) _ _ (omega arith) (c .bit .ensures)
+    let at-width = c .before .before in let at-cke = at-width .before .before in let start = at-cke .before in
+    let late = ap boolByte (at-cke .cke .ensures) in let w = (at-width .width .ensures) in so-lt ((start .args .p) .edges + 1 + boolByte (ckeOf (start .args .s))) (wordEdges (start .args .s)) _ _ (omega arith) (c .bit .ensures)
 
 returns-2 : tie.Need-returns-2
 unfolding lastSdo
 returns-2 c =
-    let late = ap boolByte (c .before .before .before .cke .ensures) in let w = (c .before .width .ensures) in not-so-lt ((c .before .before .before .before .args .p) .edges + 1 + boolByte (ckeOf (c .before .before .before .before .args .s))) (wordEdges (c .before .before .before .before .args .s)) _ _ (omega arith) refl
+    let at-cke = c .before .before .before in let start = at-cke .before in
+    let late = ap boolByte (at-cke .cke .ensures) in let w = (c .before .width .ensures) in not-so-lt ((start .args .p) .edges + 1 + boolByte (ckeOf (start .args .s))) (wordEdges (start .args .s)) _ _ (omega arith) refl
 
 pub last-sdo-spec : {M : Type 1} → statement M
 last-sdo-spec =
     tie.close
     (tie.spec
-    (λ c κs. search needs)
-    (λ c. search needs)
-    (λ c. search needs)
-    (λ c. search needs)
-    add-if1-2
-    (λ c κs. search needs)
-    (λ c. search needs)
-    (λ c. search needs)
-    (λ c κs. search needs)
-    returns
-    returns-2)
+    (λ c κs. search needs) (λ c. search needs) (λ c. search needs) (λ c. search needs) add-if1-2 (λ c κs. search needs) (λ c. search needs)
+    (λ c. search needs) (λ c κs. search needs) returns returns-2)

@@ -11,27 +11,22 @@ use Rattle.word_calls.proofs.levels_left.Tie as tie
 
 sub-behind : tie.Need-sub-behind
 sub-behind c =
-    omega (arith, left-least (c .before .before .before .before .args .s) (c .before .before .before .before .args .p) (c .before .before .before .before .args .left) ((c .before .before .before .before .pre) .0) ((c .before .before .before .before .pre) .2) (c .before .before .before .before .args .sdo) (rw ((c .before .is-sampling .ensures), (c .before .before .before .cke .ensures)) at (c .if1 .taken)))
+    let at-cke = c .before .before .before in let start = at-cke .before in
+    omega (arith, left-least (start .args .s) (start .args .p) (start .args .left) ((start .pre) .0) ((start .pre) .2) (start .args .sdo) (rw ((c .before .is-sampling .ensures), (at-cke .cke .ensures)) at (c .if1 .taken)))
 
 returns : tie.Need-returns
 returns c =
-    (c .behind .ensures) ∙ taken-level (c .before .before .before .before .before .args .s) (c .before .before .before .before .before .args .p) (c .before .before .before .before .before .args .left) ((c .before .before .before .before .before .pre) .0) ((c .before .before .before .before .before .pre) .2) (c .before .before .before .before .before .args .sdo) (rw ((c .before .before .is-sampling .ensures), (c .before .before .before .before .cke .ensures)) at (c .before .if1 .taken))
+    let at-is-sampling = c .before .before in let at-cke = at-is-sampling .before .before in let start = at-cke .before in
+    (c .behind .ensures) ∙ taken-level (start .args .s) (start .args .p) (start .args .left) ((start .pre) .0) ((start .pre) .2) (start .args .sdo) (rw ((at-is-sampling .is-sampling .ensures), (at-cke .cke .ensures)) at (c .before .if1 .taken))
 
 returns-2 : tie.Need-returns-2
 returns-2 c =
-    (c .behind2 .ensures) ∙ kept-level (c .before .before .before .before .before .args .s) (c .before .before .before .before .before .args .p) (c .before .before .before .before .before .args .left) ((c .before .before .before .before .before .pre) .0) ((c .before .before .before .before .before .pre) .2) (c .before .before .before .before .before .args .sdo) (rw ((c .before .before .is-sampling .ensures), (c .before .before .before .before .cke .ensures)) at (c .before .if1 .left))
+    let at-is-sampling = c .before .before in let at-cke = at-is-sampling .before .before in let start = at-cke .before in
+    (c .behind2 .ensures) ∙ kept-level (start .args .s) (start .args .p) (start .args .left) ((start .pre) .0) ((start .pre) .2) (start .args .sdo) (rw ((at-is-sampling .is-sampling .ensures), (at-cke .cke .ensures)) at (c .before .if1 .left))
 
 pub levels-left-spec : {M : Type 1} → statement M
 levels-left-spec =
     tie.close
     (tie.spec
-    (λ c κs. search needs)
-    (λ c. search needs)
-    (λ c. search needs)
-    (λ c κs. search needs)
-    (λ c. search needs)
-    sub-behind
-    (λ c κs. search needs)
-    returns
-    (λ c κs. search needs)
-    returns-2)
+    (λ c κs. search needs) (λ c. search needs) (λ c. search needs) (λ c κs. search needs) (λ c. search needs) sub-behind
+    (λ c κs. search needs) returns (λ c κs. search needs) returns-2)

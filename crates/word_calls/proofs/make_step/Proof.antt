@@ -12,18 +12,14 @@ use Rattle.word_calls.proofs.make_step.Tie as tie
 
 returns : tie.Need-returns
 returns c =
-    stepped-so (c .before .before .before .before .before .before .before .before .before .before .before .before .args .ss) (c .before .before .before .before .before .before .before .before .before .before .before .before .args .word) (rw ((c .before .before .before .before .step-level .ensures), (c .before .before .bit .ensures)) at (c .before .clock-step .ensures)) (rw ((c .before .before .before .before .before .before .before .is-framed .ensures), (c .before .before .before .before .before .before .before .before .before .before .settings-in .ensures))) (rw ((c .before .before .before .before .before .before .before .is-framed .ensures), (c .before .before .before .before .before .before .before .before .before .before .settings-in .ensures), (c .before .before .before .before .before .before .before .before .pins-in .ensures)))
+    let at-bit = c .before .before in let at-step-level = at-bit .before .before in
+    let at-is-framed = at-step-level .before .before .before in let at-pins-in = at-is-framed .before in
+    let at-settings-in = at-pins-in .before .before in let start = at-settings-in .before .before in
+    stepped-so (start .args .ss) (start .args .word) (rw ((at-step-level .step-level .ensures), (at-bit .bit .ensures)) at (c .before .clock-step .ensures)) (rw ((at-is-framed .is-framed .ensures), (at-settings-in .settings-in .ensures))) (rw ((at-is-framed .is-framed .ensures), (at-settings-in .settings-in .ensures), (at-pins-in .pins-in .ensures)))
 
 pub make-step-spec : {M : Type 1} → statement M
 make-step-spec =
     tie.close
     (tie.spec
-    (λ c κs. search needs)
-    (λ c κs. search needs)
-    (λ c κs. search needs)
-    (λ c κs. search needs)
-    (λ c κs. search needs)
-    (λ c κs. search needs)
-    (λ c. search needs)
-    (λ c. search needs)
-    returns)
+    (λ c κs. search needs) (λ c κs. search needs) (λ c κs. search needs) (λ c κs. search needs) (λ c κs. search needs)
+    (λ c κs. search needs) (λ c. search needs) (λ c. search needs) returns)

@@ -17,37 +17,33 @@ use Rattle.word_calls.proofs.make_word.Tie as tie
 
 levels-left-requires : tie.Need-levels-left-requires
 levels-left-requires c κs =
-    ((c .bits-left .ensures .0), (c .bits-left .ensures .1), short-here (settingsIn (c .before .before .before .before .before .before .before .args .w .now)) (engineIn (c .before .before .before .before .before .before .before .args .w .now)) (c .before .before .before .before .before .before .before .args .ss) (c .before .before .before .before .before .before .before .pre) (c .before .before .before .before .before .settings-in .ensures) (c .before .before .before .current-in .ensures))
+    let at-current-in = c .before .before .before in let at-settings-in = at-current-in .before .before in
+    let start = at-settings-in .before .before in
+    ((c .bits-left .ensures .0), (c .bits-left .ensures .1), short-here (settingsIn (start .args .w .now)) (engineIn (start .args .w .now)) (start .args .ss) (start .pre) (at-settings-in .settings-in .ensures) (at-current-in .current-in .ensures))
 
 returns : tie.Need-returns
 unfolding lastSck
 returns c =
-    let settings-in = (c .before .before .before .before .before .before .before .before .before .before .before .before .before .before .before .before .before .before .before .settings-in .ensures) in
-    let p = (c .before .before .before .before .before .before .before .before .before .before .before .before .before .before .before .before .before .current-in .result) in
-    let ready = (c .before .before .before .before .before .before .before .before .before .make-ready .ensures) in
-    let level = ap (λ (x : Pins). x .sdo) (c .before .before .before .before .before .before .before .before .before .before .before .before .before .before .before .pins-in .ensures) in
-    let turn = ap (λ (b : Bool). Bool·beq (eqb (p .edges % 2) 0) b) (ap (λ (x : Pins). x .sck) (c .before .before .before .before .before .before .before .pins-in2 .ensures) ∙ ap (λ (n : Engine). n .pins .sck) (ready .engine)) in
+    let at-store-sdo = c .before .before in let at-store-sck = at-store-sdo .before .before in
+    let at-pins-in2 = at-store-sck .before .before .before in let at-make-ready = at-pins-in2 .before .before in
+    let at-behind = at-make-ready .before .before in let at-last-sdo = at-behind .before in let at-levels-left = at-last-sdo .before in
+    let at-bits-left = at-levels-left .before in let at-pins-in = at-bits-left .before in let at-current-in = at-pins-in .before .before in
+    let at-settings-in = at-current-in .before .before in let start = at-settings-in .before .before in
+    let settings-in = (at-settings-in .settings-in .ensures) in
+    let p = (at-current-in .current-in .result) in
+    let ready = (at-make-ready .make-ready .ensures) in
+    let level = ap (λ (x : Pins). x .sdo) (at-pins-in .pins-in .ensures) in
+    let turn = ap (λ (b : Bool). Bool·beq (eqb (p .edges % 2) 0) b) (ap (λ (x : Pins). x .sck) (at-pins-in2 .pins-in2 .ensures) ∙ ap (λ (n : Engine). n .pins .sck) (ready .engine)) in
     speaks
-    (word-made (settingsIn (c .before .before .before .before .before .before .before .before .before .before .before .before .before .before .before .before .before .before .before .before .before .args .w .now)) (engineIn (c .before .before .before .before .before .before .before .before .before .before .before .before .before .before .before .before .before .before .before .before .before .args .w .now)) (c .before .before .before .before .before .before .before .before .before .before .before .before .before .before .before .before .before .before .before .before .before .args .ss) (c .before .before .before .before .before .before .before .before .before .before .before .before .before .before .before .before .before .before .before .before .before .args .word) (c .before .before .before .before .before .before .before .before .before .before .before .before .before .before .before .before .before .before .before .before .before .pre) (c .before .before .before .before .before .before .before .before .before .before .before .before .before .before .before .before .before .current-in .ensures) (omega arith) (rw settings-in at (c .before .before .before .before .before .before .before .before .before .before .before .before .before .before .bits-left .ensures .0)) (rw settings-in at (c .before .before .before .before .before .before .before .before .before .before .before .before .before .levels-left .ensures)) level
-    (ap (λ (x : ℕ). x % 65536) (c .before .before .before .before .before .before .before .before .before .before .before .behind .ensures)) (rw settings-in at (c .before .before .before .before .before .before .before .before .before .before .before .before .last-sdo .ensures)) turn)
-    (module-after (ready then (c .before .before .before .before .store-sck .ensures) then (c .before .before .store-sdo .ensures) then (c .finish .ensures)))
+    (word-made (settingsIn (start .args .w .now)) (engineIn (start .args .w .now)) (start .args .ss) (start .args .word) (start .pre) (at-current-in .current-in .ensures) (omega (arith, at-current-in .current-in .ok)) (rw settings-in at (at-bits-left .bits-left .ensures .0)) (rw settings-in at (at-levels-left .levels-left .ensures)) level
+    (ap (λ (x : ℕ). x % 65536) (at-behind .behind .ensures)) (rw settings-in at (at-last-sdo .last-sdo .ensures)) turn)
+    (module-after (ready then (at-store-sck .store-sck .ensures) then (at-store-sdo .store-sdo .ensures) then (c .finish .ensures)))
     (λ e. clash false e refl)
 
 pub make-word-spec : {M : Type 1} → statement M
 make-word-spec =
     tie.close
     (tie.spec
-    (λ c κs. search needs)
-    (λ c κs. search needs)
-    (λ c κs. search needs)
-    (λ c κs. search needs)
-    levels-left-requires
-    (λ c κs. search needs)
-    (λ c κs. search needs)
-    (λ c κs. search needs)
-    (λ c κs. search needs)
-    (λ c κs. search needs)
-    (λ c κs. search needs)
-    (λ c. search needs)
-    (λ c κs. search needs)
-    returns)
+    (λ c κs. search needs) (λ c κs. search needs) (λ c κs. search needs) (λ c κs. search needs) levels-left-requires (λ c κs. search needs)
+    (λ c κs. search needs) (λ c κs. search needs) (λ c κs. search needs) (λ c κs. search needs) (λ c κs. search needs) (λ c. search needs)
+    (λ c κs. search needs) returns)

@@ -15,7 +15,8 @@ returns c = (c .make-word .ensures)
 
 returns-2 : tie.Need-returns-2
 returns-2 c =
-    speaks-as (sym (single-step (moduleIn (c .before .before .before .before .before .args .w .now)) (c .before .before .before .before .before .args .ss) (c .before .before .before .before .before .args .word) (sym (c .before .before .before .has-word .ensures) ∙ (c .before .before .if1 .left)))) (c .make-step .ensures)
+    let at-if1 = c .before .before in let at-has-word = at-if1 .before in let start = at-has-word .before .before in
+    speaks-as (sym (single-step (moduleIn (start .args .w .now)) (start .args .ss) (start .args .word) (sym (at-has-word .has-word .ensures) ∙ (at-if1 .if1 .left)))) (c .make-step .ensures)
 
 pub word-spec : {M : Type 1} → statement M
 word-spec =

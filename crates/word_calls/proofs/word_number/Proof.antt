@@ -11,7 +11,8 @@ use Rattle.word_calls.proofs.word_number.Tie as tie
 returns : tie.Need-returns
 unfolding wordNumber
 returns c =
-    by-case (λ (a : Answer). wordNumber a (c .before .before .before .before .args .count) (c .before .before .before .before .args .levels)) (c .before .before .a .given .1) (omega (arith, (c .refusal-number .ensures)))
+    let at-a = c .before .before in let start = at-a .before .before in
+    by-case (λ (a : Answer). wordNumber a (start .args .count) (start .args .levels)) (at-a .a .given .1) (omega (arith, (c .refusal-number .ensures)))
 
 returns-2 : tie.Need-returns-2
 unfolding wordNumber
@@ -37,19 +38,6 @@ pub word-number-spec : {M : Type 1} → statement M
 word-number-spec =
     tie.close
     (tie.spec
-    (λ c. search needs)
-    (λ c. search needs)
-    (λ c. search needs)
-    (λ c. search needs)
-    (λ c κs. search needs)
-    (λ c. search needs)
-    (λ c. search needs)
-    (λ c. search needs)
-    (λ c. search needs)
-    (λ c. search needs)
-    (λ c. search needs)
-    returns
-    returns-2
-    returns-3
-    returns-4
-    returns-5)
+    (λ c. search needs) (λ c. search needs) (λ c. search needs) (λ c. search needs) (λ c κs. search needs) (λ c. search needs)
+    (λ c. search needs) (λ c. search needs) (λ c. search needs) (λ c. search needs) (λ c. search needs) returns returns-2 returns-3
+    returns-4 returns-5)
