@@ -71,7 +71,7 @@ extern "C" {
  * lower. */
 #define THURAFEQA_VERSION_MAJOR 7u
 #define THURAFEQA_VERSION_MINOR 0u
-#define THURAFEQA_VERSION_PATCH 1u
+#define THURAFEQA_VERSION_PATCH 2u
 #define THURAFEQA_VERSION                                                      \
     (THURAFEQA_VERSION_MAJOR << 16 | THURAFEQA_VERSION_MINOR << 8 |            \
      THURAFEQA_VERSION_PATCH)

@@ -39,6 +39,14 @@ pub fn read(w: &mut [u16; 96], register: u32) -> u32
     answer_number(answer)
 }
 
+// A read of BUF, of which a port makes the most: it is not looked for among the registers.
+pub fn read_buf(w: &mut [u16; 96]) -> u32
+    ensures { λ r. ⌜ Tells (readOf (moduleIn (now (w .entry))) 3) r (now (w .entry)) (now (w .exit)) ⌝ }
+{
+    let answer = module_register_calls::read_buf(w);
+    answer_number(answer)
+}
+
 // A write of a register.
 pub fn write(w: &mut [u16; 96], register: u32, v: u16) -> u32
     ensures { λ r. ⌜ Tells (writeOf (moduleIn (now (w .entry))) register v) r (now (w .entry)) (now (w .exit)) ⌝ }
@@ -84,18 +92,19 @@ fn weight(bit: bool, w: u32) -> u32
     0
 }
 
-// A pin that the module may drive, SDO and SS: its level, and whether it is driven.
+// A pin that the module may drive, SDO and SS: its level, and whether it is driven. The pins are read only where they are asked for, so that
+// a module that drives no SS does not work its level out.
 fn sdo_bits(w: &[u16; 96]) -> u32
     ensures { λ r. ⌜ (r ≡ outputBits (sdoOf (moduleIn (now (w .entry))))) × (r ≤ 3) ⌝ }
 {
     let s = module_memory_looks::settings_in(w);
-    let pins = module_memory_looks::pins_in(w);
     if !s.spien {
         return 0;
     }
     if s.con1.dissdo {
         return 0;
     }
+    let pins = module_memory_looks::pins_in(w);
     if module_settings::is_deselected(s, pins.ss) {
         return 0;
     }
@@ -106,13 +115,13 @@ fn ss_bits(w: &[u16; 96]) -> u32
     ensures { λ r. ⌜ (r ≡ outputBits (ssOf (moduleIn (now (w .entry))))) × (r ≤ 3) ⌝ }
 {
     let s = module_memory_looks::settings_in(w);
-    let pins = module_memory_looks::pins_in(w);
     if !s.spien {
         return 0;
     }
     if !module_settings::is_frame_host(s) {
         return 0;
     }
+    let pins = module_memory_looks::pins_in(w);
     2 + weight(pins.pulse == s.con2.frmpol, 1)
 }
 

@@ -185,11 +185,11 @@ module _ {a b : List ℕ} {made : Bool} (on : settingsIn a .spien ≡ true) (sck
 
 -- A tick, and a pin call, by the clock step of their kind of module.
 module _ {a b : List ℕ} {made : Bool} where
-  pub tick-shortly : (sdi ss : Bool) → ownClock (settingsIn a) ≡ true → Shortly (clockStepOf (moduleIn a) false sdi ss) Done made a b →
+  pub tick-shortly : (sdi ss : Bool) → (made ≡ true → ownClock (settingsIn a) ≡ true) → Shortly (clockStepOf (moduleIn a) false sdi ss) Done made a b →
       Shortly (tickOf (moduleIn a) sdi ss) Edge made a b
   tick-shortly sdi ss own h =
       record {
-        taken = λ e. likewise (edge-told (h .taken e) refl) (sym (tick-is-step (moduleIn a) sdi ss own));
+        taken = λ e. likewise (edge-told (h .taken e) refl) (sym (tick-is-step (moduleIn a) sdi ss (own e)));
         goes = h .goes;
         left = h .left;
       }

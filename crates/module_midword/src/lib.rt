@@ -5,9 +5,10 @@ ghost use mathlib.Core.Path.{_≡_};
 ghost use Rattle.laws.specs.Choice.{if_then_else_};
 ghost use Rattle.module_types.specs.declared.Answer.the-variants.{Done, Edge};
 ghost use Rattle.module_rules.specs.Changes.{withPulse};
+ghost use Rattle.module_rules.specs.Settings.{ownClock};
 ghost use Rattle.module_rules.specs.Edge.{levels, stepped};
 ghost use Rattle.module_rules.specs.Calls.{clockStepOf, tickOf, pinsOf};
-ghost use Rattle.module_memory.specs.Memory.{moduleIn, Steps};
+ghost use Rattle.module_memory.specs.Memory.{settingsIn, moduleIn, Steps};
 ghost use Rattle.module_answers.specs.Answered.{edgeAdvanced, turned, Midword, GoesOn, Shortens, Shortly};
 
 // Whether the next edge is one within a begun word, which it does not finish; and that edge, to the level `sck`, before a pulse is decided.
@@ -30,9 +31,9 @@ fn go_within(w: &mut [u16; 96], sck: bool, sdi: bool)
     let p = module_memory_looks::progress_in(w);
     let edge = p.edges as u16 + 1;
     let last = 2 * module_settings::width(s) as u16;
-    module_memory_stores::store_sck(w, sck);
     if module_bits::is_sampling(module_settings::cke(s), edge) {
         let received = module_bits::shift_in(p.received, sdi);
+        module_memory_stores::store_sck(w, sck);
         module_memory_stores::store_gone(w, edge as u8, received);
     } else {
         let at = if edge < last {
@@ -41,6 +42,7 @@ fn go_within(w: &mut [u16; 96], sck: bool, sdi: bool)
             0
         };
         let sdo = module_bits::bit(p.word, at);
+        module_memory_stores::store_sck(w, sck);
         module_memory_stores::store_gone(w, edge as u8, p.received);
         module_memory_stores::store_sdo(w, sdo);
     }
@@ -53,20 +55,26 @@ pub fn within(w: &mut [u16; 96], own: bool, sck: bool, sdi: bool, ss: bool) -> b
 {
     let s = module_memory_looks::settings_in(w);
     let pins = module_memory_looks::pins_in(w);
-    if module_settings::is_framed(s) {
-        return false;
-    }
-    if !is_midword(w) {
-        return false;
-    }
     if own {
+        if module_settings::is_framed(s) {
+            return false;
+        }
+        if !is_midword(w) {
+            return false;
+        }
         go_within(w, !pins.sck, sdi);
         return true;
+    }
+    if module_settings::is_deselected(s, ss) {
+        return false;
     }
     if sck == pins.sck {
         return false;
     }
-    if module_settings::is_deselected(s, ss) {
+    if module_settings::is_framed(s) {
+        return false;
+    }
+    if !is_midword(w) {
         return false;
     }
     module_memory_stores::store_ss(w, ss);
@@ -74,8 +82,7 @@ pub fn within(w: &mut [u16; 96], own: bool, sck: bool, sdi: bool, ss: bool) -> b
     true
 }
 
-// A clock step, a tick and a pin call by the short way: whether it was made. Where the role is tested it is told, so that it is not
-// looked up again.
+// A clock step by the short way: whether it was made. Where the role is tested it is told, so that it is not looked up again.
 pub fn step_within(w: &mut [u16; 96], sck: bool, sdi: bool, ss: bool) -> bool
     ensures { λ r. ⌜ Shortly (clockStepOf (moduleIn (now (w .entry))) sck sdi ss) Done r (now (w .entry)) (now (w .exit)) ⌝ }
 {
@@ -89,17 +96,19 @@ pub fn step_within(w: &mut [u16; 96], sck: bool, sdi: bool, ss: bool) -> bool
     within(w, false, sck, sdi, ss)
 }
 
-pub fn tick_within(w: &mut [u16; 96], sdi: bool, ss: bool) -> bool
-    ensures { λ r. ⌜ Shortly (tickOf (moduleIn (now (w .entry))) sdi ss) Edge r (now (w .entry)) (now (w .exit)) ⌝ }
+// The same for a host with its own clock alone, and for any other module alone.
+pub fn own_within(w: &mut [u16; 96], sck: bool, sdi: bool, ss: bool) -> bool
+    ensures { λ r. ⌜ Shortly (clockStepOf (moduleIn (now (w .entry))) sck sdi ss) Done r (now (w .entry)) (now (w .exit)) ⌝ }
+    ensures { λ r. ⌜ (r ≡ true → ownClock (settingsIn (now (w .entry))) ≡ true) ⌝ }
 {
     let s = module_memory_looks::settings_in(w);
-    if !s.spien {
+    if !(s.spien & !module_settings::is_framed(s)) {
         return false;
     }
     if !module_settings::own_clock(s) {
         return false;
     }
-    within(w, true, false, sdi, ss)
+    within(w, true, sck, sdi, ss)
 }
 
 pub fn pins_within(w: &mut [u16; 96], sck: bool, sdi: bool, ss: bool) -> bool
@@ -113,6 +122,13 @@ pub fn pins_within(w: &mut [u16; 96], sck: bool, sdi: bool, ss: bool) -> bool
         return false;
     }
     within(w, false, sck, sdi, ss)
+}
+
+// A tick by the short way.
+pub fn tick_within(w: &mut [u16; 96], sdi: bool, ss: bool) -> bool
+    ensures { λ r. ⌜ Shortly (tickOf (moduleIn (now (w .entry))) sdi ss) Edge r (now (w .entry)) (now (w .exit)) ⌝ }
+{
+    own_within(w, false, sdi, ss)
 }
 
 // A frame host's pulse after an edge to the level `sck` at which it gives none: at the active level it ends.

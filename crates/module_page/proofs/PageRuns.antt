@@ -1,6 +1,7 @@
 -- The page holds at every call of longer lists than crates/module_rules runs, each from power-up.
 --     client-runs   clients with SSEN and without, and two words of a frame host
 --     frame-runs    words of each end of a frame, one behind the other, with either FRMDLY and FRMPOL
+--     step-runs     an idle host, and clock steps of every kind of module
 --     full-run      every condition of SISEL, a full buffer each way, and the mark
 -- Assumes nothing.
 use Prim.Native.Nat.{ℕ, _+_}
@@ -12,7 +13,7 @@ use Rattle.ring.specs.Ring.{next, contents}
 use Rattle.word_order.specs.Bits.{bitOf}
 use Rattle.word_order.specs.Ledger.{opened, leftToSend, loses, firstOnWire, counted, closed, given}
 use Rattle.module_types.specs.declared.Call.{Call}
-use Rattle.module_types.specs.declared.Call.the-variants.{Read, Write, Pin, Clear}
+use Rattle.module_types.specs.declared.Call.the-variants.{Read, Write, Tick, Pin, ClockStep, Clear}
 use Rattle.module_rules.specs.Bits.{shiftedIn, receivedAfter, shownBit, sdoAfter, progressed}
 use Rattle.module_rules.specs.Buffers.{waiting, unread, emptyTransmit, emptyReceive, firstWaiting, firstUnread, written, departed, appended, taken, overrun}
 use Rattle.module_rules.specs.Calls.{refuse, answering, poweredAt, wordTaken, readBuf, readOf, turnsOn, turnsOff, statWritten, writeStat, withCon1, withCon2, configured, wordWritten, writeBuf, writeOf, clockStepOf, edgeTold, tickOf, pinsOf, clearOf, performOf, interruptOf, sckOf, undriven, sdoOf, ssOf}
@@ -24,7 +25,7 @@ use Rattle.module_rules.specs.Refusals.{numberOf}
 use Rattle.module_rules.specs.Registers.{weighed, con1From, con1Value, con2From, con2Value, spitbf, spirbf, srxmpt, srmpt, atMost7, spibec, statValue, statSettings, spirovAfter, statEngine, enabledEngine, disabledEngine}
 use Rattle.module_rules.specs.Select.{selectRemembered, aborted, selectSeen}
 use Rattle.module_rules.proofs.PageRun.{unless, judged, told-of, entered-as, seen-as, made, run}
-use Rattle.module_rules.proofs.PageHolds.{one-by-one, enabled, words, ticks, pins, Run}
+use Rattle.module_rules.proofs.PageHolds.{times, one-by-one, enabled, words, ticks, pins, Run}
 
 abbrev ownGives : ℕ → List Call
 ownGives con2 = one-by-one (enabled 32 (32768 + con2) ∷ ticks 1 true true ∷ words (165 ∷ 60 ∷ []) ∷ ticks 19 true false ∷ (Write 0 0 ∷ []) ∷ [])
@@ -130,3 +131,62 @@ twice = one-by-one (enabled 32 32768 ∷ words (165 ∷ 60 ∷ []) ∷ ticks 18 
 client-runs : Run selected × Run selectedWide × Run client × Run clientLate × Run twice
 unfolding shiftedIn receivedAfter shownBit sdoAfter progressed emptyTransmit emptyReceive firstWaiting firstUnread written departed appended taken overrun refuse answering poweredAt wordTaken readBuf readOf turnsOn turnsOff statWritten writeStat withCon1 withCon2 configured wordWritten writeBuf writeOf clockStepOf edgeTold tickOf pinsOf clearOf performOf interruptOf sckOf undriven sdoOf ssOf if_then_else_ begun shifted advanced advancedIfBegun awaitsPulse underWay pulseDue pulseAfter pulsed clocked edged stepped overflowed wordAppended isLost delivered sentDropped freed finished raises noted wordLeaves moved canLoad loaded nextTop sdoAt rested numberOf bitOf weighed con1From con1Value con2From con2Value spitbf spirbf srxmpt srmpt atMost7 spibec statValue statSettings spirovAfter statEngine enabledEngine disabledEngine next selectRemembered aborted selectSeen opened leftToSend loses firstOnWire counted closed given unless judged told-of entered-as seen-as made run waiting unread contents
 client-runs = (refl, refl, refl, refl, refl)
+
+-- An idle host with CKP and without CKE: no tick makes an edge until a word is written.
+abbrev idle : List Call
+idle = one-by-one (enabled 96 0 ∷ ticks 1 true true ∷ words (165 ∷ []) ∷ ticks 1 true true ∷ [])
+
+-- Document 02, Eleven: so many clock steps with SCK at one level throughout, which counts for no host with its own clock; and clocks of
+-- them, from the idle level 0.
+abbrev steps : ℕ → Bool → Bool → Bool → List Call
+steps n sck sdi ss = times n (ClockStep sck sdi ss ∷ [])
+
+abbrev stepClocks : ℕ → Bool → Bool → List Call
+stepClocks n sdi ss = times n (ClockStep true sdi ss ∷ ClockStep false sdi ss ∷ [])
+
+-- Disabled, then a host with its own clock: idle, a word by steps and ticks, and idle again.
+abbrev ownSteps : List Call
+ownSteps =
+    one-by-one
+    ((ClockStep true true true ∷ [])
+    ∷ enabled 32 0
+    ∷ steps 2 true true true
+    ∷ words (165 ∷ [])
+    ∷ steps 3 true true true
+    ∷ steps 2 false false false
+    ∷ (Tick true true ∷ Pin true true true ∷ [])
+    ∷ steps 11 true false true
+    ∷ (Read 3 ∷ [])
+    ∷ [])
+
+-- A host under DISSCK, a client without SSEN and one with it: steps, a pin call and a tick, with levels that stay, and with select high.
+abbrev pinSteps : ℕ → ℕ → List Call
+pinSteps con1 con2 =
+    one-by-one
+    ((ClockStep true true true ∷ [])
+    ∷ enabled con1 con2
+    ∷ stepClocks 1 true true
+    ∷ words (165 ∷ [])
+    ∷ stepClocks 2 true false
+    ∷ (ClockStep false true false ∷ ClockStep true true false ∷ ClockStep true true true ∷ Pin false true true ∷ Tick true true ∷ [])
+    ∷ [])
+
+-- Both ends of a frame with a clock of its own, and a frame client that is clocked from its pin.
+abbrev stepGives : ℕ → List Call
+stepGives con2 = one-by-one (enabled 32 (32768 + con2) ∷ steps 2 true true true ∷ words (165 ∷ []) ∷ steps 5 false true false ∷ [])
+
+abbrev stepTakes : ℕ → ℕ → Bool → List Call
+stepTakes con1 con2 ss =
+    one-by-one
+    (enabled con1 (49152 + con2)
+    ∷ stepClocks 1 true (not ss)
+    ∷ words (165 ∷ [])
+    ∷ stepClocks 1 true ss
+    ∷ stepClocks 1 true (not ss)
+    ∷ [])
+
+step-runs :
+    Run idle × Run ownSteps × Run (pinSteps 4128 0) × Run (pinSteps 0 1) × Run (pinSteps 128 0) × Run (stepGives 8192) × Run (stepTakes 32 8192 true)
+    × Run (stepTakes 0 0 false)
+unfolding shiftedIn receivedAfter shownBit sdoAfter progressed emptyTransmit emptyReceive firstWaiting firstUnread written departed appended taken overrun refuse answering poweredAt wordTaken readBuf readOf turnsOn turnsOff statWritten writeStat withCon1 withCon2 configured wordWritten writeBuf writeOf clockStepOf edgeTold tickOf pinsOf clearOf performOf interruptOf sckOf undriven sdoOf ssOf if_then_else_ begun shifted advanced advancedIfBegun awaitsPulse underWay pulseDue pulseAfter pulsed clocked edged stepped overflowed wordAppended isLost delivered sentDropped freed finished raises noted wordLeaves moved canLoad loaded nextTop sdoAt rested numberOf bitOf weighed con1From con1Value con2From con2Value spitbf spirbf srxmpt srmpt atMost7 spibec statValue statSettings spirovAfter statEngine enabledEngine disabledEngine next selectRemembered aborted selectSeen opened leftToSend loses firstOnWire counted closed given unless judged told-of entered-as seen-as made run waiting unread contents
+step-runs = (refl, refl, refl, refl, refl, refl, refl, refl)

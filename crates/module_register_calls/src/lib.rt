@@ -13,7 +13,7 @@ ghost use Rattle.module_memory.specs.Memory.{settingsIn, moduleIn, Steps};
 ghost use Rattle.module_answers.specs.Answered.{Answers};
 
 // A read of BUF: refused when disabled, while the receive buffer is marked, or with nothing unread.
-fn read_buf(w: &mut [u16; 96]) -> Answer
+pub fn read_buf(w: &mut [u16; 96]) -> Answer
     ensures { λ r. ⌜ Answers (readBuf (moduleIn (now (w .entry)))) r (now (w .entry)) (now (w .exit)) ⌝ }
 {
     let s = module_memory_looks::settings_in(w);

@@ -1,12 +1,11 @@
 -- The page holds at every call of these lists (proofs/PageRun.antt), each from power-up: a wrong rule that one of them tells apart is
 -- seen to be false of the page. Longer lists run in crates/module_page.
---     unframed-runs, framed-runs   lists without frames, and of both ends of a frame
---     step-runs        lists with clock steps, of every kind of module
+--     unframed-runs, framed-runs   lists without frames, and of clients of a frame
 --     marked-run, marked-read   the last edge of a word, and a read of BUF, at records made otherwise
 --     hypotheses-met   no hypothesis of the page is empty
 -- Assumes nothing.
 use Prim.Native.Nat.{ℕ, zero, suc, _+_}
-use mathlib.Core.Bool.{Bool, true, false, not}
+use mathlib.Core.Bool.{Bool, true, false}
 use mathlib.Core.List.{List, [], _∷_, _++_}
 use mathlib.Core.Path.{_≡_, refl}
 use Rattle.laws.specs.Choice.{if_then_else_}
@@ -15,7 +14,7 @@ use Rattle.word_order.specs.Bits.{bitOf}
 use Rattle.word_order.specs.Ledger.{isQuiet, opened, leftToSend, loses, firstOnWire, counted, closed, given, unsent}
 use Rattle.module_types.specs.declared.Settings.{Settings}
 use Rattle.module_types.specs.declared.Call.{Call}
-use Rattle.module_types.specs.declared.Call.the-variants.{Read, Write, Tick, Pin, ClockStep, Clear}
+use Rattle.module_types.specs.declared.Call.the-variants.{Read, Write, Tick, Pin, Clear}
 use Rattle.module_rules.specs.Bits.{shiftedIn, receivedAfter, shownBit, sdoAfter, progressed}
 use Rattle.module_rules.specs.Buffers.{waiting, unread, emptyTransmit, emptyReceive, firstWaiting, firstUnread, written, departed, appended, taken, overrun}
 use Rattle.module_rules.specs.Calls.{refuse, answering, poweredAt, wordTaken, readBuf, readOf, turnsOn, turnsOff, statWritten, writeStat, withCon1, withCon2, configured, wordWritten, writeBuf, writeOf, clockStepOf, edgeTold, tickOf, pinsOf, clearOf, performOf, interruptOf, sckOf, undriven, sdoOf, ssOf}
@@ -84,10 +83,6 @@ wide =
     ∷ (Read 0 ∷ Read 3 ∷ [])
     ∷ [])
 
--- An idle host with CKP and without CKE: no tick makes an edge until a word is written.
-abbrev idle : List Call
-idle = one-by-one (enabled 96 0 ∷ ticks 1 true true ∷ words (165 ∷ []) ∷ ticks 1 true true ∷ [])
-
 -- A host with DISSCK, clocked while it is idle, then with a word.
 abbrev pinned : List Call
 pinned = one-by-one (enabled 4128 0 ∷ pins 8 true true ∷ (Read 3 ∷ Tick true true ∷ []) ∷ words (195 ∷ []) ∷ pins 2 true true ∷ [])
@@ -118,21 +113,10 @@ selectedWide =
     ∷ (Read 0 ∷ [])
     ∷ [])
 
--- The four pairings of frames: a clock of its own or from the pin, pulses given or taken, without FRMDLY (bit 1 of CON2) and FRMPOL (bit
--- 13) and with both; CKE and SSEN are set in the last, where they count as 0. crates/module_page runs all pairings of the two bits.
-abbrev ownGives : ℕ → List Call
-ownGives con2 = one-by-one (enabled 32 (32768 + con2) ∷ ticks 1 true true ∷ words (165 ∷ []) ∷ ticks 2 true false ∷ (Write 0 0 ∷ []) ∷ [])
-
-abbrev pinGives : ℕ → List Call
-pinGives con2 = one-by-one (enabled 4128 (32768 + con2) ∷ pins 1 true true ∷ words (165 ∷ []) ∷ pins 2 true false ∷ [])
-
-abbrev ownTakes : ℕ → Bool → List Call
-ownTakes con2 ss =
-    one-by-one (enabled 32 (49152 + con2) ∷ ticks 1 true (not ss) ∷ words (165 ∷ []) ∷ ticks 2 true ss ∷ ticks 1 true (not ss) ∷ [])
-
-abbrev pinTakes : ℕ → Bool → List Call
-pinTakes con2 ss =
-    one-by-one (enabled 0 (49152 + con2) ∷ pins 1 true (not ss) ∷ pins 2 true ss ∷ words (165 ∷ []) ∷ pins 1 true (not ss) ∷ [])
+-- A frame client clocked from its pin; and one with FRMPOL, with CKE and SSEN set, which count as 0. crates/module_page runs both ends of frames
+-- in all their pairings.
+abbrev taking : List Call
+taking = one-by-one (enabled 0 49152 ∷ pins 1 true true ∷ pins 2 true false ∷ words (165 ∷ []) ∷ pins 1 true true ∷ [])
 
 abbrev heedless : List Call
 heedless = one-by-one (enabled 384 57344 ∷ words (165 ∷ []) ∷ pins 2 true true ∷ pins 1 true false ∷ [])
@@ -153,70 +137,13 @@ abbrev pub Run : List Call → Type 0
 Run cs = run cs (begins (powerUp Eight)) ≡ true
 
 unframed-runs :
-    Run host × Run wide × Run idle × Run pinned × Run selected × Run selectedWide × Run refused
+    Run host × Run wide × Run pinned × Run selected × Run selectedWide × Run refused
 unfolding shiftedIn receivedAfter shownBit sdoAfter progressed emptyTransmit emptyReceive firstWaiting firstUnread written departed appended taken overrun refuse answering poweredAt wordTaken readBuf readOf turnsOn turnsOff statWritten writeStat withCon1 withCon2 configured wordWritten writeBuf writeOf clockStepOf edgeTold tickOf pinsOf clearOf performOf interruptOf sckOf undriven sdoOf ssOf if_then_else_ begun shifted advanced advancedIfBegun awaitsPulse underWay pulseDue pulseAfter pulsed clocked edged stepped overflowed wordAppended isLost delivered sentDropped freed finished raises noted wordLeaves moved canLoad loaded nextTop sdoAt rested numberOf bitOf weighed con1From con1Value con2From con2Value spitbf spirbf srxmpt srmpt atMost7 spibec statValue statSettings spirovAfter statEngine enabledEngine disabledEngine next selectRemembered aborted selectSeen opened leftToSend loses firstOnWire counted closed given unless judged told-of entered-as seen-as made run waiting unread contents
-unframed-runs = (refl, refl, refl, refl, refl, refl, refl)
+unframed-runs = (refl, refl, refl, refl, refl, refl)
 
-framed-runs :
-    Run (ownGives 0) × Run (ownGives 8194) × Run (pinGives 0) × Run (pinGives 8194) × Run (ownTakes 0 false) × Run (ownTakes 8194 true)
-    × Run (pinTakes 0 false) × Run (pinTakes 8194 true) × Run heedless
+framed-runs : Run taking × Run heedless
 unfolding shiftedIn receivedAfter shownBit sdoAfter progressed emptyTransmit emptyReceive firstWaiting firstUnread written departed appended taken overrun refuse answering poweredAt wordTaken readBuf readOf turnsOn turnsOff statWritten writeStat withCon1 withCon2 configured wordWritten writeBuf writeOf clockStepOf edgeTold tickOf pinsOf clearOf performOf interruptOf sckOf undriven sdoOf ssOf if_then_else_ begun shifted advanced advancedIfBegun awaitsPulse underWay pulseDue pulseAfter pulsed clocked edged stepped overflowed wordAppended isLost delivered sentDropped freed finished raises noted wordLeaves moved canLoad loaded nextTop sdoAt rested numberOf bitOf weighed con1From con1Value con2From con2Value spitbf spirbf srxmpt srmpt atMost7 spibec statValue statSettings spirovAfter statEngine enabledEngine disabledEngine next selectRemembered aborted selectSeen opened leftToSend loses firstOnWire counted closed given unless judged told-of entered-as seen-as made run waiting unread contents
-framed-runs = (refl, refl, refl, refl, refl, refl, refl, refl, refl)
-
--- Document 02, Eleven: so many clock steps with SCK at one level throughout, which counts for no host with its own clock; and clocks of
--- them, from the idle level 0.
-abbrev steps : ℕ → Bool → Bool → Bool → List Call
-steps n sck sdi ss = times n (ClockStep sck sdi ss ∷ [])
-
-abbrev stepClocks : ℕ → Bool → Bool → List Call
-stepClocks n sdi ss = times n (ClockStep true sdi ss ∷ ClockStep false sdi ss ∷ [])
-
--- Disabled, then a host with its own clock: idle, a word by steps and ticks, and idle again.
-abbrev ownSteps : List Call
-ownSteps =
-    one-by-one
-    ((ClockStep true true true ∷ [])
-    ∷ enabled 32 0
-    ∷ steps 2 true true true
-    ∷ words (165 ∷ [])
-    ∷ steps 3 true true true
-    ∷ steps 2 false false false
-    ∷ (Tick true true ∷ Pin true true true ∷ [])
-    ∷ steps 11 true false true
-    ∷ (Read 3 ∷ [])
-    ∷ [])
-
--- A host under DISSCK, a client without SSEN and one with it: steps, a pin call and a tick, with levels that stay, and with select high.
-abbrev pinSteps : ℕ → ℕ → List Call
-pinSteps con1 con2 =
-    one-by-one
-    ((ClockStep true true true ∷ [])
-    ∷ enabled con1 con2
-    ∷ stepClocks 1 true true
-    ∷ words (165 ∷ [])
-    ∷ stepClocks 2 true false
-    ∷ (ClockStep false true false ∷ ClockStep true true false ∷ ClockStep true true true ∷ Pin false true true ∷ Tick true true ∷ [])
-    ∷ [])
-
--- Both ends of a frame with a clock of its own, and a frame client that is clocked from its pin.
-abbrev stepGives : ℕ → List Call
-stepGives con2 = one-by-one (enabled 32 (32768 + con2) ∷ steps 2 true true true ∷ words (165 ∷ []) ∷ steps 5 false true false ∷ [])
-
-abbrev stepTakes : ℕ → ℕ → Bool → List Call
-stepTakes con1 con2 ss =
-    one-by-one
-    (enabled con1 (49152 + con2)
-    ∷ stepClocks 1 true (not ss)
-    ∷ words (165 ∷ [])
-    ∷ stepClocks 1 true ss
-    ∷ stepClocks 1 true (not ss)
-    ∷ [])
-
-step-runs :
-    Run ownSteps × Run (pinSteps 4128 0) × Run (pinSteps 0 1) × Run (pinSteps 128 0) × Run (stepGives 8192) × Run (stepTakes 32 8192 true)
-    × Run (stepTakes 0 0 false)
-unfolding shiftedIn receivedAfter shownBit sdoAfter progressed emptyTransmit emptyReceive firstWaiting firstUnread written departed appended taken overrun refuse answering poweredAt wordTaken readBuf readOf turnsOn turnsOff statWritten writeStat withCon1 withCon2 configured wordWritten writeBuf writeOf clockStepOf edgeTold tickOf pinsOf clearOf performOf interruptOf sckOf undriven sdoOf ssOf if_then_else_ begun shifted advanced advancedIfBegun awaitsPulse underWay pulseDue pulseAfter pulsed clocked edged stepped overflowed wordAppended isLost delivered sentDropped freed finished raises noted wordLeaves moved canLoad loaded nextTop sdoAt rested numberOf bitOf weighed con1From con1Value con2From con2Value spitbf spirbf srxmpt srmpt atMost7 spibec statValue statSettings spirovAfter statEngine enabledEngine disabledEngine next selectRemembered aborted selectSeen opened leftToSend loses firstOnWire counted closed given unless judged told-of entered-as seen-as made run waiting unread contents
-step-runs = (refl, refl, refl, refl, refl, refl, refl)
+framed-runs = (refl, refl)
 
 -- A marked buffer with room, which no calls reach, before the last edge of a word: the word is dropped.
 abbrev marked : Module → Module

@@ -40,6 +40,9 @@ pub extern "C" fn thurafeqa_power_up_with(w: &mut [u16; 96], depth: u32) -> u32
 pub extern "C" fn thurafeqa_read(w: &mut [u16; 96], register: u32) -> u32
     ensures { λ r. ⌜ Tells (readOf (moduleIn (now (w .entry))) register) r (now (w .entry)) (now (w .exit)) ⌝ }
 {
+    if register == 3 {
+        return module_by_number::read_buf(w);
+    }
     module_by_number::read(w, register)
 }
 
@@ -57,6 +60,9 @@ pub extern "C" fn thurafeqa_write(w: &mut [u16; 96], register: u32, value: u32) 
 pub extern "C" fn thurafeqa_clock_step(w: &mut [u16; 96], sck: u32, sdi: u32, ss: u32) -> u32
     ensures { λ r. ⌜ StepTells (clockStepOf (moduleIn (now (w .entry))) (levelIn sck) (levelIn sdi) (levelIn ss)) r (now (w .entry)) (now (w .exit)) ⌝ }
 {
+    if module_midword::own_within(w, sck != 0, sdi != 0, ss != 0) {
+        return module_by_number::levels(w);
+    }
     module_by_number::clock_step(w, sck != 0, sdi != 0, ss != 0)
 }
 
@@ -66,9 +72,6 @@ pub extern "C" fn thurafeqa_tick(w: &mut [u16; 96], sdi: u32, ss: u32) -> u32
     ensures { λ r. ⌜ Tells (tickOf (moduleIn (now (w .entry))) (levelIn sdi) (levelIn ss)) r (now (w .entry)) (now (w .exit)) ⌝ }
 {
     if module_midword::tick_within(w, sdi != 0, ss != 0) {
-        return 1;
-    }
-    if module_midword::frame_within(w, sdi != 0, ss != 0) {
         return 1;
     }
     module_by_number::tick(w, sdi != 0, ss != 0)
@@ -281,7 +284,7 @@ pub extern "C" fn thurafeqa_salvage(file: &[u8], salvaged: &mut [u8]) -> u64
 pub extern "C" fn thurafeqa_version() -> u32
     ensures { λ r. ⌜ r ≡ versionNumber ⌝ }
 {
-    458753
+    458754
 }
 
 // The number of the memory's format: it rises wherever the meaning of the 96 numbers changes.

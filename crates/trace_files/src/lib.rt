@@ -211,27 +211,29 @@ pub fn record_count(f: &[u8], k: u16) -> u16
     (size(f, k) / 4 % 65536) as u16
 }
 
-// Whether a record of a section of some level is right.
+// Whether a record of a section of some level is right. Its argument and its value stand in one number, which is asked once. Kinds are found by
+// halves: by one test after another, the compiler makes a jump through a table of them.
 fn record_right(f: &[u8], k: u16, level: u8, e: Entry) -> bool
     ensures { λ r. ⌜ r ≡ rightRecord (sectionCount (now (f .entry))) level k e ⌝ }
 {
     let kind = e.kind;
     let argument = e.argument;
     let value = e.value;
-    if kind == 0 {
-        return argument <= 3;
-    }
-    if kind == 1 {
-        return (argument <= 3) & (value == 0);
-    }
-    if kind == 2 {
-        return ((argument < 8) & !(argument / 2 % 2 == 1)) & (value == 0);
-    }
-    if kind == 3 {
-        return (argument < 8) & (value == 0);
+    let rest = argument as u32 + 256 * (value as u32);
+    if kind < 4 {
+        if kind < 2 {
+            if kind == 0 {
+                return argument <= 3;
+            }
+            return rest <= 3;
+        }
+        if kind == 2 {
+            return (rest < 8) & !(rest / 2 % 2 == 1);
+        }
+        return rest < 8;
     }
     if kind == 4 {
-        return (argument == 0) & (value == 0);
+        return rest == 0;
     }
     if kind == 5 {
         let named = argument as u16;

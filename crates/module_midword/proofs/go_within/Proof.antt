@@ -33,32 +33,6 @@ cast-store-gone c =
     let short = given .short in
     omega (arith, width-most (settingsIn w))
 
-sub-at : tie.Need-sub-at
-sub-at c =
-    let back-3 = c .before .before .before in let at-width = back-3 .before .before .before in
-    let at-progress-in = at-width .before .before in let at-settings-in = at-progress-in .before .before in
-    let start = at-settings-in .before .before in
-    let w = (start .args .w .now) in
-    let given = (start .pre) in
-    let p = (at-progress-in .progress-in .result) in
-    let edges = ap (λ (x : Progress). x .edges) (at-progress-in .progress-in .ensures) in
-    let width = rw (at-settings-in .settings-in .ensures) at (at-width .width .ensures) in
-    let short = given .short in
-    omega arith
-
-sub-at-2 : tie.Need-sub-at-2
-sub-at-2 c =
-    let back-3 = c .before .before .before in let at-width = back-3 .before .before .before in
-    let at-progress-in = at-width .before .before in let at-settings-in = at-progress-in .before .before in
-    let start = at-settings-in .before .before in
-    let w = (start .args .w .now) in
-    let given = (start .pre) in
-    let p = (at-progress-in .progress-in .result) in
-    let edges = ap (λ (x : Progress). x .edges) (at-progress-in .progress-in .ensures) in
-    let width = rw (at-settings-in .settings-in .ensures) at (at-width .width .ensures) in
-    let short = given .short in
-    omega arith
-
 cast-store-gone-2 : tie.Need-cast-store-gone-2
 cast-store-gone-2 c =
     let back-3 = c .before .before .before in let back-6 = back-3 .before .before .before in let at-width = back-6 .before .before in
@@ -75,8 +49,8 @@ cast-store-gone-2 c =
 returns : tie.Need-returns
 unfolding advanced clocked
 returns c =
-    let at-shift-in = c .before .before in let at-if1 = at-shift-in .before in let at-is-sampling = at-if1 .before in
-    let at-cke = at-is-sampling .before in let at-store-sck = at-cke .before in let at-width = at-store-sck .before .before in
+    let at-store-sck = c .before .before in let at-shift-in = at-store-sck .before .before in let at-if1 = at-shift-in .before in
+    let at-is-sampling = at-if1 .before in let at-cke = at-is-sampling .before in let at-width = at-cke .before in
     let at-progress-in = at-width .before .before in let at-settings-in = at-progress-in .before .before in
     let start = at-settings-in .before .before in
     let w = (start .args .w .now) in
@@ -98,9 +72,10 @@ returns c =
 returns-2 : tie.Need-returns-2
 unfolding advanced clocked shownBit
 returns-2 c =
-    let at-store-gone2 = c .before .before in let at-bit = at-store-gone2 .before .before in let at-if2 = at-bit .before in
-    let at-if1 = at-if2 .before in let at-is-sampling = at-if1 .before in let at-cke = at-is-sampling .before in
-    let at-store-sck = at-cke .before in let at-width = at-store-sck .before .before in let at-progress-in = at-width .before .before in
+    let at-store-gone2 = c .before .before in let at-store-sck2 = at-store-gone2 .before .before in
+    let at-bit = at-store-sck2 .before .before in let at-if2 = at-bit .before in let at-if1 = at-if2 .before in
+    let at-is-sampling = at-if1 .before in let at-cke = at-is-sampling .before in let at-width = at-cke .before in
+    let at-progress-in = at-width .before .before in
     let at-settings-in = at-progress-in .before .before in let start = at-settings-in .before .before in
     let w = (start .args .w .now) in
     let given = (start .pre) in
@@ -111,7 +86,7 @@ returns-2 c =
     let word = begun-there w (given .begun) ∙ ap Begun (sym (at-progress-in .progress-in .ensures)) in
     let at : (at-if2 .if2 .at) ≡ widthOf (settingsIn w) - 1 - (p .edges + 1) / 2 =
     ⊎-elim (λ k. omega arith) (λ k. omega arith) (at-if2 .if2 .came) in
-    let step = (at-store-sck .store-sck .ensures) then (at-store-gone2 .store-gone2 .ensures) then (c .store-sdo .ensures) in (
+    let step = (at-store-sck2 .store-sck2 .ensures) then (at-store-gone2 .store-gone2 .ensures) then (c .store-sdo .ensures) in (
       alike step
           (on-begun _ (clocked _ (engineIn w)) word _
           (so-lt (p .edges + 1) (wordEdges (settingsIn w)) _ _ (omega arith)
@@ -126,5 +101,5 @@ go-within-spec =
     (tie.spec
     (λ c κs. search needs) (λ c κs. search needs) (λ c. search needs) (λ c. search needs) (λ c κs. search needs) (λ c. search needs)
     (λ c. search needs) (λ c κs. search needs) (λ c κs. search needs) (λ c κs. search needs) (λ c κs. search needs) cast-store-gone
-    (λ c κs. search needs) sub-at sub-at-2 (λ c κs. search needs) cast-store-gone-2 (λ c κs. search needs) (λ c κs. search needs) returns
-    returns-2)
+    (λ c κs. search needs) (λ c. search needs) (λ c. search needs) (λ c κs. search needs) (λ c κs. search needs) cast-store-gone-2
+    (λ c κs. search needs) (λ c κs. search needs) returns returns-2)
