@@ -167,36 +167,11 @@ void script_run(const unsigned char *input, size_t size, FILE *out)
 }
 
 #ifndef SCRIPT_NO_MAIN
-/* Scripts one after the other, each under a line that starts with "# " and
- * parted from the next such line by an LF: the line, then what the script
- * prints. */
-static void parts(const unsigned char *input, size_t size)
-{
-    size_t at = 0;
-
-    while (at < size) {
-        size_t start = at, end;
-        while (start < size && input[start] != '\n')
-            start++;
-        if (start < size)
-            start++;
-        for (end = start; end < size; end++)
-            if (size - end >= 3 && memcmp(input + end, "\n# ", 3) == 0)
-                break;
-        fwrite(input + at, 1, start - at, stdout);
-        script_run(input + start, end - start, stdout);
-        at = end + 1;
-    }
-}
-
-int main(int argc, char **argv)
+int main(void)
 {
     static unsigned char input[65535];
     size_t size = fread(input, 1, sizeof input, stdin);
-    if (argc == 2 && strcmp(argv[1], "parts") == 0)
-        parts(input, size);
-    else
-        script_run(input, size, stdout);
+    script_run(input, size, stdout);
     return fflush(stdout) == 0 ? 0 : 1;
 }
 #endif
