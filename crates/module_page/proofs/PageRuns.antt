@@ -1,22 +1,28 @@
--- The page holds at every call of longer lists than crates/module_rules runs, each from power-up.
+-- The page holds at every call of these lists, each from power-up.
 --     client-runs   clients with SSEN and without, and two words of a frame host
 --     frame-runs    words of each end of a frame, one behind the other, with either FRMDLY and FRMPOL
 --     step-runs     an idle host, and clock steps of every kind of module
+--     host-runs     hosts of 8 and of 16 bits, one with DISSCK, clients of a frame, and what is refused
+--     marked-run    the last edge of a word with a marked buffer that has room, in a record made otherwise
 --     full-run      every condition of SISEL, a full buffer each way, and the mark
 -- Assumes nothing.
 use Prim.Native.Nat.{ℕ, _+_}
 use mathlib.Core.Bool.{Bool, true, false, not}
 use mathlib.Core.List.{List, [], _∷_}
-use mathlib.Core.Path.{refl}
+use mathlib.Core.Path.{_≡_, refl}
 use Rattle.laws.specs.Choice.{if_then_else_}
 use Rattle.ring.specs.Ring.{next, contents}
 use Rattle.word_order.specs.Bits.{bitOf}
 use Rattle.word_order.specs.Ledger.{opened, leftToSend, loses, firstOnWire, counted, closed, given}
+use Rattle.module_types.specs.declared.Module.{Module}
+use Rattle.module_types.specs.declared.Depth.the-variants.{Eight}
 use Rattle.module_types.specs.declared.Call.{Call}
 use Rattle.module_types.specs.declared.Call.the-variants.{Read, Write, Tick, Pin, ClockStep, Clear}
 use Rattle.module_rules.specs.Bits.{shiftedIn, receivedAfter, shownBit, sdoAfter, progressed}
 use Rattle.module_rules.specs.Buffers.{waiting, unread, emptyTransmit, emptyReceive, firstWaiting, firstUnread, written, departed, appended, taken, overrun}
 use Rattle.module_rules.specs.Calls.{refuse, answering, poweredAt, wordTaken, readBuf, readOf, turnsOn, turnsOff, statWritten, writeStat, withCon1, withCon2, configured, wordWritten, writeBuf, writeOf, clockStepOf, edgeTold, tickOf, pinsOf, clearOf, performOf, interruptOf, sckOf, undriven, sdoOf, ssOf}
+use Rattle.module_rules.specs.Changes.{withReceive}
+use Rattle.module_rules.specs.Lives.{powerUp, life}
 use Rattle.module_rules.specs.Edge.{begun, shifted, advanced, advancedIfBegun, awaitsPulse, underWay, pulseDue, pulseAfter, pulsed, clocked, edged, stepped}
 use Rattle.module_rules.specs.Finish.{overflowed, wordAppended, isLost, delivered, sentDropped, freed, finished}
 use Rattle.module_rules.specs.Interrupts.{raises, noted}
@@ -24,7 +30,8 @@ use Rattle.module_rules.specs.Loading.{wordLeaves, moved, canLoad, loaded, next
 use Rattle.module_rules.specs.Refusals.{numberOf}
 use Rattle.module_rules.specs.Registers.{weighed, con1From, con1Value, con2From, con2Value, spitbf, spirbf, srxmpt, srmpt, atMost7, spibec, statValue, statSettings, spirovAfter, statEngine, enabledEngine, disabledEngine}
 use Rattle.module_rules.specs.Select.{selectRemembered, aborted, selectSeen}
-use Rattle.module_rules.proofs.PageRun.{unless, judged, told-of, entered-as, seen-as, made, run}
+use Rattle.module_rules.proofs.Claims.{allJudged}
+use Rattle.module_rules.proofs.PageRun.{unless, judged, told-of, entered-as, seen-as, made, run, lastEdges}
 use Rattle.module_rules.proofs.PageHolds.{times, one-by-one, enabled, words, ticks, pins, Run}
 
 abbrev ownGives : ℕ → List Call
@@ -190,3 +197,66 @@ step-runs :
     × Run (stepTakes 0 0 false)
 unfolding shiftedIn receivedAfter shownBit sdoAfter progressed emptyTransmit emptyReceive firstWaiting firstUnread written departed appended taken overrun refuse answering poweredAt wordTaken readBuf readOf turnsOn turnsOff statWritten writeStat withCon1 withCon2 configured wordWritten writeBuf writeOf clockStepOf edgeTold tickOf pinsOf clearOf performOf interruptOf sckOf undriven sdoOf ssOf if_then_else_ begun shifted advanced advancedIfBegun awaitsPulse underWay pulseDue pulseAfter pulsed clocked edged stepped overflowed wordAppended isLost delivered sentDropped freed finished raises noted wordLeaves moved canLoad loaded nextTop sdoAt rested numberOf bitOf weighed con1From con1Value con2From con2Value spitbf spirbf srxmpt srmpt atMost7 spibec statValue statSettings spirovAfter statEngine enabledEngine disabledEngine next selectRemembered aborted selectSeen opened leftToSend loses firstOnWire counted closed given unless judged told-of entered-as seen-as made run waiting unread contents
 step-runs = (refl, refl, refl, refl, refl, refl, refl, refl)
+
+-- A host of 8 bits: two words, a third refused, an overflow, reads of an empty buffer, disabled within a word, and enabled again.
+abbrev host : List Call
+host =
+    one-by-one
+    (enabled 32 0
+    ∷ words (346 ∷ 165 ∷ 1 ∷ [])
+    ∷ ticks 16 true false
+    ∷ (Read 0 ∷ Read 3 ∷ Read 3 ∷ Tick true false ∷ Clear ∷ Write 3 255 ∷ [])
+    ∷ ticks 2 false true
+    ∷ (Tick true true ∷ Write 0 8256 ∷ Read 3 ∷ Tick true true ∷ Write 0 0 ∷ Write 0 32768 ∷ Tick true true ∷ [])
+    ∷ [])
+
+-- A host of 16 bits with CKP and CKE, enhanced: idle ticks, a word, the next one written within it.
+abbrev wide : List Call
+wide =
+    one-by-one
+    (enabled 1376 1
+    ∷ (Tick true true ∷ [])
+    ∷ words (33023 ∷ [])
+    ∷ ticks 3 true true
+    ∷ words (257 ∷ 32769 ∷ [])
+    ∷ ticks 14 true false
+    ∷ ticks 2 false false
+    ∷ (Read 0 ∷ Read 3 ∷ [])
+    ∷ [])
+
+-- A host with DISSCK, clocked while it is idle, then with a word.
+abbrev pinned : List Call
+pinned = one-by-one (enabled 4128 0 ∷ pins 8 true true ∷ (Read 3 ∷ Tick true true ∷ []) ∷ words (195 ∷ []) ∷ pins 2 true true ∷ [])
+
+-- A frame client clocked from its pin; and one with FRMPOL, with CKE and SSEN set, which count as 0.
+abbrev taking : List Call
+taking = one-by-one (enabled 0 49152 ∷ pins 1 true true ∷ pins 2 true false ∷ words (165 ∷ []) ∷ pins 1 true true ∷ [])
+
+abbrev heedless : List Call
+heedless = one-by-one (enabled 384 57344 ∷ words (165 ∷ []) ∷ pins 2 true true ∷ pins 1 true false ∷ [])
+
+-- Settings that cannot be enabled, registers written while enabled, registers that are not there, and the wrong clock.
+abbrev refused : List Call
+refused =
+    one-by-one
+    ((Write 4 1 ∷ Read 9 ∷ Read 3 ∷ Write 3 7 ∷ Tick true true ∷ Pin true true true ∷ [])
+    ∷ (Write 1 63 ∷ Write 0 32796 ∷ Write 1 544 ∷ Write 0 40960 ∷ Write 1 256 ∷ Write 0 32768 ∷ Read 0 ∷ [])
+    ∷ (Write 1 65535 ∷ Write 2 65535 ∷ Read 1 ∷ Read 2 ∷ Write 0 65535 ∷ [])
+    ∷ (Write 1 59 ∷ Write 2 1 ∷ Write 0 65535 ∷ Read 0 ∷ Write 1 0 ∷ Write 2 0 ∷ Pin true true true ∷ Write 0 0 ∷ [])
+    ∷ (Write 1 0 ∷ Write 0 32768 ∷ Tick true true ∷ [])
+    ∷ [])
+
+host-runs : Run host × Run wide × Run pinned × Run taking × Run heedless × Run refused
+unfolding shiftedIn receivedAfter shownBit sdoAfter progressed emptyTransmit emptyReceive firstWaiting firstUnread written departed appended taken overrun refuse answering poweredAt wordTaken readBuf readOf turnsOn turnsOff statWritten writeStat withCon1 withCon2 configured wordWritten writeBuf writeOf clockStepOf edgeTold tickOf pinsOf clearOf performOf interruptOf sckOf undriven sdoOf ssOf if_then_else_ begun shifted advanced advancedIfBegun awaitsPulse underWay pulseDue pulseAfter pulsed clocked edged stepped overflowed wordAppended isLost delivered sentDropped freed finished raises noted wordLeaves moved canLoad loaded nextTop sdoAt rested numberOf bitOf weighed con1From con1Value con2From con2Value spitbf spirbf srxmpt srmpt atMost7 spibec statValue statSettings spirovAfter statEngine enabledEngine disabledEngine next selectRemembered aborted selectSeen opened leftToSend loses firstOnWire counted closed given unless judged told-of entered-as seen-as made run waiting unread contents
+host-runs = (refl, refl, refl, refl, refl, refl)
+
+-- A marked buffer with room, which no calls reach, before the last edge of a word: the word is dropped.
+abbrev marked : Module → Module
+marked m = record { settings = m .settings; engine = withReceive (overrun true (m .engine .receive)) (m .engine) }
+
+abbrev nearlyDone : Module
+nearlyDone = marked (life (powerUp Eight) (one-by-one (enabled 32 1 ∷ words (165 ∷ []) ∷ ticks 7 true true ∷ (Tick true true ∷ []) ∷ [])) .now)
+
+marked-run : allJudged (lastEdges nearlyDone (performOf nearlyDone (Tick true true) .after)) ≡ true
+unfolding shiftedIn receivedAfter shownBit sdoAfter progressed emptyTransmit emptyReceive firstWaiting firstUnread written departed appended taken overrun refuse answering poweredAt wordTaken readBuf readOf turnsOn turnsOff statWritten writeStat withCon1 withCon2 configured wordWritten writeBuf writeOf clockStepOf edgeTold tickOf pinsOf clearOf performOf interruptOf sckOf undriven sdoOf ssOf if_then_else_ begun shifted advanced advancedIfBegun awaitsPulse underWay pulseDue pulseAfter pulsed clocked edged stepped overflowed wordAppended isLost delivered sentDropped freed finished raises noted wordLeaves moved canLoad loaded nextTop sdoAt rested numberOf bitOf weighed con1From con1Value con2From con2Value spitbf spirbf srxmpt srmpt atMost7 spibec statValue statSettings spirovAfter statEngine enabledEngine disabledEngine next selectRemembered aborted selectSeen opened leftToSend loses firstOnWire counted closed given unless judged told-of entered-as seen-as made run waiting unread contents
+marked-run = refl

@@ -1,6 +1,6 @@
 -- Document 01, "Checked examples", and cases of document 02: each as calls from power-up with what they must answer and show.
 -- proofs/ExamplesHold.antt proves them together, as one list.
-use Prim.Native.Nat.{ℕ, _*_, _-_}
+use Prim.Native.Nat.{ℕ, zero, suc, _*_, _-_}
 use mathlib.Core.Bool.{Bool, true, false, _&&_, Bool·beq}
 use mathlib.Core.List.{List, [], _∷_, _++_, map}
 use lib.Dec.{eqb}
@@ -94,6 +94,11 @@ abbrev pub clocksOut : List Output → List ExampleStep
 clocksOut [] = []
 clocksOut (bit ∷ bits) =
     says (Pin true true false) ok ∷ shows bit ∷ says (Pin false true false) ok ∷ shows bit ∷ clocksOut bits
+
+-- Clocks by pin calls from the idle level 0, with a level of SDI at either edge, and one of SS.
+abbrev pub clockedBy : ℕ → Bool → Bool → Bool → List ExampleStep
+clockedBy zero first second ss = []
+clockedBy (suc n) first second ss = says (Pin true first ss) ok ∷ says (Pin false second ss) ok ∷ clockedBy n first second ss
 
 -- The bits of A5, highest first.
 abbrev pub bitsOfA5 : List Output
@@ -219,11 +224,13 @@ furtherPowerUp =
     ∷ clockAt true
     ∷ []
 
--- SPIROV under STAT writes: a 1 in bit 6 leaves it, enabled or not and when disabling; a 0 clears it; a 1 sets nothing.
+-- SPIROV: the clear call leaves it. Under STAT writes a 1 in bit 6 leaves it, enabled or not and when disabling; a 0 clears it; a 1 sets nothing.
 abbrev pub furtherSpirov : List ExampleStep
 furtherSpirov =
     exampleI
-    ++ (says (Write 0 0x8040) ok
+    ++ (says Clear ok
+    ∷ says (Read 0) (value 0x80C1)
+    ∷ says (Write 0 0x8040) ok
     ∷ says (Read 0) (value 0x80C1)
     ∷ says (Write 0 0x0040) ok
     ∷ says (Read 0) (value 0x0040)
@@ -290,6 +297,8 @@ furtherRegisters =
     ∷ says (Read 2) (value 0xE003)
     ∷ says (Write 0 0x7FFF) ok
     ∷ says (Read 0) (value 0x201C)
+    ∷ says (Write 0 0x2000) ok
+    ∷ says (Read 0) (value 0x2000)
     ∷ says (Read 4) (refused 1)
     ∷ says (Write 4 0x8000) (refused 1)
     ∷ says (Read 3) (refused 2)
@@ -298,16 +307,62 @@ furtherRegisters =
     ∷ says (Pin true true true) (refused 2)
     ∷ []
 
--- Clocks: a host with its own clock gives 7 for a pin call, and a DISSCK host and a client give 7 for a tick.
+-- Clocks: a host with its own clock gives 7 for a pin call, and a DISSCK host and a client give 7 for a tick. A refused CON1 write takes nothing. An
+-- idle host makes no edge with CKP 1 either, and a DISSCK host that has nothing to send receives nothing.
 abbrev pub furtherClocks : List ExampleStep
 furtherClocks =
-    set-up 0x0020 0x0000
-    ++ (says (Pin true true true) (refused 7)
+    set-up 0x0060 0x0000
+    ++ (says (Tick true true) noEdge
+    ∷ clockAt true
+    ∷ says (Pin true true true) (refused 7)
+    ∷ says (Write 1 0x0000) (refused 3)
+    ∷ says (Read 1) (value 0x0060)
     ∷ says (Write 0 0x0000) ok
     ∷ set-up 0x1020 0x0000
-    ++ (says (Tick true false) (refused 7)
+    ++ (clockedBy 8 true true true
+    ++ (says (Read 3) (refused 6)
+    ∷ says (Tick true false) (refused 7)
     ∷ says (Write 0 0x0000) ok
-    ∷ set-up 0x0000 0x0000 ++ (says (Tick true false) (refused 7) ∷ says (Pin false true true) ok ∷ [])))
+    ∷ set-up 0x0000 0x0000 ++ (says (Tick true false) (refused 7) ∷ says (Pin false true true) ok ∷ []))))
+
+-- The highest bit goes out first; and an SSEN client of 16 bits has no word after 8 clocks.
+abbrev pub furtherBits : List ExampleStep
+furtherBits =
+    set-up 0x0020 0x0000
+    ++ (says (Write 3 0x0001) ok
+    ∷ says (Tick true true) edge
+    ∷ shows Low
+    ∷ says (Write 0 0x0000) ok
+    ∷ set-up 0x0480 0x0000
+    ++ (says (Pin false false false) ok
+    ∷ clockedBy 8 true true false
+    ++ (says (Read 3) (refused 6) ∷ clockedBy 8 true true false ++ (says (Read 3) (value 0xFFFF) ∷ []))))
+
+-- An abort with CKE 0 leaves SDO at its level, which is driven again once selected.
+abbrev pub furtherAbort : List ExampleStep
+furtherAbort =
+    set-up 0x0080 0x0000
+    ++ (says (Write 3 0x00A5) ok
+    ∷ says (Pin true true false) ok
+    ∷ shows High
+    ∷ says (Pin true true true) ok
+    ∷ shows Undriven
+    ∷ says (Pin true true false) ok
+    ∷ shows High
+    ∷ [])
+
+-- SPIBEC of a client tells the unread words, not those waiting; and SISEL 0 goes by the words that a read leaves.
+abbrev pub furtherCounts : List ExampleStep
+furtherCounts =
+    set-up 0x0000 0x0001
+    ++ (says (Write 3 0x0001) ok
+    ∷ says (Write 3 0x0002) ok
+    ∷ says (Read 0) (value 0x8020)
+    ∷ says (Write 0 0x0000) ok
+    ∷ set-up 0x0020 0x0001
+    ++ (says (Write 3 0x00A5) ok
+    ∷ tickEdges 16
+    ++ (flagged false ∷ says (Read 3) (value 0x00FF) ∷ flagged true ∷ [])))
 
 -- Document 02, One and Three: which setting was wrong. Each mistake alone, each pair that can meet, a client and a DISSCK host
 -- with both prescalers 1:1, which are enabled, and a client with CKE, no SSEN and both 1:1. With FRMEN 13 and 14 stay, and a
@@ -341,7 +396,8 @@ furtherCauses =
 
 abbrev pub furtherExamples : Bool
 furtherExamples =
-    everyHolds (furtherPowerUp ∷ furtherSpirov ∷ furtherCke1 ∷ furtherSelect ∷ furtherFlag ∷ furtherFiller ∷ furtherRegisters ∷ furtherClocks ∷ furtherCauses ∷ [])
+    everyHolds (furtherPowerUp ∷ furtherSpirov ∷ furtherCke1 ∷ furtherSelect ∷ furtherFlag ∷ furtherFiller ∷ furtherRegisters ∷ furtherClocks ∷ furtherBits ∷ furtherAbort
+    ∷ furtherCounts ∷ furtherCauses ∷ [])
 
 -- Document 02, Four: the mark of an overflow in enhanced operation. Eight words are held and cannot be read, not after SPIROV is
 -- cleared and not after a STAT write that leaves SPIEN 1; a further finished word sets SPIROV again; disabling takes the mark
@@ -604,9 +660,23 @@ frameSixteen =
     ∷ pinSixteen (High ∷ replicate 14 Low ++ (High ∷ []))
     ++ (says (Pin false true true) ok ∷ shows High ∷ says (Read 3) (value 0xFFFF) ∷ says (Tick true true) (refused 7) ∷ []))
 
+-- A frame client that is clocked from its pin sees a pulse, and receives on even edges; so it does with CKE and SSEN set, which count as 0,
+-- and SS active high.
+abbrev pub frameClocked : List ExampleStep
+frameClocked =
+    set-up 0x0000 0xC000
+    ++ (clockedBy 1 true true true
+    ++ (clockedBy 1 true true false ++ (clockedBy 8 false true true ++ (says (Read 3) (value 0x00FF) ∷ []))))
+
+abbrev pub frameHeedless : List ExampleStep
+frameHeedless =
+    set-up 0x0180 0xE000
+    ++ (clockedBy 1 true true false
+    ++ (clockedBy 1 true true true ++ (clockedBy 8 false true false ++ (says (Read 3) (value 0x00FF) ∷ []))))
+
 abbrev pub frameExamples : Bool
 frameExamples =
-    everyHolds (frameBefore ∷ frameWith ∷ frameLate ∷ frameSampled ∷ frameFiller ∷ framePins ∷ frameSixteen ∷ [])
+    everyHolds (frameBefore ∷ frameWith ∷ frameLate ∷ frameSampled ∷ frameFiller ∷ framePins ∷ frameSixteen ∷ frameClocked ∷ frameHeedless ∷ [])
 
 -- Document 02, Eleven: clock steps.
 
