@@ -5,7 +5,7 @@ usage: tools/todays_names.py [FOLDER]      the top of a checkout in which port.p
 
 A line of the table has an old name, its new one, and how it is meant: 'word' changes wherever the name stands, 'lemma' only where no dot
 stands before it (behind a dot the same letters name a step of a proof or a function). Files of specs/, proofs/ and src/ are rewritten, and
-the texts of must-fail edits. It may run once: a second run changes nothing.
+the texts of must-fail edits. It is to run once: some lemma was called what a definition is called now.
 """
 
 import os

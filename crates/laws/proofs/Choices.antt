@@ -11,33 +11,33 @@ use mathlib.Core.Bool.{Bool, true, false}
 use mathlib.Core.Path.{◌≡◌, ap, sym, ◌∙◌}
 use borrow.Author.Tests.{lt-ltb, le-ltb, le-leb, lt-leb, eq-eqb, ne_eqb}
 use lib.Dec.{ltb, leb, eqb}
-use Rattle.laws.specs.Choice.{if◌then◌else◌}
+use Rattle.laws.specs.Choice.{when◌then◌else◌}
 
 module _ {A : Type 0} {z : A} where
-  pub so : (b : Bool) (x y : A) → b ≡ true → z ≡ x → z ≡ (if b then x else y)
-  unfolding if◌then◌else◌
+  pub so : (b : Bool) (x y : A) → b ≡ true → z ≡ x → z ≡ (when b then x else y)
+  unfolding when◌then◌else◌
   so b x y e h = rw e h
 
-  pub not_so : (b : Bool) (x y : A) → b ≡ false → z ≡ y → z ≡ (if b then x else y)
-  unfolding if◌then◌else◌
+  pub not_so : (b : Bool) (x y : A) → b ≡ false → z ≡ y → z ≡ (when b then x else y)
+  unfolding when◌then◌else◌
   not_so b x y e h = rw e h
 
-  pub so_lt : (a b : ℕ) (x y : A) → a < b → z ≡ x → z ≡ (if ltb a b then x else y)
+  pub so_lt : (a b : ℕ) (x y : A) → a < b → z ≡ x → z ≡ (when ltb a b then x else y)
   so_lt a b x y h = so (ltb a b) x y (lt-ltb a b h)
 
-  pub not_so_lt : (a b : ℕ) (x y : A) → b ≤ a → z ≡ y → z ≡ (if ltb a b then x else y)
+  pub not_so_lt : (a b : ℕ) (x y : A) → b ≤ a → z ≡ y → z ≡ (when ltb a b then x else y)
   not_so_lt a b x y h = not_so (ltb a b) x y (le-ltb a b h)
 
-  pub so_le : (a b : ℕ) (x y : A) → a ≤ b → z ≡ x → z ≡ (if leb a b then x else y)
+  pub so_le : (a b : ℕ) (x y : A) → a ≤ b → z ≡ x → z ≡ (when leb a b then x else y)
   so_le a b x y h = so (leb a b) x y (le-leb a b h)
 
-  pub not_so_le : (a b : ℕ) (x y : A) → b < a → z ≡ y → z ≡ (if leb a b then x else y)
+  pub not_so_le : (a b : ℕ) (x y : A) → b < a → z ≡ y → z ≡ (when leb a b then x else y)
   not_so_le a b x y h = not_so (leb a b) x y (lt-leb a b h)
 
-  pub so_eq : (a b : ℕ) (x y : A) → a ≡ b → z ≡ x → z ≡ (if eqb a b then x else y)
+  pub so_eq : (a b : ℕ) (x y : A) → a ≡ b → z ≡ x → z ≡ (when eqb a b then x else y)
   so_eq a b x y h = so (eqb a b) x y (eq-eqb a b h)
 
-  pub not_so_eq : (a b : ℕ) (x y : A) → (a ≡ b → ⊥) → z ≡ y → z ≡ (if eqb a b then x else y)
+  pub not_so_eq : (a b : ℕ) (x y : A) → (a ≡ b → ⊥) → z ≡ y → z ≡ (when eqb a b then x else y)
   not_so_eq a b x y h = not_so (eqb a b) x y (ne_eqb a b h)
 
 -- What a function gives at a case, it gives at what is known to be that case.

@@ -21,7 +21,7 @@ pub use lib.ListN.{length, length-append, length-drop, length-replicate, length-
 pub use lib.ListN.{set, take}
 pub use lib.Seq.{drop_at, drop-cons, drop-drop, get_or-drop, get_or-set_other, get_or-set_same, get_or-take}
 pub use lib.Seq.{length-take-le, take_all, take_at, take-take}
-unfoldable pub use Rattle.laws.specs.Choice.{if◌then◌else◌}
+unfoldable pub use Rattle.laws.specs.Choice.{when◌then◌else◌}
 pub use Rattle.laws.proofs.Keeps.{and_both, and-false, and_first, and_left, and_rest, and_rest_first}
 pub use Rattle.laws.proofs.Keeps.{and_right, by_test, clash, if_ap, if_both, if_false, if_keeps, if_not}
 pub use Rattle.laws.proofs.Keeps.{if_true, like, or_left, or_rest, or_rest_first, or_right, unlike}

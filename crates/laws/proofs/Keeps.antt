@@ -15,36 +15,36 @@
 -- Assumes nothing.
 use mathlib.Core.Bool.{Bool, true, false, not, ◌&&◌, ◌||◌, beq, true≢false}
 use mathlib.Core.Path.{◌≡◌, refl, sym, ◌∙◌}
-use Rattle.laws.specs.Choice.{if◌then◌else◌}
+use Rattle.laws.specs.Choice.{when◌then◌else◌}
 
 -- A choice has what its first value has if the test is true, and its second if not.
 pub if_keeps : {A : Type 0} (P : A → Type 0) (b : Bool) (x y : A) → (b ≡ true → P x) → (b ≡ false → P y) →
-    P (if b then x else y)
-unfolding if◌then◌else◌
+    P (when b then x else y)
+unfolding when◌then◌else◌
 if_keeps P true x y h k = h refl
 if_keeps P false x y h k = k refl
 
 -- Two choices by tests that agree have what their first values have if the tests are true, and their second if not.
 pub if_both : {A B : Type 0} (P : A → B → Type 0) (b c : Bool) (x y : A) (u v : B) → c ≡ b → (b ≡ true → P x u) →
-    (b ≡ false → P y v) → P (if b then x else y) (if c then u else v)
-unfolding if◌then◌else◌
+    (b ≡ false → P y v) → P (when b then x else y) (when c then u else v)
+unfolding when◌then◌else◌
 if_both P true c x y u v e h k = rw e (h refl)
 if_both P false c x y u v e h k = rw e (k refl)
 
 -- A function of a choice is the choice between the function's values.
-pub if_ap : {A B : Type 0} (f : A → B) (b : Bool) (x y : A) → f (if b then x else y) ≡ (if b then f x else f y)
-unfolding if◌then◌else◌
+pub if_ap : {A B : Type 0} (f : A → B) (b : Bool) (x y : A) → f (when b then x else y) ≡ (when b then f x else f y)
+unfolding when◌then◌else◌
 if_ap f true x y = refl
 if_ap f false x y = refl
 
 -- A choice by a test that is true is its first value.
-pub if_true : {A : Type 0} (b : Bool) (x y : A) → b ≡ true → (if b then x else y) ≡ x
-unfolding if◌then◌else◌
+pub if_true : {A : Type 0} (b : Bool) (x y : A) → b ≡ true → (when b then x else y) ≡ x
+unfolding when◌then◌else◌
 if_true b x y e = rw e
 
 -- A choice by a test that is false is its second value.
-pub if_false : {A : Type 0} (b : Bool) (x y : A) → b ≡ false → (if b then x else y) ≡ y
-unfolding if◌then◌else◌
+pub if_false : {A : Type 0} (b : Bool) (x y : A) → b ≡ false → (when b then x else y) ≡ y
+unfolding when◌then◌else◌
 if_false b x y e = rw e
 
 -- A test that is both true and false proves anything.
@@ -125,18 +125,18 @@ and_rest_first true b e f = clash b f e
 and_rest_first false b e f = refl
 
 -- A choice by two tests together is a choice by one after the other.
-pub if_and : {A : Type 0} (a b : Bool) (x y : A) → (if a && b then x else y) ≡ (if a then if b then x else y else y)
-unfolding if◌then◌else◌
+pub if_and : {A : Type 0} (a b : Bool) (x y : A) → (when a && b then x else y) ≡ (when a then when b then x else y else y)
+unfolding when◌then◌else◌
 if_and true b x y = refl
 if_and false b x y = refl
 
-pub if_or : {A : Type 0} (a b : Bool) (x y : A) → (if a || b then x else y) ≡ (if a then x else if b then x else y)
-unfolding if◌then◌else◌
+pub if_or : {A : Type 0} (a b : Bool) (x y : A) → (when a || b then x else y) ≡ (when a then x else when b then x else y)
+unfolding when◌then◌else◌
 if_or true b x y = refl
 if_or false b x y = refl
 
 -- A choice by a test that is denied is the choice the other way round.
-pub if_not : {A : Type 0} (a : Bool) (x y : A) → (if not a then x else y) ≡ (if a then y else x)
-unfolding if◌then◌else◌
+pub if_not : {A : Type 0} (a : Bool) (x y : A) → (when not a then x else y) ≡ (when a then y else x)
+unfolding when◌then◌else◌
 if_not true x y = refl
 if_not false x y = refl

@@ -2,7 +2,8 @@
 --     written_appends, left_takes_first, waiting_length      the transmit buffer
 --     appended_appends, taken_takes_first, unread_length     the receive buffer
 -- Assumes nothing.
-use Rattle.laws.proofs.Common.{ℕ, ◌+◌, ◌-◌, ◌<◌, ◌≤◌, false, ◌≡◌, sym, ap, ◌∙◌, [], ◌∷◌, ◌++◌, arith, lt-leb, ne_eqb, length}
+use Rattle.std.specs.Prelude.{◌<◌, ◌≤◌, ◌≡◌, ◌∷◌, ◌++◌}
+use Rattle.laws.proofs.Common.{ℕ, false, sym, ap, ◌∙◌, [], arith, lt-leb, ne_eqb, length}
 use Rattle.laws.proofs.Common.{if_false}
 use Rattle.ring.specs.Ring.{RingHolds}
 use Rattle.ring.proofs.Positions.{write_within}

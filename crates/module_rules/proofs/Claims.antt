@@ -3,7 +3,8 @@
 --     judge_exact           the test is true exactly if it holds
 --     AllHold, all_judged, all_judged_lem, all_hold_lem   the same of a list
 -- Assumes nothing.
-use Rattle.laws.proofs.Common.{ℕ, Bool, true, false, not, ◌&&◌, ◌||◌, Bool·beq, List, [], ◌∷◌, ◌≡◌, refl, sym, ap, ap₂, ◌∙◌}
+use Rattle.std.specs.Prelude.{◌&&◌, ◌||◌, ◌∷◌, ◌≡◌}
+use Rattle.laws.proofs.Common.{ℕ, Bool, true, false, not, Bool·beq, List, [], refl, sym, ap, ap₂, ◌∙◌}
 use Rattle.laws.proofs.Common.{eqb-true, eq-eqb, eqb, clash, and_left, and_right, and_both, like}
 use Rattle.module_rules.proofs.Types.{Output, Low, High, Undriven, Answer, Refused, Done, Value, NoEdge, Edge}
 use Rattle.module_rules.specs.Flags.{Placed}

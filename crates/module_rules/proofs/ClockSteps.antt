@@ -8,8 +8,9 @@
 --     step_follows                what holds after every tick and every pin call holds after every clock step
 --     clock_steps_lem                 what the page says of clock steps
 -- Assumes nothing.
-use Rattle.laws.proofs.Common.{Bool, true, false, not, ◌&&◌, List, [], ◌∷◌, ◌≡◌, refl, sym, ap, subst, subst₂, ◌∙◌, not-false}
-use Rattle.laws.proofs.Common.{if◌then◌else◌, if_keeps, if_both, if_true, if_false, by_test}
+use Rattle.std.specs.Prelude.{◌&&◌, ◌∷◌, ◌≡◌}
+use Rattle.laws.proofs.Common.{Bool, true, false, not, List, [], refl, sym, ap, subst, subst₂, ◌∙◌, not-false}
+use Rattle.laws.proofs.Common.{when◌then◌else◌, if_keeps, if_both, if_true, if_false, by_test}
 use Rattle.module_rules.proofs.Types.{Module, Engine, Outcome, Done, NoEdge, Edge, Disabled, WrongClock, Call, Read, Write}
 use Rattle.module_rules.proofs.Types.{Tick, Pin, ClockStep, Clear}
 use Rattle.module_rules.specs.Settings.{frame_client, clock_stops, own_clock}
@@ -94,14 +95,14 @@ module _ (m : Module) where
         (λ off. subst P (sym (step_off off)) (refused off))
 
   -- The tick as it was said before there was a clock step: 2, then 7, no edge of a clock that stands, or the next edge.
-  abbrev pub tickBefore : Bool → Bool → Outcome
-  tickBefore sdi ss =
-      if not m.settings.spien then refuse m Disabled
-      else if not (own_clock m.settings) then refuse m WrongClock
-      else if stands m then unmoved m
+  abbrev pub tick_before : Bool → Bool → Outcome
+  tick_before sdi ss =
+      when not m.settings.spien then refuse m Disabled
+      else when not (own_clock m.settings) then refuse m WrongClock
+      else when stands m then unmoved m
       else answering m Edge (seeing m (next_edge m sdi ss))
 
-  pub tick_as_before : (sdi ss : Bool) → tick_of m sdi ss ≡ tickBefore sdi ss
+  pub tick_as_before : (sdi ss : Bool) → tick_of m sdi ss ≡ tick_before sdi ss
   unfolding tick_of edge_told answering
   tick_as_before sdi ss =
       if_both (λ (x y : Outcome). x ≡ y) (not m.settings.spien) (not m.settings.spien) _ _ _ _ refl (λ off. refl)
@@ -115,13 +116,13 @@ module _ (m : Module) where
       (λ moves. ap edge_told (step_own false sdi ss enabled clock moves) ∙ sym (if_false (stands m) _ _ moves))))
 
   -- The pin call as it was: 2, then 7, or the levels are seen.
-  abbrev pub pinsBefore : Bool → Bool → Bool → Outcome
-  pinsBefore sck sdi ss =
-      if not m.settings.spien then refuse m Disabled
-      else if own_clock m.settings then refuse m WrongClock
+  abbrev pub pins_before : Bool → Bool → Bool → Outcome
+  pins_before sck sdi ss =
+      when not m.settings.spien then refuse m Disabled
+      else when own_clock m.settings then refuse m WrongClock
       else answering m Done (seeing m (levels sck sdi ss))
 
-  pub pins_as_before : (sck sdi ss : Bool) → pins_of m sck sdi ss ≡ pinsBefore sck sdi ss
+  pub pins_as_before : (sck sdi ss : Bool) → pins_of m sck sdi ss ≡ pins_before sck sdi ss
   unfolding pins_of
   pins_as_before sck sdi ss =
       if_both (λ (x y : Outcome). x ≡ y) (not m.settings.spien) (not m.settings.spien) _ _ _ _ refl (λ off. refl)
@@ -213,15 +214,15 @@ module _ (m : Module) where
   by-heeded x y same =
       ap
       (λ (z : Levels).
-      if not m.settings.spien then refuse m Disabled
-      else if no_next_edge m then unmoved m
+      when not m.settings.spien then refuse m Disabled
+      else when no_next_edge m then unmoved m
       else answering m Done (seeing m z))
       same
 
-  step_refused : (sck sdi ss : Bool) → (said_of (clock_step_of m sck sdi ss).answer).number ≡ (if m.settings.spien then 0 else 2)
+  step_refused : (sck sdi ss : Bool) → (said_of (clock_step_of m sck sdi ss).answer).number ≡ (when m.settings.spien then 0 else 2)
   unfolding refuse answering number_of
   step_refused sck sdi ss =
-      step_cases sck sdi ss (λ (o : Outcome). (said_of o.answer).number ≡ (if m.settings.spien then 0 else 2))
+      step_cases sck sdi ss (λ (o : Outcome). (said_of o.answer).number ≡ (when m.settings.spien then 0 else 2))
       (λ off. sym (if_false m.settings.spien _ _ off))
       (λ on own still. sym (if_true m.settings.spien _ _ on))
       (λ on own moves. sym (if_true m.settings.spien _ _ on))
@@ -244,8 +245,8 @@ module _ (m : Module) where
 abbrev pub perform_before : Module → Call → Outcome
 perform_before m (Read register) = read_of m register
 perform_before m (Write register v) = write_of m register v
-perform_before m (Tick sdi ss) = tickBefore m sdi ss
-perform_before m (Pin sck sdi ss) = pinsBefore m sck sdi ss
+perform_before m (Tick sdi ss) = tick_before m sdi ss
+perform_before m (Pin sck sdi ss) = pins_before m sck sdi ss
 perform_before m (ClockStep sck sdi ss) = clock_step_of m sck sdi ss
 perform_before m Clear = clear_of m
 

@@ -2,7 +2,8 @@
 --     watched_reaches   a watched module after calls
 --     reaches_append    calls behind calls
 -- Assumes nothing.
-use Rattle.laws.proofs.Common.{List, [], ◌∷◌, ◌++◌, ◌≡◌, refl}
+use Rattle.std.specs.Prelude.{◌∷◌, ◌++◌, ◌≡◌}
+use Rattle.laws.proofs.Common.{List, [], refl}
 use Rattle.module_rules.proofs.Types.{Module, Call}
 use Rattle.module_rules.specs.Calls.{perform_of, after_calls}
 use Rattle.module_rules.specs.Watch.{Watched, watched_call, watched_calls}

@@ -5,8 +5,9 @@
 --     run         the tests at every call of a list
 --     page_runs   if the page holds, every run is true: a run that is false refutes the page
 -- Assumes nothing.
-use Rattle.laws.proofs.Common.{length, ℕ, ◌+◌, ◌*◌, ◌≤◌, Bool, true, false, not, ◌&&◌, ◌||◌, Bool·beq, List, [], ◌∷◌, ◌++◌}
-use Rattle.laws.proofs.Common.{◌≡◌, refl, sym, ap, subst, ◌∙◌, arith, eqb-true, eqb-false, not-true, eqb, ltb, if◌then◌else◌}
+use Rattle.std.specs.Prelude.{◌+◌, ◌*◌, ◌≤◌, ◌&&◌, ◌||◌, ◌∷◌, ◌++◌, ◌≡◌}
+use Rattle.laws.proofs.Common.{length, ℕ, Bool, true, false, not, Bool·beq, List, []}
+use Rattle.laws.proofs.Common.{refl, sym, ap, subst, ◌∙◌, arith, eqb-true, eqb-false, not-true, eqb, ltb, when◌then◌else◌}
 use Rattle.laws.proofs.Common.{by_test, if_true, if_false, and_left, and_right, and_both}
 use mir.Val.{bool_byte}
 use Rattle.word_order.specs.Bits.{bit_of}
@@ -41,14 +42,14 @@ module _ (x : Watched) (c : Call) (o : Outcome) (y : Watched) where
   abbrev changes : List Claim
   changes =
       levels (stat_kept y.now.settings)
-      (if did 0 then written_to (asks c).value (stat_kept x.now.settings) else stat_kept x.now.settings)
+      (when did 0 then written_to (asks c).value (stat_kept x.now.settings) else stat_kept x.now.settings)
       ∷ levels (con1_bits y.now.settings.con1)
-      (if did 1 then written_to (asks c).value (con1_bits x.now.settings.con1) else con1_bits x.now.settings.con1)
+      (when did 1 then written_to (asks c).value (con1_bits x.now.settings.con1) else con1_bits x.now.settings.con1)
       ∷ levels (con2_bits y.now.settings.con2)
-      (if did 2 then written_to (asks c).value (con2_bits x.now.settings.con2) else con2_bits x.now.settings.con2)
+      (when did 2 then written_to (asks c).value (con2_bits x.now.settings.con2) else con2_bits x.now.settings.con2)
       ∷ level (interrupt_of y.now) (not (is_clear c) && (interrupt_of x.now || raised x.now.settings (seen x y)))
       ∷ level y.now.engine.spirov
-      (if did 0 then x.now.engine.spirov && bit_of (asks c).value 6 else x.now.engine.spirov || (seen x y).lost)
+      (when did 0 then x.now.engine.spirov && bit_of (asks c).value 6 else x.now.engine.spirov || (seen x y).lost)
       ∷ level y.now.engine.pins.sdo (sdo_shown x y)
       ∷ provided (not y.now.settings.spien) (level (sck_of y.now) (sck_of x.now))
       ∷ provided (not y.now.settings.spien) (level y.now.engine.pins.ss x.now.engine.pins.ss)
@@ -60,7 +61,7 @@ module _ (x : Watched) (c : Call) (o : Outcome) (y : Watched) where
   idles (Write register v) = []
   idles (Tick sdi ss) =
       provided x.now.settings.spien
-      (provided (stops_between_words x.now.settings) (number (said_of o.answer).kind (if eqb (edges_still_owed x) 0 then 3 else 4)))
+      (provided (stops_between_words x.now.settings) (number (said_of o.answer).kind (when eqb (edges_still_owed x) 0 then 3 else 4)))
       ∷ []
   idles (Pin sck sdi ss) = []
   idles (ClockStep sck sdi ss) =
@@ -88,24 +89,24 @@ module _ (x : Watched) (c : Call) (o : Outcome) (y : Watched) where
   abbrev whole : Claim
   whole =
       number (edges_given y.ledger.wire)
-      (if edge
-      then (if eqb (edges_given x.ledger.wire + 1) (2 * word_bits x.now.settings) then 0 else edges_given x.ledger.wire + 1)
+      (when edge
+      then (when eqb (edges_given x.ledger.wire + 1) (2 * word_bits x.now.settings) then 0 else edges_given x.ledger.wire + 1)
       else edges_given x.ledger.wire)
 
-  abbrev hostFrames : List Claim
-  hostFrames =
-      level began ((edge && not idle) && (if x.now.settings.con2.frmdly then starts else ends))
+  abbrev host_frames : List Claim
+  host_frames =
+      level began ((edge && not idle) && (when x.now.settings.con2.frmdly then starts else ends))
       ∷ level (carries_filler x.ledger.wire) false
       ∷ level (shows_pulse y.now)
-      (if edge && not idle then pulse_expected x.now.settings y.ledger else y.now.settings.spien && shows_pulse x.now)
+      (when edge && not idle then pulse_expected x.now.settings y.ledger else y.now.settings.spien && shows_pulse x.now)
       ∷ []
 
-  abbrev clientFrames : List Claim
-  clientFrames =
+  abbrev client_frames : List Claim
+  client_frames =
       level began ((edge && not idle) && x.memory.pulse)
       ∷ provided y.now.settings.spien
       (level y.memory.pulse
-      (if edge then idle && (Bool·beq (ss_told c) x.now.settings.con2.frmpol && is_quiet y.ledger.wire) else x.memory.pulse))
+      (when edge then idle && (Bool·beq (ss_told c) x.now.settings.con2.frmpol && is_quiet y.ledger.wire) else x.memory.pulse))
       ∷ provided began (level (carries_filler y.ledger.wire) (eqb (unsent x.ledger) 0))
       ∷ []
 
@@ -182,10 +183,10 @@ module _ (x : Watched) (c : Call) where
         ss = λ e. ss (off e);
       }
 
-  host-said : FrameHostCall x c → AllHold (hostFrames x c o y)
+  host-said : FrameHostCall x c → AllHold (host_frames x c o y)
   host-said h = h.begins also h.no_filler also h.pulse also none
 
-  client-said : FrameClientCall x c → AllHold (clientFrames x c o y)
+  client-said : FrameClientCall x c → AllHold (client_frames x c o y)
   client-said h = h.begins also h.stands also h.fills also none
 
 order_said : (y : Watched) → WordOrder y → Fillers y → AllHold (order y)
@@ -200,7 +201,7 @@ idles_said x (Read register) f s = none
 idles_said x (Write register v) f s = none
 idles_said x (Tick sdi ss) f s =
     let as_owed : x.now.settings.spien ≡ true → stops_between_words x.now.settings ≡ true →
-    (said_of (perform_of x.now (Tick sdi ss)).answer).kind ≡ (if eqb (edges_still_owed x) 0 then 3 else 4) =
+    (said_of (perform_of x.now (Tick sdi ss)).answer).kind ≡ (when eqb (edges_still_owed x) 0 then 3 else 4) =
     λ on own.
     by_test (eqb (edges_still_owed x) 0)
     (λ e. ap (λ (a : Answer). (said_of a).kind) (((f on own).idle (eqb-true (edges_still_owed x) 0 e)).no_edge sdi ss) ∙ sym (if_true (eqb (edges_still_owed x) 0) 3 4 e))
@@ -243,8 +244,8 @@ judged x c o y =
     && (all_judged (pins y)
     && (unless y.now.settings.spien (order y)
     && (all_judged (idles x c o y c)
-    && (unless (x.now.settings.spien && gives_pulses x.now.settings) (hostFrames x c o y)
-    && (unless (x.now.settings.spien && takes_pulses x.now.settings) (clientFrames x c o y)
+    && (unless (x.now.settings.spien && gives_pulses x.now.settings) (host_frames x c o y)
+    && (unless (x.now.settings.spien && takes_pulses x.now.settings) (client_frames x c o y)
     && unless ((x.now.settings.spien && x.now.settings.con2.frmen) && (not (is_quiet x.ledger.wire) && y.now.settings.spien))
     (whole x c o y ∷ []))))))))
 
@@ -307,10 +308,10 @@ module _ (p : OneModule) (b : Beginning) where
       (subst Fillers later (p.fillers b (cs ++ (c ∷ [])) (at _ later)))))
       (and_both _ _ (all_judged_lem (idles_said x c (λ up own. p.falls_idle b cs up own) (p.clock_steps x.now)))
       (and_both _ _
-      (unless_said _ (hostFrames x c (perform_of x.now c) y)
+      (unless_said _ (host_frames x c (perform_of x.now c) y)
       (λ e. host-said x c ((framed (not x.now.settings.con2.spifsd) e).host (and_right x.now.settings.spien _ e) c)))
       (and_both _ _
-      (unless_said _ (clientFrames x c (perform_of x.now c) y)
+      (unless_said _ (client_frames x c (perform_of x.now c) y)
       (λ e. client-said x c ((framed x.now.settings.con2.spifsd e).client (and_right x.now.settings.spien _ e) c)))
       (unless_said _ (whole x c (perform_of x.now c) y ∷ [])
       (λ e.

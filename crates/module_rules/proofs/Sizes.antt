@@ -6,7 +6,8 @@
 --     no_bit_above               a number below 2 ^ k has no bit at k or above
 --     one_shifted                1 shifted left by w is 2 ^ w
 -- Assumes nothing.
-use Rattle.laws.proofs.Common.{ℕ, ◌*◌, ◌%◌, ◌^◌, ◌≤◌, ◌<◌, Bool, true, false, ◌≡◌, ap, ◌∙◌, mod-lt, div-eq_of_lt}
+use Rattle.std.specs.Prelude.{◌*◌, ◌%◌, ◌^◌, ◌≤◌, ◌<◌, ◌≡◌}
+use Rattle.laws.proofs.Common.{ℕ, false, ap, ◌∙◌, mod-lt, div-eq_of_lt}
 use Rattle.laws.proofs.Common.{mod-eq_of_lt, one-le-pow, lt_of_lt_of_le, lt_of_le_of_lt, arith, eqb, lit<, lit≤, if_keeps}
 use native.Mathlib.Nat.{one-mul}
 use lib.Pow.{pow_mono}

@@ -1,6 +1,6 @@
 -- Document 01, "Registers" and "Loading": the two buffers over the ring.
 use Rattle.std.specs.Prelude.{ℕ, ◌+◌, ◌-◌, ◌%◌, Bool, false, ◌||◌, List, leb, eqb, get_or, set, replicate}
-use Rattle.laws.specs.Choice.{if◌then◌else◌}
+use Rattle.laws.specs.Choice.{when◌then◌else◌}
 use Rattle.ring.specs.Ring.{next, contents}
 use Rattle.module_types.specs.declared.Transmit.{Transmit}
 use Rattle.module_types.specs.declared.Receive.{Receive}
@@ -46,7 +46,7 @@ first_unread r = get_or r.words (cell r.read.0) 0
 -- A word written by the CPU stands last among those waiting. A full buffer stays as it is.
 unfoldable pub written : ℕ → ℕ → Transmit → Transmit
 written depth v t =
-    if full depth t.count then t
+    when full depth t.count then t
     else record {
       words = set t.words (cell t.write.0) v;
       write = record { 0 = next depth t.write.0 };
@@ -57,7 +57,7 @@ written depth v t =
 -- The first waiting word leaves the transmit buffer. An empty buffer stays as it is.
 unfoldable pub departed : ℕ → Transmit → Transmit
 departed depth t =
-    if empty t.count then t
+    when empty t.count then t
     else record {
       words = t.words;
       write = t.write;
@@ -68,7 +68,7 @@ departed depth t =
 -- A received word stands last among those unread. A full buffer stays as it is.
 unfoldable pub appended : ℕ → ℕ → Receive → Receive
 appended depth v r =
-    if full depth r.count then r
+    when full depth r.count then r
     else record {
       words = set r.words (cell r.write.0) v;
       write = record { 0 = next depth r.write.0 };
@@ -80,7 +80,7 @@ appended depth v r =
 -- The first unread word is taken by the CPU. An empty buffer stays as it is.
 unfoldable pub taken : ℕ → Receive → Receive
 taken depth r =
-    if empty r.count then r
+    when empty r.count then r
     else record {
       words = r.words;
       write = r.write;

@@ -3,7 +3,7 @@
 -- as it was.
 use Rattle.std.specs.Prelude.{ℕ, Bool, false, not, ◌&&◌, ◌||◌, List, [], ◌∷◌, eqb, ltb}
 use Rattle.std.specs.Bool.{beq}
-use Rattle.laws.specs.Choice.{if◌then◌else◌}
+use Rattle.laws.specs.Choice.{when◌then◌else◌}
 use Rattle.word_order.specs.Bits.{bit_of}
 use Rattle.module_types.specs.declared.Con1.{Con1}
 use Rattle.module_types.specs.declared.Con2.{Con2}
@@ -65,9 +65,9 @@ powered_up = powered_at Eight
 -- The power-up call with a depth, in any state: 25 for another one than 4, 8 and 16.
 unfoldable pub power_up_of : Module → ℕ → Outcome
 power_up_of m words =
-    if eqb words 4 then record { answer = Done; after = powered_at Four }
-    else if eqb words 8 then record { answer = Done; after = powered_at Eight }
-    else if eqb words 16 then record { answer = Done; after = powered_at Sixteen }
+    when eqb words 4 then record { answer = Done; after = powered_at Four }
+    else when eqb words 8 then record { answer = Done; after = powered_at Eight }
+    else when eqb words 16 then record { answer = Done; after = powered_at Sixteen }
     else refuse m NoSuchDepth
 
 -- The first unread word is taken by a BUF read, which is an event.
@@ -78,18 +78,18 @@ word_taken s n =
 -- BUF read: 2, then 16 (document 02, Four), then 6; then the first unread word is taken, and shown with zeros above its width.
 unfoldable pub read_buf : Module → Outcome
 read_buf m =
-    if not m.settings.spien then refuse m Disabled
-    else if m.engine.receive.marked then refuse m Overflowed
-    else if empty m.engine.receive.count then refuse m ReceiveEmpty
+    when not m.settings.spien then refuse m Disabled
+    else when m.engine.receive.marked then refuse m Overflowed
+    else when empty m.engine.receive.count then refuse m ReceiveEmpty
     else answering m (Value (low_bits m.settings (first_unread m.engine.receive))) (word_taken m.settings m.engine)
 
 -- Register read: 1 first. STAT, CON1 and CON2 change nothing.
 unfoldable pub read_of : Module → ℕ → Outcome
 read_of m register =
-    if ltb 3 register then refuse m NoSuchRegister
-    else if eqb register 0 then record { answer = Value (stat_value m); after = m }
-    else if eqb register 1 then record { answer = Value (con1_value m.settings.con1); after = m }
-    else if eqb register 2 then record { answer = Value (con2_value m.settings.con2); after = m }
+    when ltb 3 register then refuse m NoSuchRegister
+    else when eqb register 0 then record { answer = Value (stat_value m); after = m }
+    else when eqb register 1 then record { answer = Value (con1_value m.settings.con1); after = m }
+    else when eqb register 2 then record { answer = Value (con2_value m.settings.con2); after = m }
     else read_buf m
 
 -- A STAT write turns SPIEN from 0 to 1, or from 1 to 0.
@@ -102,14 +102,14 @@ turns_off s v = s.spien && not (bit_of v 15)
 -- The engine after a STAT write that is not refused.
 unfoldable pub stat_written : Settings → ℕ → Engine → Engine
 stat_written s v n =
-    if turns_on s v then enabled_engine v s.con1 n
-    else if turns_off s v then disabled_engine v n
+    when turns_on s v then enabled_engine v s.con1 n
+    else when turns_off s v then disabled_engine v n
     else stat_engine v n
 
 -- STAT write. With bad settings SPIEN cannot go from 0 to 1: the write is refused and takes nothing.
 unfoldable pub write_stat : Module → ℕ → Outcome
 write_stat m v =
-    if turns_on m.settings v && bad_settings m.settings then refuse m (first_given (causes m.settings))
+    when turns_on m.settings v && bad_settings m.settings then refuse m (first_given (causes m.settings))
     else record {
       answer = Done;
       after =
@@ -126,7 +126,7 @@ with_con2 s c = record { depth = s.depth; spien = s.spien; spisidl = s.spisidl; 
 -- CON1 and CON2 writes: refused with 3 while SPIEN is 1, whatever the value.
 unfoldable pub configured : Module → Settings → Outcome
 configured m s =
-    if m.settings.spien then refuse m Enabled
+    when m.settings.spien then refuse m Enabled
     else record { answer = Done; after = record { settings = s; engine = m.engine } }
 
 -- The word is accepted: it waits, the first waiting word loads if it can, and the write is an event. With CKE 1 and
@@ -139,30 +139,30 @@ word_written s word n =
 -- BUF write: 2, then 5; then the low w bits are the accepted word.
 unfoldable pub write_buf : Module → ℕ → Outcome
 write_buf m v =
-    if not m.settings.spien then refuse m Disabled
-    else if spitbf m then refuse m TransmitFull
+    when not m.settings.spien then refuse m Disabled
+    else when spitbf m then refuse m TransmitFull
     else answering m Done (word_written m.settings (low_bits m.settings v) m.engine)
 
 -- Register write: 1 first.
 unfoldable pub write_of : Module → ℕ → ℕ → Outcome
 write_of m register v =
-    if ltb 3 register then refuse m NoSuchRegister
-    else if eqb register 0 then write_stat m v
-    else if eqb register 1 then configured m (with_con1 m.settings (con1_from v))
-    else if eqb register 2 then configured m (with_con2 m.settings (con2_from v))
+    when ltb 3 register then refuse m NoSuchRegister
+    else when eqb register 0 then write_stat m v
+    else when eqb register 1 then configured m (with_con1 m.settings (con1_from v))
+    else when eqb register 2 then configured m (with_con2 m.settings (con2_from v))
     else write_buf m v
 
 -- Document 02, Eleven: one call for a clock step, whatever the module. It carries the levels SCK, SDI and SS.
 
 -- The select level that a host with its own clock is told counts for a frame client alone; for others the remembered one stays.
 abbrev pub told_select : Module → Bool → Bool
-told_select m ss = if frame_client m.settings then ss else m.engine.pins.ss
+told_select m ss = when frame_client m.settings then ss else m.engine.pins.ss
 
 -- What a module goes by of these levels. A host with its own clock makes its next edge, to the other level of its clock, and ignores
 -- SCK; any other module sees all three.
 abbrev pub heeded : Module → Levels → Levels
 heeded m x =
-    if own_clock m.settings then levels (not m.engine.pins.sck) x.sdi (told_select m x.ss) else x
+    when own_clock m.settings then levels (not m.engine.pins.sck) x.sdi (told_select m x.ss) else x
 
 -- An unframed host with its own clock and no word loaded has no next edge.
 abbrev pub no_next_edge : Module → Bool
@@ -171,8 +171,8 @@ no_next_edge m = unframed_host m.settings && is_free m.engine.shift
 -- The call tests 2 alone. It answers "no edge" and changes nothing, or it is done.
 unfoldable pub clock_step_of : Module → Bool → Bool → Bool → Outcome
 clock_step_of m sck sdi ss =
-    if not m.settings.spien then refuse m Disabled
-    else if no_next_edge m then record { answer = NoEdge; after = m }
+    when not m.settings.spien then refuse m Disabled
+    else when no_next_edge m then record { answer = NoEdge; after = m }
     else answering m Done (stepped m.settings (heeded m (levels sck sdi ss)) m.engine)
 
 -- Tick: 2, then 7, then the clock step. A tick carries no SCK, which does not count here, and a step that is done is an edge made.
@@ -188,15 +188,15 @@ edge_told o = record { answer = edge_for o.answer; after = o.after }
 
 unfoldable pub tick_of : Module → Bool → Bool → Outcome
 tick_of m sdi ss =
-    if not m.settings.spien then refuse m Disabled
-    else if not (own_clock m.settings) then refuse m WrongClock
+    when not m.settings.spien then refuse m Disabled
+    else when not (own_clock m.settings) then refuse m WrongClock
     else edge_told (clock_step_of m false sdi ss)
 
 -- Pin call: 2, then 7, then the clock step.
 unfoldable pub pins_of : Module → Bool → Bool → Bool → Outcome
 pins_of m sck sdi ss =
-    if not m.settings.spien then refuse m Disabled
-    else if own_clock m.settings then refuse m WrongClock
+    when not m.settings.spien then refuse m Disabled
+    else when own_clock m.settings then refuse m WrongClock
     else clock_step_of m sck sdi ss
 
 -- The clear call, enabled or not: nothing else clears the interrupt flag.
@@ -233,7 +233,7 @@ unfoldable pub undriven : Module → Bool
 undriven m = undriven_by m.settings m.engine.pins
 
 abbrev pub sdo_by : Bool → Pins → Output
-sdo_by off p = if off then Undriven else if p.sdo then High else Low
+sdo_by off p = when off then Undriven else when p.sdo then High else Low
 
 unfoldable pub sdo_of : Module → Output
 sdo_of m = sdo_by (undriven m) m.engine.pins
@@ -241,8 +241,8 @@ sdo_of m = sdo_by (undriven m) m.engine.pins
 -- SS is driven by an enabled frame host: at the level FRMPOL during a pulse, else at the other one (document 02, Three).
 abbrev pub ss_by : Settings → Pins → Output
 ss_by s p =
-    if not (s.spien && frame_host s) then Undriven
-    else if beq p.pulse s.con2.frmpol then High
+    when not (s.spien && frame_host s) then Undriven
+    else when beq p.pulse s.con2.frmpol then High
     else Low
 
 unfoldable pub ss_of : Module → Output

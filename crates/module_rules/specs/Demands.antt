@@ -5,7 +5,7 @@
 use Rattle.std.specs.Prelude.{ℕ, ◌+◌, ◌*◌, ◌-◌, ◌≤◌, Bool, true, false, not, ◌&&◌, ◌||◌, List, [], ◌∷◌, ◌++◌, map, ◌≡◌, eqb, ltb, leb, length}
 use Rattle.std.specs.Bool.{beq}
 use mir.Val.{bool_byte}
-use Rattle.laws.specs.Choice.{if◌then◌else◌}
+use Rattle.laws.specs.Choice.{when◌then◌else◌}
 use Rattle.word_order.specs.Bits.{bit_of, spelled}
 use Rattle.word_order.specs.Ledger.{is_quiet, Passed, sent, kept, lost_of, edges_given, carries_filler, unsent}
 use Rattle.module_types.specs.declared.Depth.{Depth}
@@ -81,7 +81,7 @@ abbrev pub is_depth : ℕ → Bool
 is_depth words = among words (4 ∷ 8 ∷ 16 ∷ [])
 
 pub record PowersUp : Type 0 where
-  pub refused_exactly : (m : Module) (words : ℕ) → (said_of (power_up_of m words).answer).number ≡ (if is_depth words then 0 else 25)
+  pub refused_exactly : (m : Module) (words : ℕ) → (said_of (power_up_of m words).answer).number ≡ (when is_depth words then 0 else 25)
   pub refused_unchanged : (m : Module) (words : ℕ) → is_depth words ≡ false → (power_up_of m words).after ≡ m
   pub done : (m : Module) (words : ℕ) → is_depth words ≡ true →
       (is_done (power_up_of m words).answer ≡ true) × (chosen (power_up_of m words).after.settings.depth ≡ words)
@@ -109,15 +109,15 @@ wrote register x c = is_done (perform_of x.now c).answer && writes register c
 -- write with a 0 in bit 6. The levels of a module that is disabled stay as disabling found them.
 pub record CallChanges (x : Watched) (c : Call) : Type 0 where
   pub stat : stat_kept (watched_call x c).now.settings
-      ≡ (if wrote 0 x c then written_to (asks c).value (stat_kept x.now.settings) else stat_kept x.now.settings)
+      ≡ (when wrote 0 x c then written_to (asks c).value (stat_kept x.now.settings) else stat_kept x.now.settings)
   pub con1 : con1_bits (watched_call x c).now.settings.con1
-      ≡ (if wrote 1 x c then written_to (asks c).value (con1_bits x.now.settings.con1) else con1_bits x.now.settings.con1)
+      ≡ (when wrote 1 x c then written_to (asks c).value (con1_bits x.now.settings.con1) else con1_bits x.now.settings.con1)
   pub con2 : con2_bits (watched_call x c).now.settings.con2
-      ≡ (if wrote 2 x c then written_to (asks c).value (con2_bits x.now.settings.con2) else con2_bits x.now.settings.con2)
+      ≡ (when wrote 2 x c then written_to (asks c).value (con2_bits x.now.settings.con2) else con2_bits x.now.settings.con2)
   pub flag : interrupt_of (watched_call x c).now
       ≡ (not (is_clear c) && (interrupt_of x.now || raised x.now.settings (seen x (watched_call x c))))
   pub spirov : (watched_call x c).now.engine.spirov
-      ≡ (if wrote 0 x c then x.now.engine.spirov && bit_of (asks c).value 6
+      ≡ (when wrote 0 x c then x.now.engine.spirov && bit_of (asks c).value 6
       else x.now.engine.spirov || (seen x (watched_call x c)).lost)
   pub sdo : (watched_call x c).now.engine.pins.sdo ≡ sdo_shown x (watched_call x c)
   pub sck : (watched_call x c).now.settings.spien ≡ false → sck_of (watched_call x c).now ≡ sck_of x.now
@@ -243,7 +243,7 @@ pub record FramesHold (x : Watched) : Type 0 where
 -- SCK changes nothing, and SS nothing unless it is a frame client; the call does what a tick does, and is done exactly where the tick
 -- makes an edge. On any other module it is the pin call.
 pub record ClockSteps (m : Module) : Type 0 where
-  pub refused : (sck sdi ss : Bool) → (said_of (perform_of m (ClockStep sck sdi ss)).answer).number ≡ (if m.settings.spien then 0 else 2)
+  pub refused : (sck sdi ss : Bool) → (said_of (perform_of m (ClockStep sck sdi ss)).answer).number ≡ (when m.settings.spien then 0 else 2)
   pub sck : clocks_itself m.settings.con1 ≡ true → (a b sdi ss : Bool) →
       perform_of m (ClockStep a sdi ss) ≡ perform_of m (ClockStep b sdi ss)
   pub ss : clocks_itself m.settings.con1 ≡ true → takes_pulses m.settings ≡ false → (sck sdi a b : Bool) →

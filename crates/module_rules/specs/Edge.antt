@@ -1,7 +1,7 @@
 -- Document 01, "One edge at a time", with document 02, Three: one function of all levels, for ticks and pin calls alike.
 use Rattle.std.specs.Prelude.{ℕ, ◌+◌, ◌*◌, Bool, true, false, not, ◌&&◌, ◌||◌, eqb, ltb}
 use Rattle.std.specs.Bool.{beq}
-use Rattle.laws.specs.Choice.{if◌then◌else◌}
+use Rattle.laws.specs.Choice.{when◌then◌else◌}
 use Rattle.module_types.specs.declared.Settings.{Settings}
 use Rattle.module_types.specs.declared.Engine.{Engine}
 use Rattle.module_types.specs.declared.Progress.{Progress}
@@ -28,8 +28,8 @@ fresh filler word = record { filler = filler; word = word; edges = 0; received =
 -- send begins a filler of zeros. A word already begun stays so.
 unfoldable pub begun : Settings → Engine → Shift → Shift
 begun s n Free =
-    if silent s then Free
-    else if ssen_client s && not (empty n.transmit.count) then Begun (fresh false (first_waiting n.transmit))
+    when silent s then Free
+    else when ssen_client s && not (empty n.transmit.count) then Begun (fresh false (first_waiting n.transmit))
     else Begun (fresh true 0)
 begun s n (Loaded word) = Begun (fresh false word)
 begun s n (Begun p) = Begun p
@@ -42,7 +42,7 @@ shifted s sdi p n =
 -- One edge of a begun word. It finishes at edge 2w and no sooner.
 unfoldable pub advanced : Settings → Bool → Progress → Engine → Engine
 advanced s sdi p n =
-    if ltb (p.edges + 1) (word_edges s) then shifted s sdi p n
+    when ltb (p.edges + 1) (word_edges s) then shifted s sdi p n
     else finished s p.filler (received_after s (p.edges + 1) sdi p.received) n
 
 -- An edge for whatever is begun; with nothing begun it does nothing more.
@@ -61,8 +61,8 @@ awaits_pulse s n = (framed s && (s.con2.spifsd || not s.con2.frmdly)) && not n.p
 -- active level, and are the transmit edges of a framed module; even ones are its sample edges.
 unfoldable pub under_way : Settings → Bool → Engine → Shift
 under_way s sck n =
-    if beq sck s.con1.ckp then n.shift
-    else if awaits_pulse s n then n.shift
+    when beq sck s.con1.ckp then n.shift
+    else when awaits_pulse s n then n.shift
     else begun s n n.shift
 
 -- Whether a frame host gives a pulse from a transmit edge on, by what is under way after that edge and how many words wait.
@@ -72,7 +72,7 @@ unfoldable pub pulse_due : Settings → ℕ → Shift → Bool
 pulse_due s count Free = false
 pulse_due s count (Loaded word) = not s.con2.frmdly
 pulse_due s count (Begun p) =
-    if s.con2.frmdly then eqb p.edges 1 else eqb (p.edges + 1) (word_edges s) && not (empty count)
+    when s.con2.frmdly then eqb p.edges 1 else eqb (p.edges + 1) (word_edges s) && not (empty count)
 
 -- SS is active at the level FRMPOL.
 abbrev pub active : Settings → Bool → Bool
@@ -83,13 +83,13 @@ active s ss = beq ss s.con2.frmpol
 -- finish, and has used the pulse up after the transmit edge.
 unfoldable pub pulse_after : Settings → Bool → Engine → Bool
 pulse_after s sck n =
-    if beq sck s.con1.ckp
-    then (if s.con2.spifsd then active s n.pins.ss && not (is_begun n.shift) else n.pins.pulse)
+    when beq sck s.con1.ckp
+    then (when s.con2.spifsd then active s n.pins.ss && not (is_begun n.shift) else n.pins.pulse)
     else not s.con2.spifsd && pulse_due s n.transmit.count n.shift
 
 -- The end of an edge: the pulse of a framed module.
 unfoldable pub pulsed : Settings → Bool → Engine → Engine
-pulsed s sck n = with_pulse (if framed s then pulse_after s sck n else n.pins.pulse) n
+pulsed s sck n = with_pulse (when framed s then pulse_after s sck n else n.pins.pulse) n
 
 -- The clock level is remembered.
 unfoldable pub clocked : Bool → Engine → Engine
@@ -98,7 +98,7 @@ clocked sck n = with_sck sck n
 -- An edge to the level `sck`. Deselected, it only updates the remembered level.
 unfoldable pub edged : Settings → Bool → Bool → Engine → Engine
 edged s sck sdi n =
-    if deselected s n.pins.ss then clocked sck n
+    when deselected s n.pins.ss then clocked sck n
     else pulsed s sck (advanced_if_begun s sdi (under_way s sck n) (clocked sck n))
 
 -- The levels that a step carries.
@@ -113,5 +113,5 @@ levels sck sdi ss = record { sck = sck; sdi = sdi; ss = ss }
 -- Levels are seen: SS is acted on first, then an SCK level unlike the remembered one is an edge.
 unfoldable pub stepped : Settings → Levels → Engine → Engine
 stepped s x n =
-    if beq x.sck n.pins.sck then select_seen s x.ss n
+    when beq x.sck n.pins.sck then select_seen s x.ss n
     else edged s x.sck x.sdi (select_seen s x.ss n)

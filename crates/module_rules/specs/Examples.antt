@@ -2,7 +2,7 @@
 -- proofs/ExamplesHold.antt proves them together, as one list.
 use Rattle.std.specs.Prelude.{ℕ, zero, suc, ◌*◌, ◌-◌, Bool, true, false, ◌&&◌, List, [], ◌∷◌, ◌++◌, map, eqb, replicate}
 use Rattle.std.specs.Bool.{beq}
-use Rattle.laws.specs.Choice.{if◌then◌else◌}
+use Rattle.laws.specs.Choice.{when◌then◌else◌}
 use Rattle.module_types.specs.declared.Module.{Module}
 use Rattle.module_types.specs.declared.Said.{Said}
 use Rattle.module_types.specs.declared.Call.{Call}
@@ -19,7 +19,7 @@ pub data ExampleStep : Type 0 where
   shows : Output → ExampleStep
   drives : Output → ExampleStep
   flagged : Bool → ExampleStep
-  clockAt : Bool → ExampleStep
+  clock_at : Bool → ExampleStep
 
 -- What answers say: done, a register value, no edge, an edge, and a refusal.
 abbrev pub ok : Said
@@ -61,7 +61,7 @@ all_hold m (says c a ∷ rest) = same_said (said_of (perform_of m c).answer) a &
 all_hold m (shows level ∷ rest) = same_output (sdo_of m) level && all_hold m rest
 all_hold m (drives level ∷ rest) = same_output (ss_of m) level && all_hold m rest
 all_hold m (flagged flag ∷ rest) = beq (interrupt_of m) flag && all_hold m rest
-all_hold m (clockAt level ∷ rest) = beq (sck_of m) level && all_hold m rest
+all_hold m (clock_at level ∷ rest) = beq (sck_of m) level && all_hold m rest
 
 -- The module after the calls of some steps.
 abbrev pub after_steps : Module → List ExampleStep → Module
@@ -70,7 +70,7 @@ after_steps m (says c a ∷ rest) = after_steps (perform_of m c).after rest
 after_steps m (shows level ∷ rest) = after_steps m rest
 after_steps m (drives level ∷ rest) = after_steps m rest
 after_steps m (flagged flag ∷ rest) = after_steps m rest
-after_steps m (clockAt level ∷ rest) = after_steps m rest
+after_steps m (clock_at level ∷ rest) = after_steps m rest
 
 -- A module is configured and enabled.
 abbrev pub set_up : ℕ → ℕ → List ExampleStep
@@ -214,11 +214,11 @@ further_power_up =
     ∷ says (Read 1) (value 0x0000)
     ∷ says (Read 2) (value 0x0000)
     ∷ flagged false
-    ∷ clockAt false
+    ∷ clock_at false
     ∷ shows Undriven
     ∷ says (Write 1 0x0060) ok
     ∷ says (Write 0 0x8000) ok
-    ∷ clockAt true
+    ∷ clock_at true
     ∷ []
 
 -- SPIROV: the clear call leaves it. Under STAT writes a 1 in bit 6 leaves it, enabled or not and when disabling; a 0 clears it; a 1 sets nothing.
@@ -310,7 +310,7 @@ abbrev pub further_clocks : List ExampleStep
 further_clocks =
     set_up 0x0060 0x0000
     ++ (says (Tick true true) no_edge
-    ∷ clockAt true
+    ∷ clock_at true
     ∷ says (Pin true true true) (refused 7)
     ∷ says (Write 1 0x0000) (refused 3)
     ∷ says (Read 1) (value 0x0060)
@@ -688,11 +688,11 @@ as_clock_step (ClockStep sck sdi ss) = ClockStep sck sdi ss
 as_clock_step Clear = Clear
 
 abbrev pub by_clock_step : ExampleStep → ExampleStep
-by_clock_step (says c a) = says (as_clock_step c) (if eqb a.kind 4 then ok else a)
+by_clock_step (says c a) = says (as_clock_step c) (when eqb a.kind 4 then ok else a)
 by_clock_step (shows level) = shows level
 by_clock_step (drives level) = drives level
 by_clock_step (flagged flag) = flagged flag
-by_clock_step (clockAt level) = clockAt level
+by_clock_step (clock_at level) = clock_at level
 
 -- A host with its own clock: disabled 2, idle no edge, and then an edge at each step, whatever SCK and SS are, until the word is sent.
 -- A pin call gives 7.
@@ -701,15 +701,15 @@ step_host =
     says (ClockStep true true true) (refused 2)
     ∷ set_up 0x0020 0x0000
     ++ (says (ClockStep true true true) no_edge
-    ∷ clockAt false
+    ∷ clock_at false
     ∷ says (Write 3 0x0081) ok
     ∷ says (ClockStep false true true) ok
-    ∷ clockAt true
+    ∷ clock_at true
     ∷ shows High
     ∷ says (ClockStep true false false) ok
-    ∷ clockAt false
+    ∷ clock_at false
     ∷ says (ClockStep false true true) ok
-    ∷ clockAt true
+    ∷ clock_at true
     ∷ shows Low
     ∷ replicate 13 (says (ClockStep true true true) ok)
     ++ (says (Read 3) (value 0x007F) ∷ says (ClockStep false true false) no_edge ∷ says (Pin true true true) (refused 7) ∷ []))
@@ -724,7 +724,7 @@ step_pins =
     ∷ says (ClockStep true true true) ok
     ∷ shows High
     ∷ says (ClockStep true true true) ok
-    ∷ clockAt true
+    ∷ clock_at true
     ∷ says (Tick true true) (refused 7)
     ∷ says (Write 0 0x0000) ok
     ∷ says (ClockStep true true true) (refused 2)

@@ -1,6 +1,6 @@
 -- Document 01, "Finish, at edge 2w, in this order".
 use Rattle.std.specs.Prelude.{ℕ, Bool, true, not, ◌&&◌, ◌||◌}
-use Rattle.laws.specs.Choice.{if◌then◌else◌}
+use Rattle.laws.specs.Choice.{when◌then◌else◌}
 use Rattle.module_types.specs.declared.Settings.{Settings}
 use Rattle.module_types.specs.declared.Engine.{Engine}
 use Rattle.module_types.specs.declared.Shift.TheVariants.{Free}
@@ -27,11 +27,11 @@ is_lost s n = full (depth_of s) n.receive.count || n.receive.marked
 
 -- First: the received word.
 unfoldable pub delivered : Settings → ℕ → Engine → Engine
-delivered s word n = if is_lost s n then overflowed s n else word_appended s word n
+delivered s word n = when is_lost s n then overflowed s n else word_appended s word n
 
 -- Second: an SSEN client drops its sent word from the transmit buffer, unless it was a filler.
 unfoldable pub sent_dropped : Settings → Bool → Engine → Engine
-sent_dropped s filler n = if ssen_client s && not filler then word_leaves s n else n
+sent_dropped s filler n = when ssen_client s && not filler then word_leaves s n else n
 
 -- The shift register is free again, and the finish itself is an event: the words then left to send are those waiting.
 unfoldable pub freed : Settings → Engine → Engine

@@ -3,7 +3,7 @@
 use Rattle.std.specs.Prelude.{ℕ, ◌+◌, ◌*◌, ◌-◌, ◌/◌, ◌^◌, Bool, false, not, ◌&&◌, ◌||◌, List, [], ◌∷◌, map, eqb, ltb, leb, length, get_or}
 use Rattle.std.specs.Bool.{beq}
 use mir.Val.{bool_byte}
-use Rattle.laws.specs.Choice.{if◌then◌else◌}
+use Rattle.laws.specs.Choice.{when◌then◌else◌}
 use Rattle.word_order.specs.Bits.{bit_of}
 use Rattle.word_order.specs.Ledger.{Wire, quiet, busy, is_quiet, Ledger, sent, lost_of, left_to_send}
 use Rattle.module_types.specs.declared.Con1.{Con1}
@@ -62,10 +62,10 @@ con2_bits c = bit 15 c.frmen ∷ bit 14 c.spifsd ∷ bit 13 c.frmpol ∷ bit 1 c
 -- unread (client), with more than 7 shown as 7 (document 02, Twelve); no word loaded or begun, so that nothing has left the transmit buffer unfinished and the wire
 -- is quiet; the receive buffer empty. SPITBF and SPIRBF: that buffer is full.
 abbrev pub counts : Module → ℕ
-counts m = length (if m.settings.con1.msten then waiting_in m else unread_in m)
+counts m = length (when m.settings.con1.msten then waiting_in m else unread_in m)
 
 abbrev pub spibec_shown : Module → ℕ
-spibec_shown m = if m.settings.spien && m.settings.con2.spiben then (if ltb 7 (counts m) then 7 else counts m) else 0
+spibec_shown m = when m.settings.spien && m.settings.con2.spiben then (when ltb 7 (counts m) then 7 else counts m) else 0
 
 abbrev pub shifts_none : Watched → Bool
 shifts_none x = eqb (length (left_buffer x.now)) 0 && is_quiet x.ledger.wire
@@ -148,7 +148,7 @@ conditions depth v =
     ∷ []
 
 abbrev pub raised : Settings → Seen → Bool
-raised s v = if s.con2.spiben then get_or (conditions (room s) v) s.sisel false else v.finished
+raised s v = when s.con2.spiben then get_or (conditions (room s) v) s.sisel false else v.finished
 
 -- The word on the wire, or the next to be sent: the first accepted word that is not sent. With none, and for a filler, zeros.
 abbrev pub first_unsent : Ledger → ℕ
@@ -158,15 +158,15 @@ first_unsent l = get_or l.accepted (length (sent l)) 0
 -- the top bit, 3 and 4 the next, and so on; with CKE 1 edge 1 still shows the top bit, 2 and 3 the next. Between words:
 -- with CKE 1 the top bit of the word to be sent next, with CKE 0 as before.
 abbrev pub level_shown : Settings → Ledger → Wire → Bool → Bool
-level_shown s l quiet before = if odd_sampled s then bit_of (first_unsent l) (word_bits s - 1) else before
+level_shown s l quiet before = when odd_sampled s then bit_of (first_unsent l) (word_bits s - 1) else before
 level_shown s l (busy w) before =
-    bit_of (if w.filler then 0 else first_unsent l)
-    (word_bits s - 1 - (if odd_sampled s then w.edges else w.edges - 1) / 2)
+    bit_of (when w.filler then 0 else first_unsent l)
+    (word_bits s - 1 - (when odd_sampled s then w.edges else w.edges - 1) / 2)
 
 -- Enabling sets SDO to 0, and while disabled it stays.
 abbrev pub sdo_shown : Watched → Watched → Bool
 sdo_shown x y =
-    if y.now.settings.spien
+    when y.now.settings.spien
     then level_shown y.now.settings y.ledger y.ledger.wire (x.now.settings.spien && x.now.engine.pins.sdo)
     else x.now.engine.pins.sdo
 
@@ -174,8 +174,8 @@ sdo_shown x y =
 abbrev pub pin_shown : Watched → Output
 pin_shown x =
     let s : Settings = x.now.settings in
-    if not s.spien || (s.con1.dissdo || (heeds_select s && x.memory.ss)) then Undriven
-    else if x.now.engine.pins.sdo then High
+    when not s.spien || (s.con1.dissdo || (heeds_select s && x.memory.ss)) then Undriven
+    else when x.now.engine.pins.sdo then High
     else Low
 
 -- The SS pin: driven by an enabled module with FRMEN and without SPIFSD alone; at the level FRMPOL while a pulse stands, else at
@@ -183,6 +183,6 @@ pin_shown x =
 abbrev pub select_shown : Watched → Output
 select_shown x =
     let s : Settings = x.now.settings in
-    if not (s.spien && gives_pulses s) then Undriven
-    else if beq x.memory.pulse s.con2.frmpol then High
+    when not (s.spien && gives_pulses s) then Undriven
+    else when beq x.memory.pulse s.con2.frmpol then High
     else Low

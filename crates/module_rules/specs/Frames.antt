@@ -1,7 +1,7 @@
 -- Document 02, Three: what comes of frames, said of the SS pin, the calls and the ledger.
 use Rattle.std.specs.Prelude.{◌+◌, ◌*◌, ◌≤◌, Bool, true, false, not, ◌&&◌, ◌||◌, List, [], ◌∷◌, ◌≡◌, eqb, leb}
 use Rattle.std.specs.Bool.{beq}
-use Rattle.laws.specs.Choice.{if◌then◌else◌}
+use Rattle.laws.specs.Choice.{when◌then◌else◌}
 use Rattle.word_order.specs.Ledger.{Ledger, is_quiet, edges_given, carries_filler, unsent}
 use Rattle.module_types.specs.declared.Settings.{Settings}
 use Rattle.module_types.specs.declared.Answer.TheVariants.{Edge}
@@ -41,15 +41,15 @@ pub record FramedCall (x : Watched) (c : Call) : Type 0 where
   pub runs_on : clocks_itself x.now.settings.con1 ≡ true → (sdi ss : Bool) → (perform_of x.now (Tick sdi ss)).answer ≡ Edge
   pub whole : is_quiet x.ledger.wire ≡ false → (watched_call x c).now.settings.spien ≡ true →
       edges_given (watched_call x c).ledger.wire
-      ≡ (if edge_made x c
-      then (if eqb (edges_given x.ledger.wire + 1) (2 * word_bits x.now.settings) then 0 else edges_given x.ledger.wire + 1)
+      ≡ (when edge_made x c
+      then (when eqb (edges_given x.ledger.wire + 1) (2 * word_bits x.now.settings) then 0 else edges_given x.ledger.wire + 1)
       else edges_given x.ledger.wire)
 
 -- Whether SS of a frame host must be active after a transmit edge. FRMDLY 0: with nothing under way if a word is left to send,
 -- and after edge 2w-1 if a further one is. FRMDLY 1: after a word's edge 1. With nothing to send there is no pulse.
 abbrev pub pulse_expected : Settings → Ledger → Bool
 pulse_expected s l =
-    if s.con2.frmdly then eqb (edges_given l.wire) 1
+    when s.con2.frmdly then eqb (edges_given l.wire) 1
     else (is_quiet l.wire && leb 1 (unsent l)) || (eqb (edges_given l.wire + 1) (2 * word_bits s) && leb 2 (unsent l))
 
 -- A word of a frame host begins exactly at the transmit edge that ends a pulse (FRMDLY 0) or starts one (FRMDLY 1), and no
@@ -57,10 +57,10 @@ pulse_expected s l =
 -- can. With a word left to send, nothing under way and no pulse, the next transmit edge gives one. A disabled module drives
 -- nothing.
 pub record FrameHostCall (x : Watched) (c : Call) : Type 0 where
-  pub begins : word_begins x c ≡ (transmit_edge x c && (if x.now.settings.con2.frmdly then starts_pulse x c else ends_pulse x c))
+  pub begins : word_begins x c ≡ (transmit_edge x c && (when x.now.settings.con2.frmdly then starts_pulse x c else ends_pulse x c))
   pub no_filler : carries_filler x.ledger.wire ≡ false
   pub pulse : shows_pulse (watched_call x c).now
-      ≡ (if transmit_edge x c then pulse_expected x.now.settings (watched_call x c).ledger
+      ≡ (when transmit_edge x c then pulse_expected x.now.settings (watched_call x c).ledger
       else (watched_call x c).now.settings.spien && shows_pulse x.now)
   pub gives : is_quiet x.ledger.wire ≡ true → 1 ≤ unsent x.ledger → shows_pulse x.now ≡ false →
       transmit_edge x c ≡ true → shows_pulse (watched_call x c).now ≡ true
@@ -81,7 +81,7 @@ pub record FrameClientCall (x : Watched) (c : Call) : Type 0 where
   pub begins : word_begins x c ≡ (transmit_edge x c && x.memory.pulse)
   pub stands : (watched_call x c).now.settings.spien ≡ true →
       (watched_call x c).memory.pulse
-      ≡ (if edge_made x c
+      ≡ (when edge_made x c
       then to_idle x c && (beq (ss_told c) x.now.settings.con2.frmpol && is_quiet (watched_call x c).ledger.wire)
       else x.memory.pulse)
   pub fills : word_begins x c ≡ true → carries_filler (watched_call x c).ledger.wire ≡ eqb (unsent x.ledger) 0

@@ -2,7 +2,7 @@
 -- rule cites it, and it cites no rule, so that a rule which takes a bit for another differs from what stands here.
 use Rattle.std.specs.Prelude.{ℕ, ◌%◌, Bool, not, ◌&&◌, ◌||◌, eqb}
 use Rattle.std.specs.Bool.{beq}
-use Rattle.laws.specs.Choice.{if◌then◌else◌}
+use Rattle.laws.specs.Choice.{when◌then◌else◌}
 use Rattle.module_types.specs.declared.Con1.{Con1}
 use Rattle.module_types.specs.declared.Depth.{Depth}
 use Rattle.module_types.specs.declared.Depth.TheVariants.{Four, Eight, Sixteen}
@@ -10,7 +10,7 @@ use Rattle.module_types.specs.declared.Settings.{Settings}
 
 -- A word has 16 bits with MODE16, else 8.
 abbrev pub word_bits : Settings → ℕ
-word_bits s = if s.con1.mode16 then 16 else 8
+word_bits s = when s.con1.mode16 then 16 else 8
 
 -- With SPIBEN each buffer holds the 4, 8 or 16 words that power-up chose, else 1.
 abbrev pub chosen : Depth → ℕ
@@ -19,7 +19,7 @@ chosen Eight = 8
 chosen Sixteen = 16
 
 abbrev pub room : Settings → ℕ
-room s = if s.con2.spiben then chosen s.depth else 1
+room s = when s.con2.spiben then chosen s.depth else 1
 
 -- The edges of a word at which SDI is sampled: the odd ones with CKE, else the even ones. With FRMEN CKE counts as 0.
 abbrev pub odd_sampled : Settings → Bool
@@ -49,7 +49,7 @@ takes_pulses s = s.con2.frmen && s.con2.spifsd
 
 -- With nothing to send a host begins nothing, nor does a frame host; a client and a frame client send a filler.
 abbrev pub sends_no_filler : Settings → Bool
-sends_no_filler s = if s.con2.frmen then not s.con2.spifsd else s.con1.msten
+sends_no_filler s = when s.con2.frmen then not s.con2.spifsd else s.con1.msten
 
 -- What cannot be enabled: its own clock with both prescalers at 1:1 (PPRE 3, SPRE 7); SMP; CKE in a client without SSEN and
 -- without FRMEN.

@@ -1,7 +1,7 @@
 -- Document 01, "Interrupt flag": the conditions. They are events: nothing else sets the flag, and only the clear call
 -- clears it.
 use Rattle.std.specs.Prelude.{ℕ, ◌+◌, ◌*◌, ◌/◌, Bool, true, false, ◌||◌, ◌&&◌, eqb, leb}
-use Rattle.laws.specs.Choice.{if◌then◌else◌}
+use Rattle.laws.specs.Choice.{when◌then◌else◌}
 use Rattle.module_types.specs.declared.Settings.{Settings}
 use Rattle.module_types.specs.declared.Engine.{Engine}
 use Rattle.module_types.specs.declared.Event.{Event}
@@ -38,7 +38,7 @@ enhanced_raises depth sisel (Written left) = eqb sisel 7 && eqb left depth
 
 -- Whether an event sets the flag under these settings.
 unfoldable pub raises : Settings → Event → Bool
-raises s e = if s.con2.spiben then enhanced_raises (depth_of s) s.sisel e else standard_raises e
+raises s e = when s.con2.spiben then enhanced_raises (depth_of s) s.sisel e else standard_raises e
 
 -- The engine after an event: its interrupt flag stands if it stood or if the event raises it.
 unfoldable pub noted : Settings → Event → Engine → Engine

@@ -2,7 +2,7 @@
 -- call keeps it; proofs/InvariantUses.antt has a theorem for each clause.
 use Rattle.std.specs.Prelude.{ℕ, ◌+◌, ◌*◌, ◌-◌, ◌/◌, ◌%◌, ◌^◌, ◌≤◌, ◌<◌, Bool, true, false, ◌≡◌, eqb, length}
 use Rattle.std.specs.Bool.{beq}
-use Rattle.laws.specs.Choice.{if◌then◌else◌}
+use Rattle.laws.specs.Choice.{when◌then◌else◌}
 use Rattle.ring.specs.Ring.{RingHolds, CellsHold}
 use Rattle.word_order.specs.Bits.{bit_of}
 use Rattle.module_types.specs.declared.Settings.{Settings}
@@ -24,7 +24,7 @@ pub record SettingsHold (s : Settings) : Type 0 where
 
 -- Bits sampled by the edges given so far.
 unfoldable pub sampled : Bool → ℕ → ℕ
-sampled cke edges = if cke then (edges + 1) / 2 else edges / 2
+sampled cke edges = when cke then (edges + 1) / 2 else edges / 2
 
 -- A begun word: within its 2w edges, its bits within the width, the clock where the edges left it, and SDO at the bit that
 -- the last change showed. A filler is made of zeros and no silent module sends one. An SSEN client is selected, and the word it
@@ -35,7 +35,7 @@ pub record ProgressHolds (s : Settings) (n : Engine) (p : Progress) : Type 0 whe
   pub word : p.word < 2 ^ word_bits s
   pub received : p.received < 2 ^ sampled (odd_sampled s) p.edges
   pub clock : n.pins.sck ≡ beq s.con1.ckp (eqb (p.edges % 2) 0)
-  pub shows : n.pins.sdo ≡ bit_of p.word (word_bits s - 1 - (if odd_sampled s then p.edges else p.edges - 1) / 2)
+  pub shows : n.pins.sdo ≡ bit_of p.word (word_bits s - 1 - (when odd_sampled s then p.edges else p.edges - 1) / 2)
   pub zeros : p.filler ≡ true → p.word ≡ 0
   pub host : sends_no_filler s ≡ true → p.filler ≡ false
   pub selected : heeds_select s ≡ true → n.pins.ss ≡ false

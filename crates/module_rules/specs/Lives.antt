@@ -11,8 +11,8 @@ use Rattle.module_rules.specs.Invariant.{Reached}
 use Rattle.module_rules.specs.Watch.{terms, port_in, Memory, Watched, watched_calls}
 
 pub data Beginning : Type 0 where
-  powerUp : Depth → Beginning
-  midLife : (m : Module) → Reached m → m.settings.spien ≡ true → Beginning
+  power_up : Depth → Beginning
+  mid_life : (m : Module) → Reached m → m.settings.spien ≡ true → Beginning
 
 -- The levels that a module remembers.
 abbrev pub levels_in : Module → Memory
@@ -23,8 +23,8 @@ abbrev pub resumed_at : Module → Watched
 resumed_at m = record { now = m; memory = levels_in m; ledger = resumed (terms m.settings) (port_in m) }
 
 abbrev pub begins : Beginning → Watched
-begins (powerUp depth) = record { now = powered_at depth; memory = levels_in (powered_at depth); ledger = opened }
-begins (midLife m holds enabled) = resumed_at m
+begins (power_up depth) = record { now = powered_at depth; memory = levels_in (powered_at depth); ledger = opened }
+begins (mid_life m holds enabled) = resumed_at m
 
 -- A watched module after some calls.
 abbrev pub life : Beginning → List Call → Watched

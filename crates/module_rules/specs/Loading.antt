@@ -1,6 +1,6 @@
 -- Document 01, "Loading", with the SDO level that CKE 1 shows between words ("Bits").
 use Rattle.std.specs.Prelude.{◌-◌, Bool, true, false, not, ◌&&◌}
-use Rattle.laws.specs.Choice.{if◌then◌else◌}
+use Rattle.laws.specs.Choice.{when◌then◌else◌}
 use Rattle.word_order.specs.Bits.{bit_of}
 use Rattle.module_types.specs.declared.Settings.{Settings}
 use Rattle.module_types.specs.declared.Engine.{Engine}
@@ -30,7 +30,7 @@ can_load s n = is_free n.shift && (not (ssen_client s) && not (empty n.transmit.
 
 -- The first waiting word moves as soon as it can.
 unfoldable pub loaded : Settings → Engine → Engine
-loaded s n = if can_load s n then moved s n else n
+loaded s n = when can_load s n then moved s n else n
 
 -- The top bit of the word to be sent next, 0 if there is none: the loaded word, or the first that waits in an SSEN
 -- client.
@@ -53,5 +53,5 @@ sdo_at level n = with_sdo level n
 unfoldable pub rested : Settings → Engine → Engine
 rested s n =
     sdo_at
-    (if cke_of s && not (is_begun n.shift) then next_top s n.transmit n.shift else n.pins.sdo)
+    (when cke_of s && not (is_begun n.shift) then next_top s n.transmit n.shift else n.pins.sdo)
     n

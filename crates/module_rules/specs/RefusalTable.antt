@@ -1,7 +1,7 @@
 -- Document 01, "What each refusal number says", with document 02, One, Three, Four and Eleven: the rows in the order of the tests, each in
 -- the paper's words and by what a call asks for. specs/Demands.antt says that a call is refused exactly so.
 use Rattle.std.specs.Prelude.{ℕ, Bool, not, ◌&&◌, ◌||◌, List, [], ◌∷◌, eqb, ltb, leb, length}
-use Rattle.laws.specs.Choice.{if◌then◌else◌}
+use Rattle.laws.specs.Choice.{when◌then◌else◌}
 use Rattle.word_order.specs.Bits.{bit_of}
 use Rattle.module_types.specs.declared.Con1.{Con1}
 use Rattle.module_types.specs.declared.Module.{Module}
@@ -20,7 +20,7 @@ row number applies = record { number = number; applies = applies }
 
 abbrev pub first_number : List Row → ℕ
 first_number [] = 0
-first_number (r ∷ rows) = if r.applies then r.number else first_number rows
+first_number (r ∷ rows) = when r.applies then r.number else first_number rows
 
 -- What a call asks for, in numbers: its kind, the register that it names and the value that it carries, 0 if none.
 pub record Asks : Type 0 where

@@ -1,6 +1,6 @@
 -- Document 01, "What each refusal number says", and what answers say in numbers.
 use Rattle.std.specs.Prelude.{ℕ, Bool, false, not, ◌&&◌, ◌||◌, List, [], ◌∷◌, eqb}
-use Rattle.laws.specs.Choice.{if◌then◌else◌}
+use Rattle.laws.specs.Choice.{when◌then◌else◌}
 use Rattle.module_types.specs.declared.Settings.{Settings}
 use Rattle.module_types.specs.declared.Refusal.{Refusal}
 use Rattle.module_types.specs.declared.Refusal.TheVariants.{NoSuchRegister, Disabled, Enabled, TransmitFull, ReceiveEmpty, WrongClock, NoRate, UnreadableLine, DifferentModes, TooManyEdges, Undivided, LateSampling, UnselectedCke, Overflowed, NoSuchDepth}
@@ -99,4 +99,4 @@ bad_settings s = any_given (causes s)
 abbrev pub first_given : List Cause → Refusal
 first_given [] = Undivided
 first_given (c ∷ []) = c.why
-first_given (c ∷ (d ∷ rest)) = if c.given then c.why else first_given (d ∷ rest)
+first_given (c ∷ (d ∷ rest)) = when c.given then c.why else first_given (d ∷ rest)

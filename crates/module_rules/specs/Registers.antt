@@ -1,6 +1,6 @@
 -- Document 01, "Registers": the bits, what reads show, and what writes take.
 use Rattle.std.specs.Prelude.{ℕ, ◌+◌, ◌*◌, ◌/◌, ◌%◌, ◌^◌, Bool, true, false, ◌&&◌, ltb}
-use Rattle.laws.specs.Choice.{if◌then◌else◌}
+use Rattle.laws.specs.Choice.{when◌then◌else◌}
 use Rattle.word_order.specs.Bits.{bit_of}
 use Rattle.module_types.specs.declared.Con1.{Con1}
 use Rattle.module_types.specs.declared.Con2.{Con2}
@@ -15,7 +15,7 @@ use Rattle.module_rules.specs.Buffers.{full, empty, empty_transmit, empty_receiv
 
 -- What a bit of the given weight adds to a register's value.
 unfoldable pub weighed : Bool → ℕ → ℕ
-weighed b weight = if b then weight else 0
+weighed b weight = when b then weight else 0
 
 -- CON1 as written: the listed bits are taken, the others ignored.
 unfoldable pub con1_from : ℕ → Con1
@@ -89,13 +89,13 @@ srmpt m = shows_enhanced m.settings && is_free m.engine.shift
 
 -- The three bits of SPIBEC show at most 7, so that 8 and above are shown as 7 (document 02, Twelve).
 unfoldable pub at_most7 : ℕ → ℕ
-at_most7 count = if ltb count 7 then count else 7
+at_most7 count = when ltb count 7 then count else 7
 
 -- SPIBEC: words waiting to be sent (host) or unread (client).
 unfoldable pub spibec : Module → ℕ
 spibec m =
-    if shows_enhanced m.settings
-    then at_most7 (if m.settings.con1.msten then m.engine.transmit.count else m.engine.receive.count)
+    when shows_enhanced m.settings
+    then at_most7 (when m.settings.con1.msten then m.engine.transmit.count else m.engine.receive.count)
     else 0
 
 -- STAT as read.

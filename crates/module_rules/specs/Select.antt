@@ -1,6 +1,6 @@
 -- Document 01, "Abort", and the select level in "One edge at a time".
 use Rattle.std.specs.Prelude.{Bool, ◌&&◌}
-use Rattle.laws.specs.Choice.{if◌then◌else◌}
+use Rattle.laws.specs.Choice.{when◌then◌else◌}
 use Rattle.module_types.specs.declared.Settings.{Settings}
 use Rattle.module_types.specs.declared.Engine.{Engine}
 use Rattle.module_types.specs.declared.Shift.TheVariants.{Free}
@@ -24,4 +24,4 @@ deselected s ss = ssen_client s && ss
 -- Select is acted on before the clock: remembered always, and high aborts the begun word of an SSEN client.
 unfoldable pub select_seen : Settings → Bool → Engine → Engine
 select_seen s ss n =
-    if deselected s ss && is_begun n.shift then aborted s (select_remembered ss n) else select_remembered ss n
+    when deselected s ss && is_begun n.shift then aborted s (select_remembered ss n) else select_remembered ss n

@@ -1,13 +1,13 @@
 -- Document 01, "Registers" and "One edge at a time": what the settings decide.
 use Rattle.std.specs.Prelude.{ℕ, Bool, not, ◌&&◌}
-use Rattle.laws.specs.Choice.{if◌then◌else◌}
+use Rattle.laws.specs.Choice.{when◌then◌else◌}
 use Rattle.module_types.specs.declared.Depth.{Depth}
 use Rattle.module_types.specs.declared.Depth.TheVariants.{Four, Eight, Sixteen}
 use Rattle.module_types.specs.declared.Settings.{Settings}
 
 -- Width w: 16 with MODE16, else 8.
 abbrev pub width_of : Settings → ℕ
-width_of s = if s.con1.mode16 then 16 else 8
+width_of s = when s.con1.mode16 then 16 else 8
 
 -- Document 02, Twelve: the words that a buffer holds in enhanced operation, as chosen at power-up.
 abbrev pub words_of : Depth → ℕ
@@ -17,7 +17,7 @@ words_of Sixteen = 16
 
 -- Words that each buffer holds: the chosen depth with SPIBEN, else 1.
 abbrev pub depth_of : Settings → ℕ
-depth_of s = if s.con2.spiben then words_of s.depth else 1
+depth_of s = when s.con2.spiben then words_of s.depth else 1
 
 -- Document 02, Three: with FRMEN a module is framed. SPIFSD 0 makes it a frame host, which gives pulses on SS; SPIFSD 1 makes
 -- it a frame client, which samples them there.
@@ -43,7 +43,7 @@ clock_stops s = not (framed s)
 
 -- A module that begins nothing if no word is left to send: an unframed host and a frame host. The others send a filler.
 abbrev pub silent : Settings → Bool
-silent s = if framed s then not s.con2.spifsd else s.con1.msten
+silent s = when framed s then not s.con2.spifsd else s.con1.msten
 
 -- A client that watches its select pin: MSTEN 0 with SSEN.
 abbrev pub ssen_client : Settings → Bool

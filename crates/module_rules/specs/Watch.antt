@@ -1,9 +1,9 @@
 -- How this module is watched: what the law of word order (crates/word_order) must know of it, and what each call and its answer tell.
 use Rattle.std.specs.Prelude.{ℕ, ◌*◌, ◌%◌, ◌^◌, Bool, true, false, not, ◌&&◌, ◌||◌, List, [], ◌∷◌, ◌++◌, eqb}
 use Rattle.std.specs.Bool.{beq}
-use Rattle.laws.specs.Choice.{if◌then◌else◌}
+use Rattle.laws.specs.Choice.{when◌then◌else◌}
 use Rattle.word_order.specs.Bits.{bit_of}
-use Rattle.word_order.specs.Ledger.{Terms, dropsNew, Op, accepts, reads, begins, clocks, forgets}
+use Rattle.word_order.specs.Ledger.{Terms, drops_new, Op, accepts, reads, begins, clocks, forgets}
 use Rattle.word_order.specs.Port.{Way, idle, sends, Port}
 use Rattle.word_order.specs.Machine.{Entry, opens, notes, Watching}
 use Rattle.module_types.specs.declared.Settings.{Settings}
@@ -28,7 +28,7 @@ terms s =
       width = word_bits s;
       depth = room s;
       -- a received word that finds the buffer full is dropped; in enhanced operation that ends reception (document 02, Four)
-      policy = dropsNew s.con2.spiben;
+      policy = drops_new s.con2.spiben;
       samples = sampled_at s;
       -- a word takes 2w edges
       last = 2 * word_bits s;
@@ -91,13 +91,13 @@ may_begin s x shown sck = not (beq sck s.con1.ckp) && started_by s x.pulse shown
 
 abbrev pub edge_ops : Sight → Memory → Bool → Bool → List Op
 edge_ops v x sck sdi =
-    (if may_begin v.settings x v.shown sck then begins ∷ [] else []) ++ (clocks v.sdo sdi ∷ [])
+    (when may_begin v.settings x v.shown sck then begins ∷ [] else []) ++ (clocks v.sdo sdi ∷ [])
 
 -- The levels SCK, SDI and SS are shown: select first, and an SCK level unlike the remembered one is an edge.
 abbrev pub level_ops : Sight → Memory → Bool → Bool → Bool → List Op
 level_ops v x sck sdi ss =
-    if deaf v.settings ss then forgets ∷ []
-    else if beq sck x.sck then []
+    when deaf v.settings ss then forgets ∷ []
+    else when beq sck x.sck then []
     else edge_ops v x sck sdi
 
 abbrev pub levels_kept : Sight → Memory → Bool → Bool → Bool → Memory
@@ -106,20 +106,20 @@ levels_kept v x busy sck ss =
       sck = sck;
       ss = ss;
       pulse =
-          if deaf v.settings ss || beq sck x.sck then x.pulse
+          when deaf v.settings ss || beq sck x.sck then x.pulse
           else stands v.settings v.shown sck ss (not busy);
     }
 
 -- The select level that a tick tells: a frame client's, and else the one that is remembered.
 abbrev pub ss_of_tick : Sight → Memory → Bool → Bool
-ss_of_tick v x ss = if takes_pulses v.settings then ss else x.ss
+ss_of_tick v x ss = when takes_pulses v.settings then ss else x.ss
 
 -- The levels that a clock step shows: those of a tick to a host with its own clock, and else its own.
 abbrev pub sck_of_step : Sight → Memory → Bool → Bool
-sck_of_step v x sck = if clocks_itself v.settings.con1 then not x.sck else sck
+sck_of_step v x sck = when clocks_itself v.settings.con1 then not x.sck else sck
 
 abbrev pub ss_of_step : Sight → Memory → Bool → Bool
-ss_of_step v x ss = if clocks_itself v.settings.con1 then ss_of_tick v x ss else ss
+ss_of_step v x ss = when clocks_itself v.settings.con1 then ss_of_tick v x ss else ss
 
 -- A STAT write that turns SPIEN on.
 abbrev pub enabled_by : Sight → ℕ → ℕ → Bool
@@ -129,31 +129,31 @@ enabled_by v register value = is_done v.answer && (eqb register 0 && (not v.sett
 abbrev pub entry_of : Memory → Sight → Bool → ℕ → Call → Entry
 -- a BUF read told a word
 entry_of x v busy edges (Read register) =
-    if is_value v.answer && eqb register 3 then notes (reads (said_of v.answer).value ∷ []) else notes []
+    when is_value v.answer && eqb register 3 then notes (reads (said_of v.answer).value ∷ []) else notes []
 -- a BUF write was done: the accepted word is the w bits that it kept
 entry_of x v busy edges (Write register value) =
-    if is_done v.answer && eqb register 3 then notes (accepts (value % 2 ^ word_bits v.settings) ∷ [])
-    else if enabled_by v register value then opens
+    when is_done v.answer && eqb register 3 then notes (accepts (value % 2 ^ word_bits v.settings) ∷ [])
+    else when enabled_by v register value then opens
     else notes []
 -- a tick made an edge: the clock went to its other level
 entry_of x v busy edges (Tick sdi ss) =
-    if is_edge v.answer then notes (level_ops v x (not x.sck) sdi (ss_of_tick v x ss)) else notes []
+    when is_edge v.answer then notes (level_ops v x (not x.sck) sdi (ss_of_tick v x ss)) else notes []
 -- a pin call showed its levels
-entry_of x v busy edges (Pin sck sdi ss) = if is_done v.answer then notes (level_ops v x sck sdi ss) else notes []
+entry_of x v busy edges (Pin sck sdi ss) = when is_done v.answer then notes (level_ops v x sck sdi ss) else notes []
 -- a clock step was done
 entry_of x v busy edges (ClockStep sck sdi ss) =
-    if is_done v.answer then notes (level_ops v x (sck_of_step v x sck) sdi (ss_of_step v x ss)) else notes []
+    when is_done v.answer then notes (level_ops v x (sck_of_step v x sck) sdi (ss_of_step v x ss)) else notes []
 entry_of x v busy edges Clear = notes []
 
 -- What the watcher remembers after it, with a word on the wire then or none.
 abbrev pub memory_after : Memory → Sight → Bool → Call → Memory
 memory_after x v busy (Read register) = x
-memory_after x v busy (Write register value) = if enabled_by v register value then at_enabling v.settings else x
+memory_after x v busy (Write register value) = when enabled_by v register value then at_enabling v.settings else x
 memory_after x v busy (Tick sdi ss) =
-    if is_edge v.answer then levels_kept v x busy (not x.sck) (ss_of_tick v x ss) else x
-memory_after x v busy (Pin sck sdi ss) = if is_done v.answer then levels_kept v x busy sck ss else x
+    when is_edge v.answer then levels_kept v x busy (not x.sck) (ss_of_tick v x ss) else x
+memory_after x v busy (Pin sck sdi ss) = when is_done v.answer then levels_kept v x busy sck ss else x
 memory_after x v busy (ClockStep sck sdi ss) =
-    if is_done v.answer then levels_kept v x busy (sck_of_step v x sck) (ss_of_step v x ss) else x
+    when is_done v.answer then levels_kept v x busy (sck_of_step v x sck) (ss_of_step v x ss) else x
 memory_after x v busy Clear = x
 
 -- The module and its watcher. Its word order counts while it is enabled.

@@ -1,6 +1,6 @@
 -- The words in a module, as lists.
 use Rattle.std.specs.Prelude.{ℕ, ◌||◌, List, [], ◌∷◌, ◌++◌}
-use Rattle.laws.specs.Choice.{if◌then◌else◌}
+use Rattle.laws.specs.Choice.{when◌then◌else◌}
 use Rattle.module_types.specs.declared.Settings.{Settings}
 use Rattle.module_types.specs.declared.Module.{Module}
 use Rattle.module_types.specs.declared.Shift.{Shift}
@@ -20,7 +20,7 @@ unread_in m = unread (room m.settings) m.engine.receive
 abbrev pub unfinished : Settings → Shift → List ℕ
 unfinished s Free = []
 unfinished s (Loaded word) = word ∷ []
-unfinished s (Begun p) = if p.filler || heeds_select s then [] else p.word ∷ []
+unfinished s (Begun p) = when p.filler || heeds_select s then [] else p.word ∷ []
 
 abbrev pub left_buffer : Module → List ℕ
 left_buffer m = unfinished m.settings m.engine.shift

@@ -2,24 +2,25 @@
 // types their meaning are the definitions in specs/, and what follows from the rules is in proofs/.
 //
 // A level is a bool: true is high. Small fields keep one module small enough to pass by value.
+#![tactic(auto)]
 
 // The ring positions of the figure note in source document 004, kept apart so that none can stand for another:
 // where the CPU writes next and the SPI engine reads next in the transmit buffer, and where the CPU reads next and the
 // SPI engine writes next in the receive buffer.
-#[derive(Drop)]
+#[derive(Clone, Copy)]
 pub struct CpuWrite(pub u8);
 
-#[derive(Drop)]
+#[derive(Clone, Copy)]
 pub struct SpiRead(pub u8);
 
-#[derive(Drop)]
+#[derive(Clone, Copy)]
 pub struct CpuRead(pub u8);
 
-#[derive(Drop)]
+#[derive(Clone, Copy)]
 pub struct SpiWrite(pub u8);
 
 // The words waiting to be sent: `count` of them, the first at `read`.
-#[derive(Drop)]
+#[derive(Clone, Copy)]
 pub struct Transmit {
     pub words: [u16; 16],
     pub write: CpuWrite,
@@ -29,7 +30,7 @@ pub struct Transmit {
 
 // The received words not yet read: `count` of them, the first at `read`. The mark stands from an overflow in enhanced
 // operation until the module is disabled.
-#[derive(Drop)]
+#[derive(Clone, Copy)]
 pub struct Receive {
     pub words: [u16; 16],
     pub write: SpiWrite,
@@ -40,7 +41,7 @@ pub struct Receive {
 
 // A word between its first edge and its last: a filler or an accepted word, the edges it was given, and the bits
 // received so far.
-#[derive(Drop)]
+#[derive(Clone, Copy)]
 pub struct Progress {
     pub filler: bool,
     pub word: u16,
@@ -49,7 +50,7 @@ pub struct Progress {
 }
 
 // The shift register: free, holding a word that has not begun, or within a word.
-#[derive(Drop)]
+#[derive(Clone, Copy)]
 pub enum Shift {
     Free,
     Loaded(u16),
@@ -58,7 +59,7 @@ pub enum Shift {
 
 // The remembered clock and select levels, the level that SDO has or would have, and whether a frame pulse stands: given on
 // SS by a frame host, or sampled there by a frame client at its last sample edge.
-#[derive(Drop)]
+#[derive(Clone, Copy)]
 pub struct Pins {
     pub sck: bool,
     pub ss: bool,
@@ -67,7 +68,7 @@ pub struct Pins {
 }
 
 // CON1 by its bits.
-#[derive(Drop)]
+#[derive(Clone, Copy)]
 pub struct Con1 {
     pub dissck: bool,
     pub dissdo: bool,
@@ -82,7 +83,7 @@ pub struct Con1 {
 }
 
 // CON2 by its bits.
-#[derive(Drop)]
+#[derive(Clone, Copy)]
 pub struct Con2 {
     pub frmen: bool,
     pub spifsd: bool,
@@ -92,7 +93,7 @@ pub struct Con2 {
 }
 
 // How many words each buffer holds in enhanced operation. Power-up chooses it (document 02, Twelve).
-#[derive(Drop)]
+#[derive(Clone, Copy)]
 pub enum Depth {
     Four,
     Eight,
@@ -100,7 +101,7 @@ pub enum Depth {
 }
 
 // What power-up and register writes set and edges only look at.
-#[derive(Drop)]
+#[derive(Clone, Copy)]
 pub struct Settings {
     pub depth: Depth,
     pub spien: bool,
@@ -111,7 +112,7 @@ pub struct Settings {
 }
 
 // What words and edges move: the two buffers, the shift register, the pins, SPIROV and the interrupt flag.
-#[derive(Drop)]
+#[derive(Clone, Copy)]
 pub struct Engine {
     pub transmit: Transmit,
     pub receive: Receive,
@@ -122,7 +123,7 @@ pub struct Engine {
 }
 
 // One SPI module.
-#[derive(Drop)]
+#[derive(Clone, Copy)]
 pub struct Module {
     pub settings: Settings,
     pub engine: Engine,
@@ -131,7 +132,7 @@ pub struct Module {
 // What can raise the interrupt flag, each with the number of words that it leaves: a word taken by a BUF read (unread
 // words), a received word appended (unread words), a word that left the transmit buffer (waiting words), a word finished
 // (words left to send), and a word written to BUF (waiting words).
-#[derive(Drop)]
+#[derive(Clone, Copy)]
 pub enum Event {
     Taken(u8),
     Appended(u8),
@@ -140,8 +141,8 @@ pub enum Event {
     Written(u8),
 }
 
-// Why a call is refused. The paper's numbers are given by numberOf in specs/Refusals.antt.
-#[derive(Drop)]
+// Why a call is refused. The paper's numbers are given by number_of in specs/Refusals.antt.
+#[derive(Clone, Copy)]
 pub enum Refusal {
     NoSuchRegister,
     Disabled,
@@ -161,7 +162,7 @@ pub enum Refusal {
 }
 
 // What a call answers: a refusal, nothing to tell, a register's value, no edge, or one edge made.
-#[derive(Drop)]
+#[derive(Clone, Copy)]
 pub enum Answer {
     Refused(Refusal),
     Done,
@@ -171,8 +172,8 @@ pub enum Answer {
 }
 
 // An answer in the paper's numbers: the refusal number, 0 if not refused; the register value, 0 if none is told; and
-// how many edges a tick made. saidOf in specs/Refusals.antt gives them for each answer.
-#[derive(Drop)]
+// how many edges a tick made. said_of in specs/Refusals.antt gives them for each answer.
+#[derive(Clone, Copy)]
 pub struct Said {
     pub kind: u8,
     pub number: u8,
@@ -181,7 +182,7 @@ pub struct Said {
 }
 
 // What every call returns: its answer, and the module after it.
-#[derive(Drop)]
+#[derive(Clone, Copy)]
 pub struct Outcome {
     pub answer: Answer,
     pub after: Module,
@@ -189,7 +190,7 @@ pub struct Outcome {
 
 // The calls on one module: read a register, write a register, tick with the levels SDI and SS, see the pins SCK, SDI and
 // SS, step the clock of whatever module it is with these three, clear the interrupt flag.
-#[derive(Drop)]
+#[derive(Clone, Copy)]
 pub enum Call {
     Read(u32),
     Write(u32, u16),
@@ -200,7 +201,7 @@ pub enum Call {
 }
 
 // A pin that the module may drive, SDO or SS, as others see it.
-#[derive(Drop)]
+#[derive(Clone, Copy)]
 pub enum Output {
     Low,
     High,

@@ -3,7 +3,8 @@
 --     buffer_empty, buffer_push, buffer_pop   empty, after a push, after a pop
 --     buffer_first_stays                      a push behind others leaves the first word as it was
 -- Assumes nothing.
-use Rattle.laws.proofs.Common.{ℕ, zero, suc, ◌+◌, ◌-◌, ◌^◌, ◌<◌, ◌≤◌, List, [], ◌∷◌, ◌≡◌, refl, sym, ◌∙◌, one-le-pow, arith}
+use Rattle.std.specs.Prelude.{◌+◌, ◌-◌, ◌^◌, ◌<◌, ◌≤◌, ◌∷◌, ◌≡◌}
+use Rattle.laws.proofs.Common.{ℕ, zero, suc, List, [], refl, sym, ◌∙◌, one-le-pow, arith}
 use Rattle.laws.proofs.Common.{get_or, set, replicate, length-set, length-replicate, get_or-set_other}
 use Rattle.ring.specs.Ring.{next, BufferHolds}
 use Rattle.ring.proofs.Positions.{ring_empty, ring_push, ring_pop, after_apart}

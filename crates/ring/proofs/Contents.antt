@@ -7,7 +7,8 @@
 --     pop_takes_first   a pop takes the first: what a ring holds is that cell, then what it holds after the pop
 -- That positions stay in range and the count apart is in proofs/Positions.antt.
 -- Assumes nothing.
-use Rattle.laws.proofs.Common.{ℕ, zero, suc, ◌+◌, ◌-◌, ◌<◌, ◌≤◌, ◌≡◌, refl, sym, ap, ap₂, ◌∙◌, List, [], ◌∷◌, ◌++◌, arith}
+use Rattle.std.specs.Prelude.{◌+◌, ◌-◌, ◌<◌, ◌≤◌, ◌≡◌, ◌∷◌, ◌++◌}
+use Rattle.laws.proofs.Common.{ℕ, zero, suc, refl, sym, ap, ap₂, ◌∙◌, List, [], arith}
 use Rattle.laws.proofs.Common.{length, get_or, set, get_or-set_same, get_or-set_other}
 use native.Mathlib.Numerals.{add-one}
 use Rattle.ring.specs.Ring.{next, contents, after, RingHolds}

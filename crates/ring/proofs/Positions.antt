@@ -5,7 +5,8 @@
 --     push_apart, pop_apart         the distance after a push and after a pop
 --     ring_empty, ring_push, ring_pop   RingHolds of the empty ring, and after a push and a pop
 -- Assumes nothing.
-use Rattle.laws.proofs.Common.{ℕ, ◌+◌, ◌-◌, ◌<◌, ◌≤◌, ◌≡◌, sym, ◌∙◌, arith, ltb-true, ltb-false, ltb, so_lt, not_so_lt}
+use Rattle.std.specs.Prelude.{◌+◌, ◌-◌, ◌<◌, ◌≤◌, ◌≡◌}
+use Rattle.laws.proofs.Common.{ℕ, sym, ◌∙◌, arith, ltb-true, ltb-false, ltb, so_lt, not_so_lt}
 use Rattle.laws.proofs.Common.{if_keeps}
 use mathlib.Core.Logic.{◌≢◌}
 use Rattle.ring.specs.Ring.{next, after, RingHolds}

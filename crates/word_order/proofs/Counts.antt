@@ -4,11 +4,12 @@
 --     accepted_ops, read_ops_lem   the words accepted and read
 --     flag_grows     a flag that losses set, by the ledger
 -- Assumes nothing.
-use Rattle.laws.proofs.Common.{ℕ, zero, suc, ◌+◌, Bool, true, false, not, ◌&&◌, ◌||◌, List, [], ◌∷◌, ◌≡◌, refl, sym, ap, ◌∙◌}
-use Rattle.laws.proofs.Common.{arith, lt-ltb, le-ltb, ltb, length, length-append, if◌then◌else◌, if_keeps}
+use Rattle.std.specs.Prelude.{◌+◌, ◌&&◌, ◌||◌, ◌∷◌, ◌≡◌}
+use Rattle.laws.proofs.Common.{ℕ, zero, suc, Bool, true, false, not, List, [], refl, sym, ap, ◌∙◌}
+use Rattle.laws.proofs.Common.{arith, lt-ltb, le-ltb, ltb, length, length-append, when◌then◌else◌, if_keeps}
 use mir.Val.{bool_byte}
 use Rattle.word_order.specs.Bits.{spelled}
-use Rattle.word_order.specs.Ledger.{Policy, dropsNew, replacesOld, Terms, Op, accepts, reads, begins, clocks, forgets, OnWire, Wire, quiet, busy, Passed, Ledger, marked_in, lost_of, loses, spoiled_from, spoiled, landed, counted, closed, with_wire, given, noted, noted_all}
+use Rattle.word_order.specs.Ledger.{Policy, drops_new, replaces_old, Terms, Op, accepts, reads, begins, clocks, forgets, OnWire, Wire, quiet, busy, Passed, Ledger, marked_in, lost_of, loses, spoiled_from, spoiled, landed, counted, closed, with_wire, given, noted, noted_all}
 use Rattle.word_order.specs.Port.{Way, idle, sends, Port, loses_at, played, LegalAll, Whole, ends_at, finishes_op, loses_op, counted_in, finishes_in, losses_in, accepts_op, reads_op}
 use Rattle.word_order.proofs.Tied.{Carries, Tied, loses_same}
 use Rattle.word_order.proofs.Operations.{landed_lost, tied_op}
@@ -81,9 +82,9 @@ spoiled_length (a ∷ rest) k = go a.marked k (spoiled_length rest)
     go false (suc k) h = ap suc (h k)
 
 landed_length : (y : Policy) (lost : Bool) (word : ℕ) (l : Ledger) → length (landed y lost word l) ≡ arrived l + 1
-landed_length (dropsNew e) lost word l = length-append l.arrivals _
-landed_length replacesOld lost word l =
-    length-append (if lost then spoiled l.arrivals (length l.read) else l.arrivals) _
+landed_length (drops_new e) lost word l = length-append l.arrivals _
+landed_length replaces_old lost word l =
+    length-append (when lost then spoiled l.arrivals (length l.read) else l.arrivals) _
     ∙ ap (λ (n : ℕ). n + 1)
     (if_keeps (λ (q : List Passed). length q ≡ arrived l) lost _ _ (λ e. spoiled_length l.arrivals (length l.read)) (λ e. refl))
 

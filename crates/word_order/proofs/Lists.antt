@@ -1,7 +1,8 @@
 -- Operations behind one another.
 --     played_append, legal_append, counted_append   what they do to a port, that they are legal, and what is counted of them
 -- Assumes nothing.
-use Rattle.laws.proofs.Common.{◌+◌, Bool, List, [], ◌∷◌, ◌++◌, ◌≡◌, refl, arith}
+use Rattle.std.specs.Prelude.{◌+◌, ◌∷◌, ◌++◌, ◌≡◌}
+use Rattle.laws.proofs.Common.{Bool, List, [], refl, arith}
 use Rattle.word_order.specs.Ledger.{Terms, Op}
 use Rattle.word_order.specs.Port.{Port, played, played_all, LegalAll, counted_in}
 

@@ -5,12 +5,13 @@
 --     tied_op         one legal operation
 --     tied_ops        a list of them
 -- Assumes nothing.
-use Rattle.laws.proofs.Common.{ℕ, ◌+◌, ◌*◌, ◌^◌, ◌≤◌, ◌<◌, Bool, true, false, ◌&&◌, ◌||◌, or-false, List, [], ◌∷◌, ◌++◌}
-use Rattle.laws.proofs.Common.{append_assoc, append-nil, ◌≡◌, refl, sym, ap, ap₂, ◌∙◌, arith, ltb-true, ltb-false, leb-true}
-use Rattle.laws.proofs.Common.{lt-ltb, le-ltb, ltb, leb, length, drop, if◌then◌else◌, if_keeps, if_both}
+use Rattle.std.specs.Prelude.{◌+◌, ◌*◌, ◌^◌, ◌≤◌, ◌<◌, ◌&&◌, ◌||◌, ◌∷◌, ◌++◌, ◌≡◌}
+use Rattle.laws.proofs.Common.{ℕ, Bool, true, false, or-false, List, []}
+use Rattle.laws.proofs.Common.{append_assoc, append-nil, refl, sym, ap, ap₂, ◌∙◌, arith, ltb-true, ltb-false, leb-true}
+use Rattle.laws.proofs.Common.{lt-ltb, le-ltb, ltb, leb, length, drop, when◌then◌else◌, if_keeps, if_both}
 use mir.Val.{bool_byte}
 use Rattle.word_order.specs.Bits.{top_bits, spelled, sampled_in}
-use Rattle.word_order.specs.Ledger.{Policy, dropsNew, replacesOld, Terms, Op, accepts, reads, begins, clocks, forgets, OnWire, Wire, quiet, busy, Ledger, unmarked, sent, kept, marked_in, lost_of, ends, loses, spoiled, landed, counted, closed, given, noted, noted_all}
+use Rattle.word_order.specs.Ledger.{Policy, drops_new, replaces_old, Terms, Op, accepts, reads, begins, clocks, forgets, OnWire, Wire, quiet, busy, Ledger, unmarked, sent, kept, marked_in, lost_of, ends, loses, spoiled, landed, counted, closed, given, noted, noted_all}
 use Rattle.word_order.specs.Port.{Under, Way, idle, sends, Port, loses_at, landed_in, received_after, progressed, finished, advanced, played, played_all, Shows, ShowsOn, Legal, LegalAll, Whole}
 use Rattle.word_order.proofs.WordBits.{spelled_last, spelled_top_bits, sampled_more, sampled_same}
 use Rattle.word_order.proofs.Tied.{AllBelow, SameWord, Carries, Tied, unmarked_last, spoiled_one, marked_last, below_last, below_rest, loses_same, none_left_lem, some_left, carries_more, begun_carries}
@@ -49,11 +50,11 @@ counted_word t owed u w sdo sdi c s =
     }))
 
 -- Where the old word is lost there is one.
-marked_not : (y : Policy) → y ≡ replacesOld → ends y ≡ false
-marked_not (dropsNew ends) e = cc
-marked_not replacesOld e = refl
+marked_not : (y : Policy) → y ≡ replaces_old → ends y ≡ false
+marked_not (drops_new ends) e = cc
+marked_not replaces_old e = refl
 
-full_some : (t : Terms) → Whole t → (p : Port) (l : Ledger) → Tied t p l → t.policy ≡ replacesOld → loses_at t p ≡ true →
+full_some : (t : Terms) → Whole t → (p : Port) (l : Ledger) → Tied t p l → t.policy ≡ replaces_old → loses_at t p ≡ true →
     1 ≤ length p.unread
 unfolding loses_at
 full_some t w p l h by is =
@@ -65,7 +66,7 @@ full_some t w p l h by is =
     omega (arith, w.deep)
 
 -- It is then gone from the words kept.
-old_spoiled : (t : Terms) → Whole t → (p : Port) (l : Ledger) → Tied t p l → t.policy ≡ replacesOld → loses_at t p ≡ true →
+old_spoiled : (t : Terms) → Whole t → (p : Port) (l : Ledger) → Tied t p l → t.policy ≡ replaces_old → loses_at t p ≡ true →
     (unmarked (spoiled l.arrivals (length l.read)) ≡ l.read ++ drop 1 p.unread)
     × (marked_in (spoiled l.arrivals (length l.read)) ≡ lost_of l + 1)
 old_spoiled t w p l h by is = go p.unread refl
@@ -80,14 +81,14 @@ old_spoiled t w p l h by is = go p.unread refl
 landed_kept : (t : Terms) → Whole t → (p : Port) (l : Ledger) → Tied t p l → (word : ℕ) (lost : Bool) → loses_at t p ≡ lost →
     (y : Policy) → t.policy ≡ y →
     unmarked (landed y lost word l) ≡ l.read ++ landed_in y lost word p.unread
-unfolding if◌then◌else◌ loses_at
-landed_kept t w p l h word true is (dropsNew ends) by =
+unfolding when◌then◌else◌ loses_at
+landed_kept t w p l h word true is (drops_new ends) by =
     unmarked_last l.arrivals _ ∙ append-nil (kept l) ∙ h.receiving
-landed_kept t w p l h word false is (dropsNew ends) by =
+landed_kept t w p l h word false is (drops_new ends) by =
     unmarked_last l.arrivals _ ∙ ap (λ (q : List ℕ). q ++ (word ∷ [])) h.receiving ∙ append_assoc l.read p.unread _
-landed_kept t w p l h word false is replacesOld by =
+landed_kept t w p l h word false is replaces_old by =
     unmarked_last l.arrivals _ ∙ ap (λ (q : List ℕ). q ++ (word ∷ [])) h.receiving ∙ append_assoc l.read p.unread _
-landed_kept t w p l h word true is replacesOld by =
+landed_kept t w p l h word true is replaces_old by =
     unmarked_last (spoiled l.arrivals (length l.read)) _
     ∙ ap (λ (q : List ℕ). q ++ (word ∷ [])) (old_spoiled t w p l h by is).0
     ∙ append_assoc l.read (drop 1 p.unread) _
@@ -95,11 +96,11 @@ landed_kept t w p l h word true is replacesOld by =
 -- One word more is lost exactly if the port says so.
 pub landed_lost : (t : Terms) → Whole t → (p : Port) (l : Ledger) → Tied t p l → (word : ℕ) (lost : Bool) → loses_at t p ≡ lost →
     (y : Policy) → t.policy ≡ y → marked_in (landed y lost word l) ≡ lost_of l + bool_byte lost
-unfolding if◌then◌else◌
-landed_lost t w p l h word lost is (dropsNew ends) by = marked_last l.arrivals _
-landed_lost t w p l h word false is replacesOld by = marked_last l.arrivals _
-landed_lost t w p l h word true is replacesOld by =
-    let last : marked_in (landed replacesOld true word l) ≡ marked_in (spoiled l.arrivals (length l.read)) + 0 =
+unfolding when◌then◌else◌
+landed_lost t w p l h word lost is (drops_new ends) by = marked_last l.arrivals _
+landed_lost t w p l h word false is replaces_old by = marked_last l.arrivals _
+landed_lost t w p l h word true is replaces_old by =
+    let last : marked_in (landed replaces_old true word l) ≡ marked_in (spoiled l.arrivals (length l.read)) + 0 =
     marked_last (spoiled l.arrivals (length l.read)) _ in
     omega (arith, (old_spoiled t w p l h by is).1)
 
@@ -118,8 +119,8 @@ mark_law false x b = refl
 
 -- The sent word.
 sent_law : (filler : Bool) (word : ℕ) (before owed : List ℕ) → (filler ≡ false → owed ≡ word ∷ drop 1 owed) →
-    before ++ owed ≡ (before ++ (if filler then [] else word ∷ [])) ++ (if filler then owed else drop 1 owed)
-unfolding if◌then◌else◌
+    before ++ owed ≡ (before ++ (when filler then [] else word ∷ [])) ++ (when filler then owed else drop 1 owed)
+unfolding when◌then◌else◌
 sent_law true word before owed e = ap (λ (q : List ℕ). q ++ owed) (sym (append-nil before))
 sent_law false word before owed e =
     ap (λ (q : List ℕ). before ++ q) (e refl) ∙ sym (append_assoc before (word ∷ []) (drop 1 owed))

@@ -5,7 +5,8 @@
 --     calls_tied    a list of calls
 --     in_order_lem      the law
 -- Assumes nothing.
-use Rattle.laws.proofs.Common.{ℕ, Bool, true, not, List, [], ◌∷◌, ◌≡◌, refl, sym, subst, subst₂}
+use Rattle.std.specs.Prelude.{◌∷◌, ◌≡◌}
+use Rattle.laws.proofs.Common.{ℕ, Bool, true, not, List, [], refl, sym, subst, subst₂}
 use Rattle.word_order.specs.Ledger.{Terms, Wire, quiet, busy, Ledger, opened, is_quiet, edges_given}
 use Rattle.word_order.specs.Port.{Way, idle, sends, Port, is_under, edges_under, Whole}
 use Rattle.word_order.specs.Machine.{Entry, opens, notes, entered, Step, Agrees, Watching, Machine, Watched, ledger_after, watched_call, watched_calls, InOrder}

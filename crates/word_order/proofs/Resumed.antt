@@ -2,8 +2,9 @@
 --     Fits           what the port's words must be
 --     tied_resumed   such a port and its history
 -- Assumes nothing.
-use Rattle.laws.proofs.Common.{ℕ, ◌^◌, ◌<◌, Bool, true, false, ◌&&◌, List, [], ◌∷◌, ◌++◌, append-nil, ◌≡◌, refl, sym, ap, ◌∙◌}
-use Rattle.laws.proofs.Common.{arith, ltb, drop, if◌then◌else◌}
+use Rattle.std.specs.Prelude.{◌^◌, ◌<◌, ◌&&◌, ◌∷◌, ◌++◌, ◌≡◌}
+use Rattle.laws.proofs.Common.{ℕ, Bool, true, false, List, [], append-nil, refl, sym, ap, ◌∙◌}
+use Rattle.laws.proofs.Common.{arith, ltb, drop, when◌then◌else◌}
 use Rattle.word_order.specs.Bits.{sampled_in}
 use Rattle.word_order.specs.Ledger.{Terms, Passed, unmarked, marked_in, ends}
 use Rattle.word_order.specs.Port.{Under, Way, idle, sends, Port, wire_from, all_unmarked, resumed}
@@ -28,7 +29,7 @@ pub record Fits (t : Terms) (p : Port) : Type 0 where
 
 -- The unread words have no mark; behind them stands the lost one, if any.
 kept_resumed : (words : List ℕ) (last : List Passed) → unmarked (all_unmarked words ++ last) ≡ words ++ unmarked last
-unfolding if◌then◌else◌
+unfolding when◌then◌else◌
 kept_resumed [] last = refl
 kept_resumed (word ∷ words) last = ap (λ (q : List ℕ). word ∷ q) (kept_resumed words last)
 
@@ -37,15 +38,15 @@ lost_resumed [] last = refl
 lost_resumed (word ∷ words) last = let h : marked_in (all_unmarked words ++ last) ≡ marked_in last = lost_resumed words last in omega arith
 
 abbrev last_of : Bool → List Passed
-last_of marked = if marked then record { word = 0; marked = true } ∷ [] else []
+last_of marked = when marked then record { word = 0; marked = true } ∷ [] else []
 
 last_kept : (marked : Bool) → unmarked (last_of marked) ≡ []
-unfolding if◌then◌else◌
+unfolding when◌then◌else◌
 last_kept true = refl
 last_kept false = refl
 
 last_marked : (marked e : Bool) → (marked ≡ true → e ≡ true) → marked ≡ (e && ltb 0 (marked_in (last_of marked)))
-unfolding if◌then◌else◌
+unfolding when◌then◌else◌
 last_marked true e h = sym (ap (λ (b : Bool). b && true) (h refl))
 last_marked false true h = refl
 last_marked false false h = refl

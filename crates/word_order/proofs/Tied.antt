@@ -3,9 +3,10 @@
 --     tied_op    one legal operation
 --     tied_ops   a list of them
 -- Assumes nothing.
-use Rattle.laws.proofs.Common.{ℕ, suc, ◌+◌, ◌^◌, ◌≤◌, ◌<◌, Bool, true, false, ◌&&◌, ◌||◌, List, [], ◌∷◌, ◌++◌, ◌≡◌, refl, sym}
+use Rattle.std.specs.Prelude.{◌+◌, ◌^◌, ◌≤◌, ◌<◌, ◌&&◌, ◌||◌, ◌∷◌, ◌++◌, ◌≡◌}
+use Rattle.laws.proofs.Common.{ℕ, suc, Bool, true, false, List, [], refl, sym}
 use Rattle.laws.proofs.Common.{ap, ap₂, subst, ◌∙◌, arith, leb-true, leb-false, lt-ltb, le-ltb, le-leb, lt-leb, ltb, leb}
-use Rattle.laws.proofs.Common.{length, drop, length-append, if◌then◌else◌, if_both, if_true, if_false, clash}
+use Rattle.laws.proofs.Common.{length, drop, length-append, when◌then◌else◌, if_both, if_true, if_false, clash}
 use mir.Val.{bool_byte}
 use lib.Pow.{pow_pos}
 use Rattle.word_order.specs.Bits.{top_bits, spelled, sampled_in}
@@ -70,25 +71,25 @@ first_stays word more (x ∷ owed) e = ap (λ (v : ℕ). v ∷ (owed ++ (more �
 
 -- One more word that passed is among the unmarked ones unless it is marked.
 pub unmarked_last : (l : List Passed) (a : Passed) →
-    unmarked (l ++ (a ∷ [])) ≡ unmarked l ++ (if a.marked then [] else a.word ∷ [])
-unfolding if◌then◌else◌
+    unmarked (l ++ (a ∷ [])) ≡ unmarked l ++ (when a.marked then [] else a.word ∷ [])
+unfolding when◌then◌else◌
 unmarked_last [] a = refl
 unmarked_last (b ∷ l) a = go b.marked _ _ (unmarked_last l a)
   where
-    go : (m : Bool) (all front : List ℕ) → all ≡ front ++ (if a.marked then [] else a.word ∷ []) →
-        (if m then all else b.word ∷ all) ≡ (if m then front else b.word ∷ front) ++ (if a.marked then [] else a.word ∷ [])
+    go : (m : Bool) (all front : List ℕ) → all ≡ front ++ (when a.marked then [] else a.word ∷ []) →
+        (when m then all else b.word ∷ all) ≡ (when m then front else b.word ∷ front) ++ (when a.marked then [] else a.word ∷ [])
     go true all front e = e
     go false all front e = ap (λ (q : List ℕ). b.word ∷ q) e
 
 -- The word number k gets its mark: it is gone from the unmarked ones, and one word more has a mark.
 pub spoiled_one : (l : List Passed) (before rest : List ℕ) (word : ℕ) → unmarked l ≡ before ++ (word ∷ rest) →
     (unmarked (spoiled l (length before)) ≡ before ++ rest) × (marked_in (spoiled l (length before)) ≡ marked_in l + 1)
-unfolding if◌then◌else◌
+unfolding when◌then◌else◌
 spoiled_one [] [] rest word e = let z : ◌≡◌ {A = ℕ} 0 1 = cc in absurd (omega arith)
 spoiled_one [] (x ∷ before) rest word e = let z : ◌≡◌ {A = ℕ} 0 1 = cc in absurd (omega arith)
 spoiled_one (a ∷ l) before rest word e = go a.marked refl before e (λ b f. spoiled_one l b rest word f)
   where
-    go : (m : Bool) → a.marked ≡ m → (b : List ℕ) → (if m then unmarked l else a.word ∷ unmarked l) ≡ b ++ (word ∷ rest) →
+    go : (m : Bool) → a.marked ≡ m → (b : List ℕ) → (when m then unmarked l else a.word ∷ unmarked l) ≡ b ++ (word ∷ rest) →
         ((c : List ℕ) → unmarked l ≡ c ++ (word ∷ rest) →
         (unmarked (spoiled l (length c)) ≡ c ++ rest) × (marked_in (spoiled l (length c)) ≡ marked_in l + 1)) →
         (unmarked (spoiled_from m (length b) a l (spoiled l)) ≡ b ++ rest)

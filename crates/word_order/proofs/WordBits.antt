@@ -5,8 +5,9 @@
 --     sampled_more, sampled_same   the next edge is sampled, or is not
 --     bit_most             a bit counts at most 1
 -- Assumes nothing.
-use Rattle.laws.proofs.Common.{ℕ, zero, suc, ◌+◌, ◌*◌, ◌-◌, ◌/◌, ◌%◌, ◌^◌, ◌≤◌, ◌<◌, Bool, true, false, List, [], ◌∷◌, ◌++◌}
-use Rattle.laws.proofs.Common.{◌≡◌, refl, sym, ap, ap₂, ◌∙◌, pow-succ', div-div-eq-div-mul, arith, eqb-true, eqb-false}
+use Rattle.std.specs.Prelude.{◌+◌, ◌*◌, ◌-◌, ◌/◌, ◌%◌, ◌^◌, ◌≤◌, ◌<◌, ◌∷◌, ◌++◌, ◌≡◌}
+use Rattle.laws.proofs.Common.{ℕ, zero, suc, Bool, true, false, List, []}
+use Rattle.laws.proofs.Common.{refl, sym, ap, ap₂, ◌∙◌, pow-succ', div-div-eq-div-mul, arith, eqb-true, eqb-false}
 use Rattle.laws.proofs.Common.{eq-eqb, ne_eqb, eqb}
 use mir.Val.{bool_byte}
 use native.Mathlib.Numerals.{add-one}

@@ -4,14 +4,14 @@
 -- edge that a port does not count is no operation, and one that carries no bit is an edge that is not sampled.
 use Rattle.std.specs.Prelude.{ℕ, zero, suc, ◌+◌, ◌-◌, Bool, true, false, ◌&&◌, ◌||◌, List, [], ◌∷◌, ◌++◌, ltb, leb, length}
 use mir.Val.{bool_byte}
-use Rattle.laws.specs.Choice.{if◌then◌else◌}
+use Rattle.laws.specs.Choice.{when◌then◌else◌}
 use Rattle.word_order.specs.Bits.{spelled}
 
 -- Which word is lost when a received one finds the buffer full: the new one, after which, if so said, nothing more is received; or
 -- the first unread one, which makes room for the new one.
 pub data Policy : Type 0 where
-  dropsNew : Bool → Policy
-  replacesOld : Policy
+  drops_new : Bool → Policy
+  replaces_old : Policy
 
 pub record Terms : Type 0 where
   -- the bits of a word
@@ -102,7 +102,7 @@ words_of (a ∷ rest) = a.word ∷ words_of rest
 -- The words without a mark: those fully sent, and those received and not lost.
 abbrev pub unmarked : List Passed → List ℕ
 unmarked [] = []
-unmarked (a ∷ rest) = if a.marked then unmarked rest else a.word ∷ unmarked rest
+unmarked (a ∷ rest) = when a.marked then unmarked rest else a.word ∷ unmarked rest
 
 abbrev pub sent : Ledger → List ℕ
 sent l = unmarked l.departures
@@ -128,8 +128,8 @@ left_to_send l = ltb (length (sent l)) (length l.accepted)
 
 -- Whether nothing more is received once a word was lost.
 abbrev pub ends : Policy → Bool
-ends (dropsNew e) = e
-ends replacesOld = false
+ends (drops_new e) = e
+ends replaces_old = false
 
 -- A word is lost as another comes in: the words kept and not read are as many as the buffer holds, or one was lost where nothing
 -- more is received then.
@@ -148,16 +148,16 @@ spoiled (a ∷ rest) k = spoiled_from a.marked k a rest (spoiled rest)
 
 -- The arrivals once `word` has come in, a word being lost or not.
 abbrev pub landed : Policy → Bool → ℕ → Ledger → List Passed
-landed (dropsNew e) lost word l = l.arrivals ++ (record { word = word; marked = lost } ∷ [])
-landed replacesOld lost word l =
-    (if lost then spoiled l.arrivals (length l.read) else l.arrivals) ++ (record { word = word; marked = false } ∷ [])
+landed (drops_new e) lost word l = l.arrivals ++ (record { word = word; marked = lost } ∷ [])
+landed replaces_old lost word l =
+    (when lost then spoiled l.arrivals (length l.read) else l.arrivals) ++ (record { word = word; marked = false } ∷ [])
 
 -- A word that begins: the next accepted word, or a filler if none is left and the port is not silent then.
 abbrev pub fresh : Bool → OnWire
 fresh filler = record { filler = filler; edges = 0; shown = []; seen = [] }
 
 unfoldable pub first_on_wire : Terms → Ledger → Wire
-first_on_wire t l = if left_to_send l then busy (fresh false) else if t.silent then quiet else busy (fresh true)
+first_on_wire t l = when left_to_send l then busy (fresh false) else when t.silent then quiet else busy (fresh true)
 
 abbrev pub begun_on : Terms → Ledger → Wire → Wire
 begun_on t l quiet = first_on_wire t l
@@ -166,7 +166,7 @@ begun_on t l (busy w) = busy w
 -- The word at its next edge: one more is counted, and a sampled edge adds the levels of SDO and SDI.
 unfoldable pub counted : Terms → Bool → Bool → OnWire → OnWire
 counted t sdo sdi w =
-    if t.samples (w.edges + 1)
+    when t.samples (w.edges + 1)
     then record { filler = w.filler; edges = w.edges + 1; shown = w.shown ++ (sdo ∷ []); seen = w.seen ++ (sdi ∷ []) }
     else record { filler = w.filler; edges = w.edges + 1; shown = w.shown; seen = w.seen }
 
@@ -182,7 +182,7 @@ closed t w l =
 unfoldable pub given : Terms → Bool → Bool → Wire → Ledger → Ledger
 given t sdo sdi quiet l = l
 given t sdo sdi (busy w) l =
-    if ltb (w.edges + 1) t.last then with_wire (busy (counted t sdo sdi w)) l else closed t (counted t sdo sdi w) l
+    when ltb (w.edges + 1) t.last then with_wire (busy (counted t sdo sdi w)) l else closed t (counted t sdo sdi w) l
 
 -- What each operation enters.
 abbrev pub noted : Terms → Op → Ledger → Ledger

@@ -2,9 +2,9 @@
 -- in a ring, loaded, begun or still in its buffer, does not show here.
 use Rattle.std.specs.Prelude.{ℕ, ◌+◌, ◌*◌, ◌-◌, ◌^◌, ◌<◌, ◌≤◌, Bool, true, false, not, ◌&&◌, ◌||◌, List, [], ◌∷◌, ◌++◌, ◌≡◌, ltb, leb, length, drop}
 use mir.Val.{bool_byte}
-use Rattle.laws.specs.Choice.{if◌then◌else◌}
+use Rattle.laws.specs.Choice.{when◌then◌else◌}
 use Rattle.word_order.specs.Bits.{bit_of, top_bits, sampled_in}
-use Rattle.word_order.specs.Ledger.{Policy, dropsNew, replacesOld, Terms, Op, accepts, reads, begins, clocks, forgets, ends, Wire, quiet, busy, Passed, Ledger}
+use Rattle.word_order.specs.Ledger.{Policy, drops_new, replaces_old, Terms, Op, accepts, reads, begins, clocks, forgets, ends, Wire, quiet, busy, Passed, Ledger}
 
 -- A word under way: a filler or the first of the words owed, the edges it was given, and what was received so far.
 pub record Under : Type 0 where
@@ -36,8 +36,8 @@ loses_at t p = leb t.depth (length p.unread) || p.marked
 
 -- The unread words once another has come in, a word being lost or not.
 abbrev pub landed_in : Policy → Bool → ℕ → List ℕ → List ℕ
-landed_in (dropsNew e) lost word unread = if lost then unread else unread ++ (word ∷ [])
-landed_in replacesOld lost word unread = (if lost then drop 1 unread else unread) ++ (word ∷ [])
+landed_in (drops_new e) lost word unread = when lost then unread else unread ++ (word ∷ [])
+landed_in replaces_old lost word unread = (when lost then drop 1 unread else unread) ++ (word ∷ [])
 
 -- What begins: the first word owed, else a filler, or nothing if the port is silent then.
 abbrev pub fresh_word : Bool → ℕ → Under
@@ -45,7 +45,7 @@ fresh_word filler word = record { filler = filler; word = word; edges = 0; recei
 
 abbrev pub first_way : Bool → List ℕ → Way
 first_way silent (word ∷ rest) = sends (fresh_word false word)
-first_way silent [] = if silent then idle else sends (fresh_word true 0)
+first_way silent [] = when silent then idle else sends (fresh_word true 0)
 
 abbrev pub begun_way : Bool → List ℕ → Way → Way
 begun_way silent owed idle = first_way silent owed
@@ -53,7 +53,7 @@ begun_way silent owed (sends u) = sends u
 
 -- An edge of the word under way: one more is counted, and a sampled one brings a bit in behind the others.
 unfoldable pub received_after : Terms → Bool → Under → ℕ
-received_after t sdi u = if t.samples (u.edges + 1) then u.received * 2 + bool_byte sdi else u.received
+received_after t sdi u = when t.samples (u.edges + 1) then u.received * 2 + bool_byte sdi else u.received
 
 unfoldable pub progressed : Terms → Bool → Under → Under
 progressed t sdi u = record { filler = u.filler; word = u.word; edges = u.edges + 1; received = received_after t sdi u }
@@ -62,7 +62,7 @@ progressed t sdi u = record { filler = u.filler; word = u.word; edges = u.edges 
 unfoldable pub finished : Terms → Under → Port → Port
 finished t u p =
     record {
-      owed = if u.filler then p.owed else drop 1 p.owed;
+      owed = when u.filler then p.owed else drop 1 p.owed;
       way = idle;
       unread = landed_in t.policy (loses_at t p) u.received p.unread;
       marked = p.marked || (ends t.policy && loses_at t p);
@@ -71,7 +71,7 @@ finished t u p =
 unfoldable pub advanced : Terms → Bool → Way → Port → Port
 advanced t sdi idle p = p
 advanced t sdi (sends u) p =
-    if ltb (u.edges + 1) t.last then with_way (sends (progressed t sdi u)) p else finished t (progressed t sdi u) p
+    when ltb (u.edges + 1) t.last then with_way (sends (progressed t sdi u)) p else finished t (progressed t sdi u) p
 
 -- What each operation does to the port.
 abbrev pub played : Terms → Op → Port → Port
@@ -180,7 +180,7 @@ resumed t p =
     record {
       accepted = p.owed;
       departures = [];
-      arrivals = all_unmarked p.unread ++ (if p.marked then record { word = 0; marked = true } ∷ [] else []);
+      arrivals = all_unmarked p.unread ++ (when p.marked then record { word = 0; marked = true } ∷ [] else []);
       read = [];
       wire = wire_from t p.way;
     }

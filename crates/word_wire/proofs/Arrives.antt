@@ -3,10 +3,11 @@
 --     Arrives         the words on the wire at both ends, and those that passed it
 --     turn_arrives    both ends are given an edge, before which both may begin a word
 -- Assumes nothing.
-use Rattle.laws.proofs.Common.{ℕ, ◌+◌, Bool, true, false, not, ◌||◌, List, [], ◌∷◌, ◌++◌, append_assoc, ◌≡◌, refl, sym, ap}
-use Rattle.laws.proofs.Common.{ap₂, subst₂, ◌∙◌, ltb, leb, length, length-append, if◌then◌else◌, if_both, clash}
+use Rattle.std.specs.Prelude.{◌+◌, ◌||◌, ◌∷◌, ◌++◌, ◌≡◌}
+use Rattle.laws.proofs.Common.{ℕ, Bool, true, false, not, List, [], append_assoc, refl, sym, ap}
+use Rattle.laws.proofs.Common.{ap₂, subst₂, ◌∙◌, ltb, leb, length, length-append, when◌then◌else◌, if_both, clash}
 use Rattle.word_order.specs.Bits.{spelled}
-use Rattle.word_order.specs.Ledger.{words_of, Policy, dropsNew, Terms, begins, OnWire, Wire, quiet, busy, Passed, Ledger, left_to_send, ends, loses, landed, fresh, first_on_wire, counted, closed, given, begun_on, noted, noted_all}
+use Rattle.word_order.specs.Ledger.{words_of, Policy, drops_new, Terms, begins, OnWire, Wire, quiet, busy, Passed, Ledger, left_to_send, ends, loses, landed, fresh, first_on_wire, counted, closed, given, begun_on, noted, noted_all}
 use Rattle.word_wire.specs.Wire.{arriving, turn_ops}
 use Rattle.word_wire.proofs.Lists.{words_last, arriving_last, Room, loses_is}
 
@@ -14,7 +15,7 @@ use Rattle.word_wire.proofs.Lists.{words_last, arriving_last, Room, loses_is}
 pub record Faces (t u : Terms) (before : List Passed) (room : ℕ) : Type 0 where
   pub last : t.last ≡ u.last
   pub alike : (edge : ℕ) → t.samples edge ≡ u.samples edge
-  pub drops : u.policy ≡ dropsNew (ends u.policy)
+  pub drops : u.policy ≡ drops_new (ends u.policy)
   pub fits : Room u before room
 
 -- The word on the wire at both ends: none, or at the same edge, and one end has seen what the other has shown.
@@ -42,11 +43,11 @@ abbrev pub Starts : Terms → Ledger → Type 0
 Starts t l = (left_to_send l || not t.silent) ≡ true
 
 starts_busy : (t : Terms) (l : Ledger) → Starts t l → first_on_wire t l ≡ busy (fresh (not (left_to_send l)))
-unfolding first_on_wire if◌then◌else◌
+unfolding first_on_wire when◌then◌else◌
 starts_busy t l = go (left_to_send l) t.silent
   where
     go : (left silent : Bool) → (left || not silent) ≡ true →
-        (if left then busy (fresh false) else if silent then quiet else busy (fresh true)) ≡ busy (fresh (not left))
+        (when left then busy (fresh false) else when silent then quiet else busy (fresh true)) ≡ busy (fresh (not left))
     go true silent e = refl
     go false true e = clash false e refl
     go false false e = refl
@@ -118,9 +119,9 @@ module _ (t u : Terms) (before : List Passed) (room : ℕ) (faces : Faces t u be
 
     -- Both ends are given an edge, before which both may begin a word: where it samples, the one end's SDO is the other's SDI.
     pub turn_arrives : (may : Bool) (l k : Ledger) → (may ≡ true → Starts t l × Starts u k) →
-        (next_samples t (if may then begun_on t l l.wire else l.wire) ≡ true → sdo ≡ sdi') → Arrives before room l k →
+        (next_samples t (when may then begun_on t l l.wire else l.wire) ≡ true → sdo ≡ sdi') → Arrives before room l k →
         Arrives before room (noted_all t (turn_ops may sdo sdi) l) (noted_all u (turn_ops may sdo' sdi') k)
-    unfolding if◌then◌else◌
+    unfolding when◌then◌else◌
     turn_arrives true l k starts same r =
         let both = begins-arrive l k (starts refl).0 (starts refl).1 r in
         given-arrives _ _ (noted t begins l) (noted u begins k) both.wire both same

@@ -2,8 +2,9 @@
 --     Departs          the words owed in their order, then fillers of zeros; a silent port sends none
 --     turn_departs     an edge, before which a word may begin, keeps it so
 -- Assumes nothing.
-use Rattle.laws.proofs.Common.{ℕ, suc, ◌+◌, ◌≤◌, ◌<◌, zero-le, Bool, true, false, not, List, [], ◌∷◌, ◌++◌, ◌≡◌, refl, sym}
-use Rattle.laws.proofs.Common.{ap, subst, ◌∙◌, arith, ltb-true, ltb-false, not-false, not-true, ltb, length, if◌then◌else◌}
+use Rattle.std.specs.Prelude.{◌+◌, ◌≤◌, ◌<◌, ◌∷◌, ◌++◌, ◌≡◌}
+use Rattle.laws.proofs.Common.{ℕ, suc, zero-le, Bool, true, false, not, List, [], refl, sym}
+use Rattle.laws.proofs.Common.{ap, subst, ◌∙◌, arith, ltb-true, ltb-false, not-false, not-true, ltb, length, when◌then◌else◌}
 use Rattle.laws.proofs.Common.{if_keeps, clash}
 use Rattle.word_order.specs.Bits.{spelled, top_bits, sampled_in}
 use Rattle.word_order.specs.Ledger.{Terms, begins, clocks, OnWire, Wire, quiet, busy, Passed, Ledger, unmarked, sent, left_to_send, first_on_wire, counted, closed, given, begun_on, noted, noted_all}
@@ -63,7 +64,7 @@ module _ (l : Ledger) (v : ℕ) (rest : List ℕ) (gone : l.departures ≡ depar
   one-gone : (filler : Bool) → filler ≡ not (left_to_send l) → (filler ≡ true → v ≡ 0) → l.accepted ≡ unmarked (more filler) ++ rest →
       (more filler ≡ departing (length (more filler)) l.accepted)
       × (filler ≡ false → length (more filler) ≤ length l.accepted)
-  unfolding left_to_send if◌then◌else◌
+  unfolding left_to_send when◌then◌else◌
   one-gone true fills zeros order =
       let none : length l.accepted ≤ length (sent l) = ltb-false (length (sent l)) (length l.accepted) (not-true _ (sym fills)) in
       let same : length (sent l) ≡ length (unmarked (departing n l.accepted)) =
@@ -139,13 +140,13 @@ clocks_departs t whole p l sdo sdi tied shows h =
 -- An edge, before which a word may begin.
 pub turn_departs : (t : Terms) → Whole t → (p : Port) (l : Ledger) (may sdo sdi : Bool) → Tied t p l →
     LegalAll t (turn_ops may sdo sdi) p → Departs t l → Departs t (noted_all t (turn_ops may sdo sdi) l)
-unfolding if◌then◌else◌
+unfolding when◌then◌else◌
 turn_departs t whole p l true sdo sdi tied legal h =
     clocks_departs t whole _ (noted t begins l) sdo sdi (tied_op t whole begins p l tied tt) legal.1.0 (begins_departs t l h)
 turn_departs t whole p l false sdo sdi tied legal h = clocks_departs t whole p l sdo sdi tied legal.0 h
 
 -- An edge accepts no word.
 pub turn_accepts : (t : Terms) (may sdo sdi : Bool) (l : Ledger) → (noted_all t (turn_ops may sdo sdi) l).accepted ≡ l.accepted
-unfolding if◌then◌else◌
+unfolding when◌then◌else◌
 turn_accepts t true sdo sdi l = (same_words t sdo sdi (noted t begins l) _).0
 turn_accepts t false sdo sdi l = (same_words t sdo sdi l _).0

@@ -4,7 +4,8 @@
 --     unread_is     what it has received and nobody has read
 --     across        across from an idle port nothing is under way
 -- Assumes nothing.
-use Rattle.laws.proofs.Common.{ℕ, suc, ◌+◌, ◌*◌, ◌-◌, ◌≤◌, zero-le, true, List, ◌++◌, ◌≡◌, refl, sym, ap, ◌∙◌, le_trans}
+use Rattle.std.specs.Prelude.{◌+◌, ◌*◌, ◌-◌, ◌≤◌, ◌++◌, ◌≡◌}
+use Rattle.laws.proofs.Common.{ℕ, suc, zero-le, true, List, refl, sym, ap, ◌∙◌, le_trans}
 use Rattle.laws.proofs.Common.{le_refl, mul-le-mul, arith, length, take, drop, length-drop, clash}
 use Rattle.word_order.specs.Ledger.{words_of, Terms, Wire, quiet, busy, Passed, Ledger, unmarked, left_to_send, edges_given}
 use Rattle.word_order.specs.Port.{Way, idle, sends, is_under, Port}

@@ -5,9 +5,10 @@
 --     departing_left     the words left behind the departures
 --     kept_behind        the words kept
 -- Assumes nothing.
-use Rattle.laws.proofs.Common.{ℕ, zero, suc, ◌+◌, ◌≤◌, ◌<◌, Bool, true, false, ◌&&◌, ◌||◌, List, [], ◌∷◌, ◌++◌, ◌≡◌, refl}
+use Rattle.std.specs.Prelude.{◌+◌, ◌≤◌, ◌<◌, ◌&&◌, ◌||◌, ◌∷◌, ◌++◌, ◌≡◌}
+use Rattle.laws.proofs.Common.{ℕ, zero, suc, Bool, true, false, List, [], refl}
 use Rattle.laws.proofs.Common.{sym, ap, ap₂, ◌∙◌, arith, leb-true, leb-false, le-leb, lt-leb, ltb, leb, length, length-append}
-use Rattle.laws.proofs.Common.{take, drop, if◌then◌else◌, by_test}
+use Rattle.laws.proofs.Common.{take, drop, when◌then◌else◌, by_test}
 use lib.Dec.{leb-zero, leb-suc-zero, leb-suc-suc}
 use Rattle.word_order.specs.Ledger.{words_of, Passed, Ledger, Terms, unmarked, kept, marked_in, ends, loses}
 use Rattle.word_wire.specs.Wire.{arriving, departing}
@@ -34,8 +35,8 @@ arriving_last (suc room) (v ∷ ws) w lost e =
     (arriving_last room ws w lost (e ∙ leb-suc-suc room (length ws)))
 
 -- The unmarked words of two lists, and the marks.
-one_more_lem : (b : Bool) (w : ℕ) (p q r : List ℕ) → p ≡ q ++ r → (if b then p else w ∷ p) ≡ (if b then q else w ∷ q) ++ r
-unfolding if◌then◌else◌
+one_more_lem : (b : Bool) (w : ℕ) (p q r : List ℕ) → p ≡ q ++ r → (when b then p else w ∷ p) ≡ (when b then q else w ∷ q) ++ r
+unfolding when◌then◌else◌
 one_more_lem true w p q r e = e
 one_more_lem false w p q r e = ap (λ (k : List ℕ). w ∷ k) e
 
@@ -49,7 +50,7 @@ marked_append (a ∷ l) k = let ih : marked_in (l ++ k) ≡ marked_in l + marked
 
 -- The words kept of those that arrive are as many as there is room for.
 kept_words : (room : ℕ) (ws : List ℕ) → unmarked (arriving room ws) ≡ take room ws
-unfolding if◌then◌else◌
+unfolding when◌then◌else◌
 kept_words zero [] = refl
 kept_words (suc room) [] = refl
 kept_words zero (w ∷ ws) = kept_words zero ws
@@ -105,14 +106,14 @@ loses_is t l before room ws r none all =
 
 -- Departures: the next word, and the next filler.
 pub departing_short : (n : ℕ) (ws : List ℕ) → length (unmarked (departing n ws)) < length ws → n < length ws
-unfolding if◌then◌else◌
+unfolding when◌then◌else◌
 departing_short zero ws h = h
 departing_short (suc n) [] h = absurd (omega (arith, h))
 departing_short (suc n) (w ∷ ws) h = let k = departing_short n ws (omega (arith, h)) in omega (arith, k)
 
 pub departing_next : (n : ℕ) (ws rest : List ℕ) (v : ℕ) → n < length ws → ws ≡ (unmarked (departing n ws) ++ (v ∷ [])) ++ rest →
     departing (suc n) ws ≡ departing n ws ++ (record { word = v; marked = false } ∷ [])
-unfolding if◌then◌else◌
+unfolding when◌then◌else◌
 departing_next zero ws rest v h e = ap (departing 1) e
 departing_next (suc n) [] rest v h e = absurd (omega (arith, h))
 departing_next (suc n) (w ∷ ws) rest v h e =
@@ -120,7 +121,7 @@ departing_next (suc n) (w ∷ ws) rest v h e =
 
 pub departing_filler : (n : ℕ) (ws : List ℕ) → length ws ≤ length (unmarked (departing n ws)) →
     departing (suc n) ws ≡ departing n ws ++ (record { word = 0; marked = true } ∷ [])
-unfolding if◌then◌else◌
+unfolding when◌then◌else◌
 departing_filler zero [] h = refl
 departing_filler zero (w ∷ ws) h = absurd (omega (arith, h))
 departing_filler (suc n) [] h =
@@ -130,12 +131,12 @@ departing_filler (suc n) (w ∷ ws) h =
 
 -- What is left of the words behind the departures.
 none_departs : (n : ℕ) → unmarked (departing n []) ≡ []
-unfolding if◌then◌else◌
+unfolding when◌then◌else◌
 none_departs zero = refl
 none_departs (suc n) = none_departs n
 
 pub departing_left : (n : ℕ) (ws rest : List ℕ) → ws ≡ unmarked (departing n ws) ++ rest → rest ≡ drop n ws
-unfolding if◌then◌else◌
+unfolding when◌then◌else◌
 departing_left zero ws rest e = sym e
 departing_left (suc n) [] rest e = sym (e ∙ ap (λ (q : List ℕ). q ++ rest) (none_departs n))
 departing_left (suc n) (w ∷ ws) rest e = departing_left n ws rest cc

@@ -1,6 +1,6 @@
 -- What passes between two ports on one wire, in the terms of the law of word order: its ledgers and its operations.
 use Rattle.std.specs.Prelude.{ℕ, zero, suc, Bool, true, false, List, [], ◌∷◌, ◌++◌}
-use Rattle.laws.specs.Choice.{if◌then◌else◌}
+use Rattle.laws.specs.Choice.{when◌then◌else◌}
 use Rattle.word_order.specs.Ledger.{Op, begins, clocks, Passed}
 
 -- Words that arrive where none is read: as many as there is room for are kept, and all later ones are lost.
@@ -17,4 +17,4 @@ departing (suc n) (w ∷ ws) = record { word = w; marked = false } ∷ departing
 
 -- The operations of an edge, before which a word may begin or not.
 abbrev pub turn_ops : Bool → Bool → Bool → List Op
-turn_ops may sdo sdi = (if may then begins ∷ [] else []) ++ (clocks sdo sdi ∷ [])
+turn_ops may sdo sdi = (when may then begins ∷ [] else []) ++ (clocks sdo sdi ∷ [])
