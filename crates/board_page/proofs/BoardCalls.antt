@@ -7,9 +7,10 @@
 --     named_below, places            the modules that a call and a run name, if they are handed on, are in the list
 --     alone, joined                  what a call and a run do to the modules that they name, and to the others
 -- Assumes nothing.
-use Rattle.laws.proofs.Common.{ℕ, ◌<◌, ◌≤◌, Bool, true, false, ◌||◌, List, [], ◌∷◌, ◌≡◌, refl, sym, ap, ◌∙◌, arith, leb-true}
+use Rattle.std.specs.Prelude.{◌<◌, ◌≤◌, ◌||◌, ◌∷◌, ◌≡◌}
+use Rattle.laws.proofs.Common.{ℕ, Bool, true, false, List, [], refl, sym, ap, ◌∙◌, arith, leb-true}
 use Rattle.laws.proofs.Common.{leb-false, eqb-false, eqb, leb, length, set, length-set, get_or-set_same, get_or-set_other}
-use Rattle.laws.proofs.Common.{if◌then◌else◌, if_false, by_test, or_left, or_right}
+use Rattle.laws.proofs.Common.{when◌then◌else◌, if_false, by_test, or_left, or_right}
 use Rattle.module_types.specs.declared.Module.{Module}
 use Rattle.module_rules.specs.RefusalTable.{row, first_number}
 use Rattle.module_rules.specs.Calls.{powered_up, perform_of}
@@ -32,7 +33,7 @@ or_both a b e f = rw (e, f)
 
 -- Rows.
 pub two_rows : (a b : Bool) → first_number (row 21 a ∷ row 22 b ∷ []) ≡ 0 → (a ≡ false) × (b ≡ false)
-unfolding if◌then◌else◌
+unfolding when◌then◌else◌
 two_rows true b e = absurd (omega (arith, e))
 two_rows false true e = absurd (omega (arith, e))
 two_rows false false e = (refl, refl)
@@ -46,11 +47,11 @@ pub record Refuses {A : Type 0} (refusal : BoardFault → A) (number : ℕ) (x :
 -- A choice of the two refusals and a call that is handed on.
 module _ {A : Type 0} (refusal : BoardFault → A) (rest : A) where
   abbrev chosen : Bool → Bool → A
-  chosen a b = if a then refusal BadList else if b then refusal NoModule else rest
+  chosen a b = when a then refusal BadList else when b then refusal NoModule else rest
 
   refuses : (a b : Bool) → 1 ≤ first_number (row 21 a ∷ row 22 b ∷ []) →
       Refuses refusal (first_number (row 21 a ∷ row 22 b ∷ [])) (chosen a b)
-  unfolding if◌then◌else◌ board_number_of
+  unfolding when◌then◌else◌ board_number_of
   refuses true b h = record { fault = BadList; told = refl; is = refl }
   refuses false true h = record { fault = NoModule; told = refl; is = refl }
   refuses false false h = absurd (omega arith)
@@ -60,7 +61,7 @@ module _ {A : Type 0} (refusal : BoardFault → A) (rest : A) where
 
   by_rows : (number : A → ℕ) → ((w : BoardFault) → number (refusal w) ≡ board_number_of w) → number rest ≡ 0 → (a b : Bool) →
       number (chosen a b) ≡ first_number (row 21 a ∷ row 22 b ∷ [])
-  unfolding if◌then◌else◌ board_number_of
+  unfolding when◌then◌else◌ board_number_of
   by_rows number is is-rest true b = is BadList
   by_rows number is is-rest false true = is NoModule
   by_rows number is is-rest false false = is-rest

@@ -1,13 +1,14 @@
 -- Each module of the board is what its own calls made of it.
 --     each_lives   after any steps from power-up of all modules
 -- Assumes nothing.
-use Rattle.laws.proofs.Common.{ℕ, ◌<◌, ◌≤◌, false, ◌&&◌, List, [], ◌∷◌, ◌≡◌, refl, sym, ap, ◌∙◌, eqb-true, eqb, length}
-use Rattle.laws.proofs.Common.{replicate, get_or-replicate, if◌then◌else◌, if_keeps, if_both, by_test, and_left, and_right}
+use Rattle.std.specs.Prelude.{◌<◌, ◌≤◌, ◌&&◌, ◌∷◌, ◌≡◌}
+use Rattle.laws.proofs.Common.{ℕ, false, List, [], refl, sym, ap, ◌∙◌, eqb-true, eqb, length}
+use Rattle.laws.proofs.Common.{replicate, get_or-replicate, when◌then◌else◌, if_keeps, if_both, by_test, and_left, and_right}
 use Rattle.laws.proofs.Common.{and_rest}
 use Rattle.module_rules.proofs.Types.{Module, Outcome, Call, ClockStep, Eight}
 use Rattle.module_rules.specs.RefusalTable.{first_number}
 use Rattle.module_rules.specs.Calls.{powered_at, powered_up, refuse, power_up_of, after_calls}
-use Rattle.module_rules.specs.Lives.{powerUp, begins, life}
+use Rattle.module_rules.specs.Lives.{power_up, begins, life}
 use Rattle.module_rules.proofs.LivesReach.{watched_reaches, reaches_append}
 use Rattle.link_rules.specs.Link.{linked_of}
 use Rattle.link_rules.specs.LinkDemands.{run_host_calls, run_client_calls, refusal_of}
@@ -73,7 +74,7 @@ module _ (ms : List Module) (k : ℕ) (own : Own) (here : at ms k ≡ reached ow
   -- What stands at `k` after a run that is handed on: an end of it, or what stood there.
   run_at : first_number (pair_rows (length ms) a b) ≡ 0 →
       let l = linked_of (at ms a) (at ms b) limit in
-      at (pair_of ms a b limit).after k ≡ (if eqb a k then l.host else if eqb b k then l.client else at ms k)
+      at (pair_of ms a b limit).after k ≡ (when eqb a k then l.host else when eqb b k then l.client else at ms k)
   run_at e =
       let after = (pair_of ms a b limit).after in
       let does = joined ms a b limit e in
@@ -128,8 +129,8 @@ steps_live k (two a b limit ∷ ss) ms own here = steps_live k ss _ _ (run-lives
 
 pub each_lives : (size : ℕ) (steps : List BoardStep) (k : ℕ) → k < size →
     let own : Own = own_calls k (replicate size powered_up) (fresh Eight) steps in
-    at (board_after (replicate size powered_up) steps) k ≡ (life (powerUp own.depth) own.calls).now
+    at (board_after (replicate size powered_up) steps) k ≡ (life (power_up own.depth) own.calls).now
 each_lives size steps k h =
     let own : Own = own_calls k (replicate size powered_up) (fresh Eight) steps in
     steps_live k steps (replicate size powered_up) (fresh Eight) (get_or-replicate size k powered_up powered_up h)
-    ∙ sym (watched_reaches own.calls (begins (powerUp own.depth)))
+    ∙ sym (watched_reaches own.calls (begins (power_up own.depth)))

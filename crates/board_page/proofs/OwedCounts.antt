@@ -3,7 +3,8 @@
 --     AllHold, holds_at, hold_set   a list of modules that calls reach
 --     one_moved                     one of them is replaced, and the total moved by it
 -- Assumes nothing.
-use Rattle.laws.proofs.Common.{ℕ, zero, suc, ◌+◌, ◌*◌, ◌-◌, ◌<◌, ◌≤◌, true, false, ◌||◌, List, [], ◌∷◌, ◌++◌, ◌≡◌, refl, sym}
+use Rattle.std.specs.Prelude.{◌+◌, ◌*◌, ◌-◌, ◌<◌, ◌≤◌, ◌||◌, ◌∷◌, ◌++◌, ◌≡◌}
+use Rattle.laws.proofs.Common.{ℕ, zero, suc, true, false, List, [], refl, sym}
 use Rattle.laws.proofs.Common.{ap, ◌∙◌, arith, le-leb, leb, length, set, length-append, length-set, if_true, if_ap}
 use Rattle.word_order.specs.Ledger.{sent, unsent}
 use Rattle.module_rules.proofs.Types.{Settings, Module, Transmit, Shift, Free, Loaded, Begun, Call}

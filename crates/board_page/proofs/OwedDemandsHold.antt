@@ -1,14 +1,15 @@
 -- The demands on the total of specs/OwedDemands.antt, all of them.
 --     totals_hold   what the buyer signs for, of the words that the board owes
 -- Assumes nothing.
-use Rattle.laws.proofs.Common.{ℕ, zero, suc, ◌<◌, ◌≤◌, Bool, true, false, List, [], ◌∷◌, ◌≡◌, refl, sym, ap, subst, ◌∙◌}
-use Rattle.laws.proofs.Common.{arith, ltb-false, eqb-true, eqb, ltb, length, set, replicate, length-set, if◌then◌else◌}
+use Rattle.std.specs.Prelude.{◌<◌, ◌≤◌, ◌∷◌, ◌≡◌}
+use Rattle.laws.proofs.Common.{ℕ, zero, suc, Bool, true, false, List, [], refl, sym, ap, subst, ◌∙◌}
+use Rattle.laws.proofs.Common.{arith, ltb-false, eqb-true, eqb, ltb, length, set, replicate, length-set, when◌then◌else◌}
 use Rattle.laws.proofs.Common.{if_keeps, if_true, if_false, by_test, or_right}
 use Rattle.module_rules.proofs.Types.{Module, Outcome, ClockStep, Four, Eight, Sixteen}
 use Rattle.module_rules.specs.RefusalTable.{row, first_number}
 use Rattle.module_rules.specs.Invariant.{ModuleHolds}
 use Rattle.module_rules.specs.Calls.{powered_at, powered_up, refuse, power_up_of, perform_of}
-use Rattle.module_rules.specs.Lives.{powerUp}
+use Rattle.module_rules.specs.Lives.{power_up}
 use Rattle.module_invariant.proofs.Holds.{call_keeps, calls_keep, reached_holds}
 use Rattle.link_rules.specs.Link.{linked_of}
 use Rattle.link_page.proofs.LinkRuns.{link_holds_lem}
@@ -28,14 +29,14 @@ use Rattle.board_page.proofs.OwedMoves.{call_total, run_total, call_moves_lem, r
 use Rattle.board_page.proofs.OwedCounts.{AllHold, holds_at, hold_set, one_moved, counts_unsent_lem, counts_none_lem}
 
 -- The question.
-rows_law : (wrong : Bool) (n : ℕ) → owed_fault_in (if wrong then Refused BadList else Owes n) ≡ first_number (row 21 wrong ∷ [])
-unfolding if◌then◌else◌ board_number_of
+rows_law : (wrong : Bool) (n : ℕ) → owed_fault_in (when wrong then Refused BadList else Owes n) ≡ first_number (row 21 wrong ∷ [])
+unfolding when◌then◌else◌ board_number_of
 rows_law true n = refl
 rows_law false n = refl
 
-tells_law : (wrong : Bool) (n : ℕ) → owed_fault_in (if wrong then Refused BadList else Owes n) ≡ 0 →
-    words_in (if wrong then Refused BadList else Owes n) ≡ n
-unfolding if◌then◌else◌ board_number_of
+tells_law : (wrong : Bool) (n : ℕ) → owed_fault_in (when wrong then Refused BadList else Owes n) ≡ 0 →
+    words_in (when wrong then Refused BadList else Owes n) ≡ n
+unfolding when◌then◌else◌ board_number_of
 tells_law true n e = absurd (omega (arith, e))
 tells_law false n e = refl
 
@@ -148,7 +149,7 @@ power_up_off = refl
 
 fresh_count : (size : ℕ) → full_count (replicate size powered_up) ≡ 0
 fresh_count zero = refl
-fresh_count (suc size) = omega (arith, counts_none_lem (powerUp Eight) [] power_up_off, fresh_count size)
+fresh_count (suc size) = omega (arith, counts_none_lem (power_up Eight) [] power_up_off, fresh_count size)
 
 pub totals_hold : Totals
 unfolding owes_of bad_list owed_call owed_run

@@ -1,7 +1,8 @@
 -- The definitions are run on boards.
 --     board_examples_hold   boards with what calls answer, and what stands in each module afterwards
 -- Assumes nothing.
-use Rattle.laws.proofs.Common.{true, ◌≡◌, refl, if◌then◌else◌}
+use Rattle.std.specs.Prelude.{◌≡◌}
+use Rattle.laws.proofs.Common.{true, refl, when◌then◌else◌}
 use Rattle.ring.specs.Ring.{next}
 use Rattle.word_order.specs.Bits.{bit_of}
 use Rattle.module_rules.specs.Bits.{shifted_in, received_after, shown_bit, sdo_after, progressed}
@@ -21,5 +22,5 @@ use Rattle.board_rules.specs.Board.{board_number_of, bad_list, no_module, no_pai
 use Rattle.board_rules.specs.BoardExamples.{board_examples}
 
 pub board_examples_hold : board_examples ≡ true
-unfolding shifted_in received_after shown_bit sdo_after progressed empty_transmit empty_receive first_waiting first_unread written departed appended taken overrun refuse answering powered_at power_up_of word_taken read_buf read_of turns_on turns_off stat_written write_stat with_con1 with_con2 configured word_written write_buf write_of clock_step_of edge_told tick_of pins_of clear_of perform_of interrupt_of sck_of undriven sdo_of ss_of if◌then◌else◌ begun shifted advanced advanced_if_begun awaits_pulse under_way pulse_due pulse_after pulsed clocked edged stepped overflowed word_appended is_lost delivered sent_dropped freed finished raises noted word_leaves moved can_load loaded next_top sdo_at rested number_of bit_of weighed con1_from con1_value con2_from con2_value spitbf spirbf srxmpt srmpt at_most7 spibec stat_value stat_settings spirov_after stat_engine enabled_engine disabled_engine next select_remembered aborted select_seen level_read made_edge host_ticked client_sees run_stops one_more client_turn handed_over host_turn run_of refuse_link told_of linked_of link_said_of report_of said_clock bits_sampled current resting has_word idle_first bits_left sdi_at level_on whole_word step_level one_step word_of board_number_of bad_list no_module no_pair module_at seen_of answer_alone after_alone refuse_call refuse_pair board_of ran_of pair_of board_stepped board_after
+unfolding shifted_in received_after shown_bit sdo_after progressed empty_transmit empty_receive first_waiting first_unread written departed appended taken overrun refuse answering powered_at power_up_of word_taken read_buf read_of turns_on turns_off stat_written write_stat with_con1 with_con2 configured word_written write_buf write_of clock_step_of edge_told tick_of pins_of clear_of perform_of interrupt_of sck_of undriven sdo_of ss_of when◌then◌else◌ begun shifted advanced advanced_if_begun awaits_pulse under_way pulse_due pulse_after pulsed clocked edged stepped overflowed word_appended is_lost delivered sent_dropped freed finished raises noted word_leaves moved can_load loaded next_top sdo_at rested number_of bit_of weighed con1_from con1_value con2_from con2_value spitbf spirbf srxmpt srmpt at_most7 spibec stat_value stat_settings spirov_after stat_engine enabled_engine disabled_engine next select_remembered aborted select_seen level_read made_edge host_ticked client_sees run_stops one_more client_turn handed_over host_turn run_of refuse_link told_of linked_of link_said_of report_of said_clock bits_sampled current resting has_word idle_first bits_left sdi_at level_on whole_word step_level one_step word_of board_number_of bad_list no_module no_pair module_at seen_of answer_alone after_alone refuse_call refuse_pair board_of ran_of pair_of board_stepped board_after
 board_examples_hold = refl

@@ -1,7 +1,7 @@
 -- Document 02, Seven: a board of one to four modules, SPI1 first, numbered from 0. A board is a list of modules. A call names one
 -- of them, a linked run two.
 use Rattle.std.specs.Prelude.{ℕ, Bool, ◌||◌, List, [], ◌∷◌, eqb, leb, ltb, length, get_or, set}
-use Rattle.laws.specs.Choice.{if◌then◌else◌}
+use Rattle.laws.specs.Choice.{when◌then◌else◌}
 use Rattle.module_types.specs.declared.Module.{Module}
 use Rattle.module_types.specs.declared.Outcome.{Outcome}
 use Rattle.module_rules.specs.Calls.{powered_up, power_up_of, clock_step_of, perform_of, interrupt_of, sck_of, sdo_of, ss_of}
@@ -89,8 +89,8 @@ refuse_pair ms w = record { answer = pair.Refused w; after = ms }
 -- A call of one module: 21, then 22, then what the module alone answers. Its record is replaced, the rest stay.
 unfoldable pub board_of : List Module → ℕ → BoardCall → Boarded
 board_of ms n c =
-    if bad_list ms then refuse_call ms BadList
-    else if no_module ms n then refuse_call ms NoModule
+    when bad_list ms then refuse_call ms BadList
+    else when no_module ms n then refuse_call ms NoModule
     else record { answer = answer_alone (module_at ms n) c; after = set ms n (after_alone (module_at ms n) c) }
 
 -- A linked run of host `a` and client `b`: 21, then 22, then what the two alone answer. Their records are replaced, the rest stay.
@@ -99,8 +99,8 @@ ran_of ms a b l = record { answer = pair.Ran l.answer; after = set (set ms a l.h
 
 unfoldable pub pair_of : List Module → ℕ → ℕ → ℕ → Paired
 pair_of ms a b limit =
-    if bad_list ms then refuse_pair ms BadList
-    else if no_pair ms a b then refuse_pair ms NoModule
+    when bad_list ms then refuse_pair ms BadList
+    else when no_pair ms a b then refuse_pair ms NoModule
     else ran_of ms a b (linked_of (module_at ms a) (module_at ms b) limit)
 
 -- A step of the board: a call of one module, or a linked run of two; and the list after some steps.

@@ -1,6 +1,6 @@
 -- The customer's demands on the board. The record Boards holds every statement, and proofs/BoardDemandsHold.antt proves it.
 use Rattle.std.specs.Prelude.{ℕ, ◌≤◌, ◌<◌, Bool, true, false, ◌&&◌, ◌||◌, List, [], ◌∷◌, ◌++◌, ◌≡◌, eqb, ltb, leb, length, get_or, replicate}
-use Rattle.laws.specs.Choice.{if◌then◌else◌}
+use Rattle.laws.specs.Choice.{when◌then◌else◌}
 use Rattle.module_types.specs.declared.Module.{Module}
 use Rattle.module_types.specs.declared.Call.{Call}
 use Rattle.module_types.specs.declared.Call.TheVariants.{ClockStep}
@@ -8,7 +8,7 @@ use Rattle.module_rules.specs.RefusalTable.{Row, row, first_number}
 use Rattle.module_rules.specs.Calls.{powered_up, power_up_of, perform_of, interrupt_of, sck_of, sdo_of, ss_of}
 use Rattle.module_types.specs.declared.Depth.{Depth}
 use Rattle.module_types.specs.declared.Depth.TheVariants.{Four, Eight, Sixteen}
-use Rattle.module_rules.specs.Lives.{powerUp, life}
+use Rattle.module_rules.specs.Lives.{power_up, life}
 use Rattle.link_rules.specs.Link.{linked_of}
 use Rattle.link_rules.specs.LinkDemands.{run_host_calls, run_client_calls, refusal_of}
 use Rattle.clock_rules.specs.Clock.{report_of}
@@ -112,9 +112,9 @@ more own cs = record { depth = own.depth; calls = own.calls ++ cs }
 abbrev pub own_after_call : Module → Own → BoardCall → Own
 own_after_call m own PowerUp = fresh Eight
 own_after_call m own (PowerUpAt words) =
-    if eqb words 4 then fresh Four
-    else if eqb words 8 then fresh Eight
-    else if eqb words 16 then fresh Sixteen
+    when eqb words 4 then fresh Four
+    else when eqb words 8 then fresh Eight
+    else when eqb words 16 then fresh Sixteen
     else own
 own_after_call m own (Make c) = more own (c ∷ [])
 own_after_call m own (Report f) = own
@@ -124,14 +124,14 @@ own_after_call m own (MakeWord ss word) = more own (steps_of m ss word)
 
 abbrev pub own_after_run : ℕ → List Module → Own → ℕ → ℕ → ℕ → Own
 own_after_run k ms own a b limit =
-    if eqb a k then more own (run_host_calls (at ms a) (at ms b) limit)
-    else if eqb b k then more own (run_client_calls (at ms a) (at ms b) limit)
+    when eqb a k then more own (run_host_calls (at ms a) (at ms b) limit)
+    else when eqb b k then more own (run_client_calls (at ms a) (at ms b) limit)
     else own
 
 abbrev pub own_after : ℕ → List Module → Own → BoardStep → Own
-own_after k ms own (one n c) = if eqb (first_number (board_rows (length ms) n)) 0 && eqb n k then own_after_call (at ms k) own c else own
+own_after k ms own (one n c) = when eqb (first_number (board_rows (length ms) n)) 0 && eqb n k then own_after_call (at ms k) own c else own
 own_after k ms own (two a b limit) =
-    if eqb (first_number (pair_rows (length ms) a b)) 0 && eqb (refusal_of (at ms a) (at ms b) limit) 0 then own_after_run k ms own a b limit else own
+    when eqb (first_number (pair_rows (length ms) a b)) 0 && eqb (refusal_of (at ms a) (at ms b) limit) 0 then own_after_run k ms own a b limit else own
 
 abbrev pub own_calls : ℕ → List Module → Own → List BoardStep → Own
 own_calls k ms own [] = own
@@ -153,6 +153,6 @@ pub record Boards : Type 0 where
   pub joined : (ms : List Module) (a b limit : ℕ) → first_number (pair_rows (length ms) a b) ≡ 0 → Joined ms a b limit
   pub each : (size : ℕ) (steps : List BoardStep) (k : ℕ) → k < size →
       let own : Own = own_calls k (replicate size powered_up) (fresh Eight) steps in
-      at (board_after (replicate size powered_up) steps) k ≡ (life (powerUp own.depth) own.calls).now
+      at (board_after (replicate size powered_up) steps) k ≡ (life (power_up own.depth) own.calls).now
   pub one_call : (ms : List Module) (n : ℕ) (c : BoardCall) (x y : Boarded) → x ≡ board_of ms n c → y ≡ board_of ms n c → x ≡ y
   pub one_pair : (ms : List Module) (a b limit : ℕ) (x y : Paired) → x ≡ pair_of ms a b limit → y ≡ pair_of ms a b limit → x ≡ y

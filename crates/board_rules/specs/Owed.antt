@@ -1,7 +1,7 @@
 -- Document 02, Eight: beside the list of modules the board keeps the total of accepted words that are not finished, and answers from
 -- it. Each call of Seven moves the total by what the counts of the modules that it names change by.
 use Rattle.std.specs.Prelude.{ℕ, ◌+◌, ◌-◌, ◌||◌, List, [], ◌∷◌, leb}
-use Rattle.laws.specs.Choice.{if◌then◌else◌}
+use Rattle.laws.specs.Choice.{when◌then◌else◌}
 use Rattle.module_types.specs.declared.Settings.{Settings}
 use Rattle.module_types.specs.declared.Module.{Module}
 use Rattle.module_types.specs.declared.Shift.{Shift}
@@ -34,7 +34,7 @@ pub record OwedRun : Type 0 where
 unfoldable pub in_shift : Settings → Shift → ℕ
 in_shift s Free = 0
 in_shift s (Loaded word) = 1
-in_shift s (Begun p) = if p.filler || ssen_client s then 0 else 1
+in_shift s (Begun p) = when p.filler || ssen_client s then 0 else 1
 
 unfoldable pub words_owed : Module → ℕ
 words_owed m = m.engine.transmit.count + in_shift m.settings m.engine.shift
@@ -42,7 +42,7 @@ words_owed m = m.engine.transmit.count + in_shift m.settings m.engine.shift
 -- The total, where one module has become another: more by what that one counts more, less by what it counts less. It is a number of
 -- 16 bits and stops at either end; from power-up it never comes near.
 unfoldable pub at_most65535 : ℕ → ℕ
-at_most65535 n = if leb n 65535 then n else 65535
+at_most65535 n = when leb n 65535 then n else 65535
 
 unfoldable pub total_moved : ℕ → Module → Module → ℕ
 total_moved total was is = at_most65535 (total + words_owed is - words_owed was)
@@ -50,7 +50,7 @@ total_moved total was is = at_most65535 (total + words_owed is - words_owed was)
 -- A call that names module `n`: Seven's call, and the total moved by that module. A refused call leaves it.
 unfoldable pub total_after_call : Board → ℕ → List Module → ℕ
 total_after_call b n after =
-    if bad_list b.modules || no_module b.modules n then b.owed
+    when bad_list b.modules || no_module b.modules n then b.owed
     else total_moved b.owed (module_at b.modules n) (module_at after n)
 
 unfoldable pub owed_call : Board → ℕ → BoardCall → OwedCall
@@ -67,7 +67,7 @@ owed_call b n c =
 -- A linked run: Seven's run, and the total moved by both ends.
 unfoldable pub total_after_run : Board → ℕ → ℕ → List Module → ℕ
 total_after_run b h c after =
-    if bad_list b.modules || no_pair b.modules h c then b.owed
+    when bad_list b.modules || no_pair b.modules h c then b.owed
     else total_moved (total_moved b.owed (module_at b.modules h) (module_at after h)) (module_at b.modules c) (module_at after c)
 
 unfoldable pub owed_run : Board → ℕ → ℕ → ℕ → OwedRun
@@ -83,7 +83,7 @@ owed_run b h c limit =
 
 -- The question: the total, or 21. No module is looked at.
 unfoldable pub owes_of : Board → OwedAnswer
-owes_of b = if bad_list b.modules then Refused BadList else Owes b.owed
+owes_of b = when bad_list b.modules then Refused BadList else Owes b.owed
 
 -- The board after some steps.
 unfoldable pub owed_step : Board → BoardStep → Board

@@ -1,7 +1,7 @@
 -- The customer's demands on the total of words that the board owes. The record Totals holds every statement, and
 -- proofs/OwedDemandsHold.antt proves it.
 use Rattle.std.specs.Prelude.{ℕ, ◌+◌, ◌-◌, true, false, ◌||◌, List, [], ◌∷◌, ◌≡◌, eqb, ltb, length, replicate}
-use Rattle.laws.specs.Choice.{if◌then◌else◌}
+use Rattle.laws.specs.Choice.{when◌then◌else◌}
 use Rattle.word_order.specs.Ledger.{unsent}
 use Rattle.module_types.specs.declared.Module.{Module}
 use Rattle.module_types.specs.declared.Call.{Call}
@@ -32,7 +32,7 @@ full_count (m ∷ ms) = words_owed m + full_count ms
 
 -- The total where a module has become another: it moves by what the module's count changes by, and stops at 0 and at 65,535.
 abbrev pub moved_by : ℕ → Module → Module → ℕ
-moved_by total was is = if ltb 65535 (total + words_owed is - words_owed was) then 65535 else total + words_owed is - words_owed was
+moved_by total was is = when ltb 65535 (total + words_owed is - words_owed was) then 65535 else total + words_owed is - words_owed was
 
 -- So many modules at power-up owe nothing.
 abbrev pub fresh_board : ℕ → Board
@@ -54,13 +54,13 @@ pub record Totals : Type 0 where
       × ((owed_run b host client limit).after.modules ≡ (pair_of b.modules host client limit).after)
   pub call_moves : (b : Board) (n : ℕ) (c : BoardCall) →
       (owed_call b n c).after.owed
-      ≡ (if eqb (first_number (board_rows (length b.modules) n)) 0
+      ≡ (when eqb (first_number (board_rows (length b.modules) n)) 0
       then moved_by b.owed (at b.modules n) (at (board_of b.modules n c).after n)
       else b.owed)
   pub run_moves : (b : Board) (host client limit : ℕ) →
       let after : ℕ → Module = at (pair_of b.modules host client limit).after in
       (owed_run b host client limit).after.owed
-      ≡ (if eqb (first_number (pair_rows (length b.modules) host client)) 0
+      ≡ (when eqb (first_number (pair_rows (length b.modules) host client)) 0
       then moved_by (moved_by b.owed (at b.modules host) (after host)) (at b.modules client) (after client)
       else b.owed)
   pub refused_exactly : (b : Board) →

@@ -2,10 +2,11 @@
 --     rate_demands
 --     best_next, best_all   the walk over the settings, at one and behind the last
 -- Assumes nothing.
-use Rattle.laws.proofs.Common.{ℕ, zero, suc, ◌+◌, ◌-◌, ◌*◌, ◌/◌, ◌%◌, ◌≤◌, ◌<◌, true, false, ◌&&◌, [], ◌∷◌, ◌≡◌, refl, sym}
+use Rattle.std.specs.Prelude.{◌+◌, ◌-◌, ◌*◌, ◌/◌, ◌%◌, ◌≤◌, ◌<◌, ◌&&◌, ◌∷◌, ◌≡◌}
+use Rattle.laws.proofs.Common.{ℕ, zero, suc, true, [], refl, sym}
 use Rattle.laws.proofs.Common.{ap, ◌∙◌, subst, mul-le-mul, mul-le-mul_left, le_of_eq, le_trans, arith, leb-true, ltb-true}
-use Rattle.laws.proofs.Common.{ltb-false, le-leb, eqb-true, eqb-false, eq-eqb, ne_eqb, eqb, ltb, leb, lit≤, lit<, get_or}
-use Rattle.laws.proofs.Common.{if◌then◌else◌, if_true, if_false, if_keeps, by_test, and_left, and_right, and_rest}
+use Rattle.laws.proofs.Common.{ltb-false, le-leb, eqb-true, eqb-false, eq-eqb, ne_eqb, eqb, ltb, lit≤, lit<, get_or}
+use Rattle.laws.proofs.Common.{if_true, if_false, if_keeps, by_test, and_left, and_right, and_rest}
 use Rattle.clock_rules.specs.Clock.{quartered, primary_of, secondary_of}
 use Rattle.clock_rate_rules.specs.Rate.{divider_at, fits, to_beat, better, best_of, in_con1, prescalers_for}
 use Rattle.clock_rate_rules.specs.RateDemands.{tabled, RateDemands}

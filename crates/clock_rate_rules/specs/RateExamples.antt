@@ -1,5 +1,5 @@
 -- The prescalers for a wanted rate, run: the definition gives these values.
-use Rattle.std.specs.Prelude.{ℕ, Bool, true, ◌&&◌, eqb}
+use Rattle.std.specs.Prelude.{ℕ, Bool, ◌&&◌, eqb}
 use Rattle.clock_rate_rules.specs.Rate.{prescalers_for}
 
 -- The bits of CON1 for a setting's names.

@@ -7,19 +7,16 @@
 --     rate_0_is_refused, disabled_has_none, own_clock_says, pin_clock_says
 --                                             what each module is told, in the paper's numbers
 -- Assumes nothing.
-use Rattle.laws.proofs.Common.{ℕ, zero, suc, ◌+◌, ◌-◌, ◌*◌, ◌/◌, ◌%◌, ◌^◌, ◌≤◌, ◌<◌, Bool, true, false, not, true≢false, ◌≡◌}
-use Rattle.laws.proofs.Common.{refl, sym, ap, ◌∙◌, subst, [], ◌∷◌, mul_assoc, mul-le-mul, mul-le-mul_left, le_trans, le_of_eq}
-use Rattle.laws.proofs.Common.{lt_of_le_of_lt, arith, ne_eqb, eqb, ltb→lt, lit≤, lit<, get_or, if◌then◌else◌, so, not_so}
+use Rattle.std.specs.Prelude.{◌+◌, ◌-◌, ◌*◌, ◌/◌, ◌%◌, ◌^◌, ◌≤◌, ◌<◌, ◌≡◌, ◌∷◌}
+use Rattle.laws.proofs.Common.{ℕ, zero, suc, true, false, not}
+use Rattle.laws.proofs.Common.{refl, sym, ap, ◌∙◌, subst, [], mul-le-mul, mul-le-mul_left, le_trans, le_of_eq}
+use Rattle.laws.proofs.Common.{lt_of_le_of_lt, arith, lit≤, lit<, get_or, when◌then◌else◌, so, not_so}
 use Rattle.laws.proofs.Common.{not_so_eq}
-use mathlib.Core.Bool.{cond}
-use native.Mathlib.Nat.{mul-one, mul_comm, mul_left_comm, mul-pos, zero-lt-suc}
+use native.Mathlib.Nat.{mul-one, mul-pos}
 use lib.Dec.{le→leb}
-use lib.Ieee.{Float, nan, inf, fin, Format, binary64, up, down, round, of_int, div, to_unsigned, in_float}
+use lib.Ieee.{Float, binary64, round, to_unsigned, in_float}
 use lib.Ieee.Exact.{HasValue}
-use lib.Ieee.Fits.{up_pos, down_pos}
-use lib.Ieee.Back.{round_whole, unsigned_back}
-use lib.Ieee.Positive.{positive_of_value}
-use lib.Ieee.Scale.{round_same}
+use lib.Ieee.Back.{unsigned_back}
 use Rattle.floats.specs.Whole.{float_of}
 use Rattle.floats.proofs.Quotients.{float_exact, quotient_rounded, whole_fraction}
 use Rattle.module_rules.proofs.Types.{Module, Settings}
@@ -150,7 +147,7 @@ answered m f x p e =
 
 -- Test 8 comes first: the rate 0 is refused with 8, whatever the module.
 pub rate_0_is_refused : (m : Module) → said_clock (report_of m 0) ≡ said_refused 8
-unfolding report_of said_clock number_of if◌then◌else◌
+unfolding report_of said_clock number_of when◌then◌else◌
 rate_0_is_refused m = refl
 
 -- A disabled module has no clock, and is not refused.

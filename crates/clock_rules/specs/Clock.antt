@@ -3,7 +3,7 @@ use Rattle.std.specs.Prelude.{ℕ, zero, suc, ◌-◌, ◌*◌, ◌/◌, ◌%◌
 use Rattle.std.specs.Float.{fin, binary64}
 use Rattle.std.specs.Float.Ieee.{div}
 use Rattle.floats.specs.Whole.{float_of}
-use Rattle.laws.specs.Choice.{if◌then◌else◌}
+use Rattle.laws.specs.Choice.{when◌then◌else◌}
 use Rattle.module_types.specs.declared.Module.{Module}
 use Rattle.module_types.specs.declared.Settings.{Settings}
 use Rattle.module_types.specs.declared.Refusal.TheVariants.{NoRate}
@@ -45,13 +45,13 @@ rates_of s f =
 -- is clocked from its pin, with F as the float that its clock must stay below.
 unfoldable pub clock_of : Settings → ℕ → Clock
 clock_of s f =
-    if not s.spien then None
-    else if own_clock s then Internal (rates_of s f)
+    when not s.spien then None
+    else when own_clock s then Internal (rates_of s f)
     else External (float_of f)
 
 -- The report for an instruction rate F. Test 8 comes first: the rate 0 is refused, of a disabled module too.
 abbrev pub report_by : Settings → ℕ → Reported
-report_by s f = if eqb f 0 then Refused NoRate else Answered (clock_of s f)
+report_by s f = when eqb f 0 then Refused NoRate else Answered (clock_of s f)
 
 unfoldable pub report_of : Module → ℕ → Reported
 report_of m f = report_by m.settings f

@@ -1,9 +1,11 @@
 // The vocabulary of document 01, "The clock report". Its rules are the definitions in specs/, and what follows from them is
 // in proofs/.
+#![tactic(auto)]
+
 use module_types::Refusal;
 
 // What a host's own clock gives: bits per second, and seconds per bit.
-#[derive(Drop)]
+#[derive(Clone, Copy)]
 pub struct Rates {
     pub rate: f64,
     pub bittime: f64,
@@ -11,7 +13,7 @@ pub struct Rates {
 
 // Where a module's clock comes from: its own divider, its pin, whose clock must stay below the instruction rate that is
 // carried, or nowhere while it is disabled.
-#[derive(Drop)]
+#[derive(Clone, Copy)]
 pub enum Clock {
     Internal(Rates),
     External(f64),
@@ -19,15 +21,15 @@ pub enum Clock {
 }
 
 // What the clock report answers: a refusal, or the clock.
-#[derive(Drop)]
+#[derive(Clone, Copy)]
 pub enum Reported {
     Refused(Refusal),
     Answered(Clock),
 }
 
 // A clock report in the paper's numbers: the refusal number, 0 if not refused; which clock it is, neither if there is
-// none; and the floats that it carries, 0 where it carries none. saidClock in specs/Clock.antt gives them for each case.
-#[derive(Drop)]
+// none; and the floats that it carries, 0 where it carries none. said_clock in specs/Clock.antt gives them for each case.
+#[derive(Clone, Copy)]
 pub struct ClockSaid {
     pub number: u8,
     pub internal: bool,

@@ -6,8 +6,9 @@
 --     host_unmoved                                          if it makes none
 --     PlainClient, client_entered, client_unmoved, client_clock   the client's call, if it sees an edge, and if it sees none
 -- Assumes nothing.
-use Rattle.laws.proofs.Common.{ℕ, ◌+◌, Bool, true, false, not, ◌&&◌, ◌||◌, Bool·beq, List, [], ◌∷◌, ◌++◌, ◌≡◌, refl, sym, ap}
-use Rattle.laws.proofs.Common.{ap₂, subst₂, ◌∙◌, if◌then◌else◌, by_test, if_true, if_false, clash, and_left, and_right}
+use Rattle.std.specs.Prelude.{◌+◌, ◌&&◌, ◌||◌, ◌∷◌, ◌++◌, ◌≡◌}
+use Rattle.laws.proofs.Common.{ℕ, Bool, true, false, not, Bool·beq, List, [], refl, sym, ap}
+use Rattle.laws.proofs.Common.{ap₂, subst₂, ◌∙◌, when◌then◌else◌, by_test, if_true, if_false, clash, and_left, and_right}
 use Rattle.laws.proofs.Common.{and_rest, and-false, and_first}
 use Rattle.word_order.specs.Ledger.{Terms, begins, Wire, quiet, busy, Ledger, left_to_send, begun_on, is_quiet, edges_given}
 use Rattle.word_order.specs.Port.{Port}
@@ -65,8 +66,8 @@ edge_ops_lem v x sck sdi ss plain heeds edge =
     ∙ ap (λ (b : Bool). turn_ops b v.sdo sdi) (may_is (active v.settings sck) (framed v.settings) _ plain)
 
 -- A driven SDO is read at its level.
-level_law : (b : Bool) → read_as (if b then High else Low) ≡ b
-unfolding if◌then◌else◌
+level_law : (b : Bool) → read_as (when b then High else Low) ≡ b
+unfolding when◌then◌else◌
 level_law true = refl
 level_law false = refl
 
@@ -92,7 +93,7 @@ way_leaves s sdi n owed (Begun p) (busy w) c e =
 
 -- What is on the wire as an edge is given.
 abbrev pub at_edge : Terms → Bool → Ledger → Wire
-at_edge t may l = if may then begun_on t l l.wire else l.wire
+at_edge t may l = when may then begun_on t l l.wire else l.wire
 
 -- An unframed host sends no filler.
 pub host_silent : (s : Settings) → unframed_host s ≡ true → silent s ≡ true

@@ -3,7 +3,8 @@
 --                 before it, and of the run's first call alone; and of the words it would be false without a word boundary, with DISSDO,
 --                 and of modules that no calls reach
 -- Assumes nothing.
-use Rattle.laws.proofs.Common.{ℕ, ◌+◌, Bool, true, false, not, ◌&&◌, List, [], ◌∷◌, ◌≡◌, refl, eqb, if◌then◌else◌}
+use Rattle.std.specs.Prelude.{◌+◌, ◌&&◌, ◌∷◌, ◌≡◌}
+use Rattle.laws.proofs.Common.{ℕ, Bool, true, false, not, List, [], refl, eqb, when◌then◌else◌}
 use Rattle.ring.specs.Ring.{next, contents}
 use Rattle.word_order.specs.Bits.{bit_of}
 use Rattle.word_order.specs.Ledger.{opened, left_to_send, loses, first_on_wire, counted, closed, given}
@@ -19,7 +20,7 @@ use Rattle.module_rules.specs.Loading.{word_leaves, moved, can_load, loaded, nex
 use Rattle.module_rules.specs.Refusals.{number_of}
 use Rattle.module_rules.specs.Registers.{weighed, con1_from, con1_value, con2_from, con2_value, spitbf, spirbf, srxmpt, srmpt, at_most7, spibec, stat_value, stat_settings, spirov_after, stat_engine, enabled_engine, disabled_engine}
 use Rattle.module_rules.specs.Select.{select_remembered, aborted, select_seen}
-use Rattle.module_rules.specs.Lives.{powerUp, life}
+use Rattle.module_rules.specs.Lives.{power_up, life}
 use Rattle.module_rules.proofs.Claims.{all_judged}
 use Rattle.module_rules.proofs.PageHolds.{one_by_one, enabled, words, ticks, pins}
 use Rattle.link_rules.proofs.WirePageHolds.{passed, paced, exchanged, judged, holds, spoken, delivers, after, Runs}
@@ -51,7 +52,7 @@ Marks =
 
 -- Document 02, Twelve: two depths. Ten words of a host of depth 16 to a client of depth 4, which keeps four; and the other way round.
 abbrev deep : Depth → List (List Call) → Module
-deep depth cs = (life (powerUp depth) (one_by_one cs)).now
+deep depth cs = (life (power_up depth) (one_by_one cs)).now
 
 abbrev ten : List Call
 ten = words (1 ∷ 2 ∷ 3 ∷ 4 ∷ 5 ∷ 6 ∷ 7 ∷ 8 ∷ 9 ∷ 10 ∷ [])
@@ -98,7 +99,7 @@ Unreached =
     × (fails (after (enabled 288 0 ∷ words (165 ∷ []) ∷ [])) (top_away (after (enabled 384 0 ∷ words (129 ∷ []) ∷ []))) ≡ true)
 
 pub runs_hold : Modes × Clients × Marks × Depths × Firsts × Asked × Unreached
-unfolding shifted_in received_after shown_bit sdo_after progressed empty_transmit empty_receive first_waiting first_unread written departed appended taken overrun refuse answering powered_at word_taken read_buf read_of turns_on turns_off stat_written write_stat with_con1 with_con2 configured word_written write_buf write_of clock_step_of edge_told tick_of pins_of clear_of perform_of interrupt_of sck_of undriven sdo_of ss_of if◌then◌else◌ begun shifted advanced advanced_if_begun awaits_pulse under_way pulse_due pulse_after pulsed clocked edged stepped overflowed word_appended is_lost delivered sent_dropped freed finished raises noted word_leaves moved can_load loaded next_top sdo_at rested number_of bit_of weighed con1_from con1_value con2_from con2_value spitbf spirbf srxmpt srmpt at_most7 spibec stat_value stat_settings spirov_after stat_engine enabled_engine disabled_engine next select_remembered aborted select_seen level_read made_edge host_ticked client_sees run_stops one_more client_turn handed_over host_turn run_of refuse_link told_of linked_of link_said_of host_calls client_calls run_host_calls run_client_calls waiting unread contents opened left_to_send loses first_on_wire counted closed given judged passed paced exchanged holds spoken delivers fails
+unfolding shifted_in received_after shown_bit sdo_after progressed empty_transmit empty_receive first_waiting first_unread written departed appended taken overrun refuse answering powered_at word_taken read_buf read_of turns_on turns_off stat_written write_stat with_con1 with_con2 configured word_written write_buf write_of clock_step_of edge_told tick_of pins_of clear_of perform_of interrupt_of sck_of undriven sdo_of ss_of when◌then◌else◌ begun shifted advanced advanced_if_begun awaits_pulse under_way pulse_due pulse_after pulsed clocked edged stepped overflowed word_appended is_lost delivered sent_dropped freed finished raises noted word_leaves moved can_load loaded next_top sdo_at rested number_of bit_of weighed con1_from con1_value con2_from con2_value spitbf spirbf srxmpt srmpt at_most7 spibec stat_value stat_settings spirov_after stat_engine enabled_engine disabled_engine next select_remembered aborted select_seen level_read made_edge host_ticked client_sees run_stops one_more client_turn handed_over host_turn run_of refuse_link told_of linked_of link_said_of host_calls client_calls run_host_calls run_client_calls waiting unread contents opened left_to_send loses first_on_wire counted closed given judged passed paced exchanged holds spoken delivers fails
 runs_hold = (
   (refl, refl, refl, refl, refl, refl, refl, refl),
   (refl, refl),

@@ -2,15 +2,15 @@
 --     begins_joined   after the first call, for modules at word boundaries
 --     run_joined      from the host's turn on
 -- Assumes nothing.
-use Rattle.laws.proofs.Common.{ℕ, zero, suc, ◌*◌, Bool, true, false, not, Bool·beq, List, [], ◌∷◌, append-nil, ◌≡◌, refl, sym}
-use Rattle.laws.proofs.Common.{ap, subst, subst₂, ◌∙◌, arith, length, if◌then◌else◌, if_both, by_test, clash}
+use Rattle.std.specs.Prelude.{◌*◌, ◌∷◌, ◌≡◌}
+use Rattle.laws.proofs.Common.{ℕ, zero, suc, Bool, true, false, not, Bool·beq, List, [], append-nil, refl, sym}
+use Rattle.laws.proofs.Common.{ap, subst₂, ◌∙◌, arith, length, when◌then◌else◌, if_both, by_test, clash}
 use Rattle.word_order.specs.Ledger.{Terms, Wire, quiet, Ledger, unmarked, noted_all, given}
 use Rattle.word_order.specs.Port.{idle, is_under, wire_from}
 use Rattle.word_order.specs.Machine.{Entry, entered}
 use Rattle.word_wire.specs.Wire.{turn_ops}
 use Rattle.word_wire.proofs.Lists.{Room}
 use Rattle.word_wire.proofs.Departs.{Departs, none_departs}
-use Rattle.word_wire.proofs.Arrives.{Hears}
 use Rattle.module_rules.proofs.Types.{Settings, Engine, Module, Shift, Free, Loaded, Begun, Answer, Refused, Done, Value}
 use Rattle.module_rules.proofs.Types.{NoEdge, Edge, Call}
 use Rattle.module_rules.specs.Settings.{depth_of, unframed_host}
@@ -20,7 +20,7 @@ use Rattle.module_rules.specs.Calls.{sck_of, perform_of}
 use Rattle.module_rules.specs.Invariant.{Reached, ShiftHolds}
 use Rattle.module_rules.specs.Words.{unread_in}
 use Rattle.module_rules.specs.Watch.{terms, way_of, Watched, watched_call, watched_calls}
-use Rattle.module_rules.specs.Lives.{midLife, resumed_at}
+use Rattle.module_rules.specs.Lives.{mid_life, resumed_at}
 use Rattle.module_rules.proofs.BuffersOrder.{unread_length}
 use Rattle.module_order.proofs.Order.{life_holds, lives_on}
 use Rattle.link_rules.specs.LinkDemands.{tick_beside, pins_beside, host_calls, client_calls}
@@ -52,7 +52,7 @@ run_joined (suc left) host client x y j =
 -- The room of a receive buffer, by the ledger that opens with what the module holds.
 room_is : (m : Module) (h : Reached m) (on : m.settings.spien ≡ true) → Room (terms m.settings) (before m) (room_in m)
 room_is m h on =
-    let t = ((life_holds (midLife m h on) []).tied on).words in
+    let t = ((life_holds (mid_life m h on) []).tied on).words in
     let kept : length (unmarked (before m)) ≡ length (unread_in m) = ap length t.receiving in
     let count : length (unread_in m) ≡ m.engine.receive.count = unread_length (depth_of m.settings) m.engine.receive in
     record {
@@ -73,7 +73,7 @@ beq_same false = refl
 
 -- An edge to the idle level does nothing to a quiet wire.
 unmoved : (t : Terms) (sdo sdi may : Bool) (l : Ledger) → l.wire ≡ quiet → may ≡ false → noted_all t (turn_ops may sdo sdi) l ≡ l
-unfolding given if◌then◌else◌
+unfolding given when◌then◌else◌
 unmoved t sdo sdi true l calm still = clash true refl still
 unmoved t sdo sdi false l calm still = ap (λ (w : Wire). given t sdo sdi w l) calm
 
@@ -84,7 +84,7 @@ calm m r = ap (wire_from (terms m.settings)) r.between
 opens : (m : Module) → Ready m → m.settings.spien ≡ true → End m (resumed_at m)
 opens m r on =
     record {
-      lives = life_holds (midLife m r.reached on) [];
+      lives = life_holds (mid_life m r.reached on) [];
       settings = refl;
       departs = none_departs (terms m.settings) _ refl (calm m r);
       owes = refl;

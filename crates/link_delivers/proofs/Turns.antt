@@ -3,11 +3,12 @@
 --     Joined         two watched modules on one wire, since the run began with these modules
 --     turn_joined    a turn keeps them joined
 -- Assumes nothing.
-use Rattle.laws.proofs.Common.{Bool, true, false, not, ◌||◌, Bool·beq, or-true, ◌≡◌, sym, ap, ap₂, subst, subst₂, ◌∙◌}
+use Rattle.std.specs.Prelude.{◌||◌, ◌≡◌}
+use Rattle.laws.proofs.Common.{Bool, true, false, not, Bool·beq, or-true, sym, ap, ap₂, subst, subst₂, ◌∙◌}
 use Rattle.laws.proofs.Common.{if_false, and_left, and-false, and_first}
 use Rattle.word_order.specs.Ledger.{Terms, Ledger, left_to_send, noted_all}
 use Rattle.word_order.specs.Port.{LegalAll}
-use Rattle.word_order.specs.Machine.{Entry, entered, LegalEntry}
+use Rattle.word_order.specs.Machine.{Entry, entered}
 use Rattle.word_order.proofs.Order.{call_steps}
 use Rattle.word_wire.specs.Wire.{turn_ops}
 use Rattle.word_wire.proofs.Departs.{Departs, turn_departs, turn_accepts}

@@ -1,10 +1,11 @@
 -- The wire delivers: link_rules, specs/WireDemands.antt, all of it.
 --     wire_delivers_lem   what the buyer signs for, of the pair
 -- Assumes nothing.
-use Rattle.laws.proofs.Common.{ℕ, ◌+◌, ◌*◌, ◌-◌, ◌≤◌, true, false, List, [], ◌++◌, ◌≡◌, sym, ap, ap₂, subst, ◌∙◌, sub-zero}
-use Rattle.laws.proofs.Common.{add-zero, le_trans, le_of_eq, arith, length, length-append, take, drop}
+use Rattle.std.specs.Prelude.{◌+◌, ◌*◌, ◌-◌, ◌≤◌, ◌++◌, ◌≡◌}
+use Rattle.laws.proofs.Common.{ℕ, true, false, List, [], sym, ap, ap₂, subst, ◌∙◌, sub-zero}
+use Rattle.laws.proofs.Common.{add-zero, le_trans, le_of_eq, arith, length, length-append}
 use native.Mathlib.Nat.{mul-add}
-use Rattle.word_order.specs.Ledger.{unmarked, Passed, words_of, sent, edges_given}
+use Rattle.word_order.specs.Ledger.{unmarked, Passed, sent, edges_given}
 use Rattle.word_order.specs.Port.{Way, edges_under, wire_from}
 use Rattle.word_order.proofs.Tied.{Tied}
 use Rattle.word_order.proofs.Order.{tied_agrees}
@@ -16,7 +17,7 @@ use Rattle.module_rules.specs.Settings.{width_of, silent}
 use Rattle.module_rules.specs.Invariant.{Reached}
 use Rattle.module_rules.specs.Words.{unread_in, owed_words, unfinished}
 use Rattle.module_rules.specs.Watch.{terms, way_of, port_in, Watched, watched_calls}
-use Rattle.module_rules.specs.Lives.{Beginning, midLife, life, resumed_at}
+use Rattle.module_rules.specs.Lives.{Beginning, mid_life, life, resumed_at}
 use Rattle.module_rules.specs.Demands.{edges_still_owed, IsIdle}
 use Rattle.module_order.proofs.Order.{life_holds}
 use Rattle.module_edges_owed.proofs.Parts.{owed_in}
@@ -50,11 +51,11 @@ paired host client limit a host_driven client_driven =
 
 -- The words that a module holds unread are the unmarked ones of what had arrived.
 held : (m : Module) → Reached m → m.settings.spien ≡ true → unmarked (before m) ≡ unread_in m
-held m r on = ((life_holds (midLife m r on) []).tied on).words.receiving
+held m r on = ((life_holds (mid_life m r on) []).tied on).words.receiving
 
 -- What a host at a word boundary owes.
 owes_whole : (host : Module) (h : Ready host) (on : host.settings.spien ≡ true) →
-    edges_still_owed (life (midLife host h.reached on) []) ≡ whole_words host
+    edges_still_owed (life (mid_life host h.reached on) []) ≡ whole_words host
 owes_whole host h on =
     ap₂ (λ (k g : ℕ). 2 * width_of host.settings * k - g) (sub-zero (length (owed_words host)))
     (ap (λ (w : Way). edges_given (wire_from (terms host.settings) w)) h.between)
@@ -70,11 +71,11 @@ module _ (host client : Module) (limit : ℕ) (a : Accepted host client limit) w
   pair : Paired host.settings client.settings
   pair = paired host client limit (link_when host client limit _ (made host client limit a.unrefused)).0 h.driven g.driven
 
-  abbrev hostBegins : Beginning
-  hostBegins = midLife host h.reached pair.host_on
+  abbrev host_begins : Beginning
+  host_begins = mid_life host h.reached pair.host_on
 
-  abbrev clientBegins : Beginning
-  clientBegins = midLife client g.reached pair.client.on
+  abbrev client_begins : Beginning
+  client_begins = mid_life client g.reached pair.client.on
 
   abbrev x : Watched
   x = watched_calls (resumed_at host) (run_host_calls host client limit)
@@ -102,20 +103,20 @@ module _ (host client : Module) (limit : ℕ) (a : Accepted host client limit) w
 
   -- The modules in the end.
   host-is : (linked_of host client limit).host ≡ x.now
-  host-is = linked_runs_lem.host_lives hostBegins clientBegins [] [] limit a.unrefused
+  host-is = linked_runs_lem.host_lives host_begins client_begins [] [] limit a.unrefused
 
   client-is : (linked_of host client limit).client ≡ y.now
-  client-is = linked_runs_lem.client_lives hostBegins clientBegins [] [] limit a.unrefused
+  client-is = linked_runs_lem.client_lives host_begins client_begins [] [] limit a.unrefused
 
-  hostTied : Tied (terms x.now.settings) (port_in x.now) x.ledger
-  hostTied = (joined.host_end.lives.tied joined.pair.host_on).words
+  host_tied : Tied (terms x.now.settings) (port_in x.now) x.ledger
+  host_tied = (joined.host_end.lives.tied joined.pair.host_on).words
 
-  clientTied : Tied (terms y.now.settings) (port_in y.now) y.ledger
-  clientTied = (joined.client_end.lives.tied joined.pair.client.on).words
+  client_tied : Tied (terms y.now.settings) (port_in y.now) y.ledger
+  client_tied = (joined.client_end.lives.tied joined.pair.client.on).words
 
   -- What the host edges_still_owed has departed or is edges_still_owed still.
   accounted : length (owed_words host) ≡ gone + length (owed_words x.now)
-  accounted = ap length (sym joined.host_end.owes) ∙ whole hostTied joined.host_end.departs sends_none
+  accounted = ap length (sym joined.host_end.owes) ∙ whole host_tied joined.host_end.departs sends_none
 
   no-filler : gone ≤ length (owed_words host)
   no-filler = omega (arith, accounted)
@@ -129,7 +130,7 @@ module _ (host client : Module) (limit : ℕ) (a : Accepted host client limit) w
       ap owed_in host-is
       ∙ sym (owed_is_held x (joined.host_end.lives.tied joined.pair.host_on))
       ∙ ap₂ (λ (s : Settings) (k : ℕ). 2 * width_of s * k - edges_given x.ledger.wire) joined.host_end.settings
-      (less _ _ _ (ap length hostTied.sending ∙ length-append (sent x.ledger) (owed_words x.now)))
+      (less _ _ _ (ap length host_tied.sending ∙ length-append (sent x.ledger) (owed_words x.now)))
     where
       less : (a b c : ℕ) → a ≡ b + c → a - b ≡ c
       less a b c e = omega arith
@@ -140,11 +141,11 @@ module _ (host client : Module) (limit : ℕ) (a : Accepted host client limit) w
       ap (λ (k : ℕ). wide * k) accounted ∙ mul-add wide gone (length (owed_words x.now)) in
       let fits : edges_given x.ledger.wire ≤ wide * length (owed_words x.now) =
       subst (λ (s : Settings). edges_given x.ledger.wire ≤ 2 * width_of s * length (owed_words x.now)) joined.host_end.settings
-      (within hostTied joined.host_end.departs sends_none) in
+      (within host_tied joined.host_end.departs sends_none) in
       let pays : edges_used host client limit + owed_in (linked_of host client limit).host ≡ owed_in host =
       link_pays host client limit _ h.reached.holds (made host client limit a.unrefused) in
       let first : owed_in host ≡ wide * length (owed_words host) =
-      sym (owed_is_held (resumed_at host) ((life_holds hostBegins []).tied pair.host_on)) ∙ owes_whole host h pair.host_on in
+      sym (owed_is_held (resumed_at host) ((life_holds host_begins []).tied pair.host_on)) ∙ owes_whole host h pair.host_on in
       paid _ _ _ _ (ap (λ (k : ℕ). edges_used host client limit + k) (sym owed-now) ∙ pays ∙ first ∙ all) fits
     where
       paid : (used one rest given : ℕ) → used + (rest - given) ≡ one + rest → given ≤ rest → used ≡ one + given
@@ -183,7 +184,7 @@ module _ (host client : Module) (limit : ℕ) (a : Accepted host client limit) w
           client_unread =
               cc (
                 client-is,
-                unread_is clientTied joined.to_client.arrives,
+                unread_is client_tied joined.to_client.arrives,
                 held client g.reached pair.client.on,
                 host-sent,
                 all,
@@ -192,7 +193,7 @@ module _ (host client : Module) (limit : ℕ) (a : Accepted host client limit) w
           host_unread =
               cc (
                 host-is,
-                unread_is hostTied joined.to_host.arrives,
+                unread_is host_tied joined.to_host.arrives,
                 held host h.reached pair.host_on,
                 client-sent,
                 as_many,
@@ -200,14 +201,14 @@ module _ (host client : Module) (limit : ℕ) (a : Accepted host client limit) w
               );
           host_owes = ap owed_words host-is ∙ owes_none;
           client_owes =
-              cc (client-is, left clientTied joined.client_end.departs, as_many, joined.client_end.owes);
+              cc (client-is, left client_tied joined.client_end.departs, as_many, joined.client_end.owes);
           between =
               ap (λ (m : Module). (port_in m).way) client-is
-              ∙ across hostTied clientTied joined.to_client.arrives.wire (ap way_of idle-now.free);
+              ∙ across host_tied client_tied joined.to_client.arrives.wire (ap way_of idle-now.free);
           edges =
               edges
               ∙ ap₂ (λ (k given : ℕ). wide * k + given) all
-              ((tied_agrees _ _ _ hostTied).given ∙ ap (λ (sh : Shift). edges_under (way_of sh)) idle-now.free)
+              ((tied_agrees _ _ _ host_tied).given ∙ ap (λ (sh : Shift). edges_under (way_of sh)) idle-now.free)
               ∙ add-zero (whole_words host);
         }
 
@@ -216,13 +217,13 @@ ends_idle_lem : (host client : Module) (limit : ℕ) → Accepted host client li
     IsIdle (linked_of host client limit).host
 ends_idle_lem host client limit a enough =
     let on : host.settings.spien ≡ true = (pair host client limit a).host_on in
-    (linked_runs_lem.uses_owed (midLife host a.host_ready.reached on) [] client limit a.unrefused
+    (linked_runs_lem.uses_owed (mid_life host a.host_ready.reached on) [] client limit a.unrefused
     (le_trans (le_of_eq (owes_whole host a.host_ready on)) enough)).1
 
 covered : (host client : Module) (limit : ℕ) → Accepted host client limit → whole_words host ≤ largest_limit
 covered host client limit a =
     let on : host.settings.spien ≡ true = (pair host client limit a).host_on in
-    le_trans (le_of_eq (sym (owes_whole host a.host_ready on))) (linked_runs_lem.most_owed (midLife host a.host_ready.reached on) [] on)
+    le_trans (le_of_eq (sym (owes_whole host a.host_ready on))) (linked_runs_lem.most_owed (mid_life host a.host_ready.reached on) [] on)
 
 pub wire_delivers_lem : WireDelivers
 wire_delivers_lem =

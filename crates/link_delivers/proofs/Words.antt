@@ -2,7 +2,8 @@
 --     arriving_is     words that arrive
 --     departing_is    words that depart, and as words
 -- Assumes nothing.
-use Rattle.laws.proofs.Common.{ℕ, zero, suc, ◌-◌, ◌≤◌, true, false, List, [], ◌∷◌, ◌++◌, ◌≡◌, refl, sym, ap, ◌∙◌, sub-zero}
+use Rattle.std.specs.Prelude.{◌≤◌, ◌∷◌, ◌++◌, ◌≡◌}
+use Rattle.laws.proofs.Common.{ℕ, zero, suc, true, false, List, [], refl, sym, ap, ◌∙◌, sub-zero}
 use Rattle.laws.proofs.Common.{arith, length, take, replicate}
 use native.Mathlib.Nat.{zero-sub, suc-sub-suc}
 use Rattle.word_order.specs.Ledger.{Passed, words_of}

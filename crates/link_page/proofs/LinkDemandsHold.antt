@@ -1,13 +1,12 @@
 -- The demands of specs/LinkDemands.antt, all of them.
 --     linked_runs_lem   what the buyer signs for, of two modules on one wire
 -- Assumes nothing.
-use Rattle.laws.proofs.Common.{ℕ, ◌≤◌, zero-le, List, [], ◌∷◌, ◌++◌, ◌≡◌, refl, sym, subst, ◌∙◌, arith, lit≤}
-use Rattle.module_rules.proofs.Types.{Module, Call, Refusal, NoSuchRegister, Disabled, Enabled, TransmitFull, ReceiveEmpty}
+use Rattle.std.specs.Prelude.{◌≤◌, ◌≡◌}
+use Rattle.laws.proofs.Common.{ℕ, zero-le, refl, sym, subst, ◌∙◌, arith, lit≤}
+use Rattle.module_rules.proofs.Types.{Module, Refusal, NoSuchRegister, Disabled, Enabled, TransmitFull, ReceiveEmpty}
 use Rattle.module_rules.proofs.Types.{WrongClock, NoRate, UnreadableLine, DifferentModes, TooManyEdges, Undivided}
 use Rattle.module_rules.proofs.Types.{LateSampling, UnselectedCke, Overflowed, NoSuchDepth}
 use Rattle.module_rules.specs.Refusals.{number_of}
-use Rattle.module_rules.specs.Calls.{after_calls}
-use Rattle.module_rules.specs.Watch.{Watched, watched_call, watched_calls}
 use Rattle.module_rules.specs.Lives.{begins, life}
 use Rattle.module_rules.specs.Demands.{edges_still_owed}
 use Rattle.module_order.proofs.Order.{life_holds}

@@ -4,7 +4,8 @@
 --     link_uses_owed   with a limit of at least what the host owes, exactly that is used and the host is idle
 --     link_uses_limit  with a limit of at most that, exactly the limit is used
 -- Assumes nothing.
-use Rattle.laws.proofs.Common.{ℕ, zero, suc, ◌+◌, ◌*◌, ◌≤◌, ◌<◌, Bool, true, false, not, ◌||◌, List, [], ◌∷◌, ◌≡◌, refl, sym}
+use Rattle.std.specs.Prelude.{◌+◌, ◌*◌, ◌≤◌, ◌<◌, ◌||◌, ◌∷◌, ◌≡◌}
+use Rattle.laws.proofs.Common.{ℕ, zero, suc, Bool, true, false, not, List, [], refl, sym}
 use Rattle.laws.proofs.Common.{ap, subst, ◌∙◌, le_trans, mul-le-mul, arith, ltb-true, ltb-false, ltb, length, if_keeps}
 use Rattle.laws.proofs.Common.{by_test, and-false, and_left, and_both, clash}
 use native.Mathlib.Nat.{sub-le}

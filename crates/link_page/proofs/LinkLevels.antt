@@ -2,8 +2,9 @@
 --     level_read_lem        what the other end reads of an enabled module that is not deselected
 --     sampling_leaves   an edge that samples leaves SDO, also the last one of a word
 -- Assumes nothing.
-use Rattle.laws.proofs.Common.{ℕ, ◌+◌, ◌*◌, ◌%◌, ◌<◌, Bool, true, false, not, ◌&&◌, ◌||◌, ◌≡◌, refl, sym, ap, arith}
-use Rattle.laws.proofs.Common.{ltb-false, eqb-true, ltb, if◌then◌else◌, if_keeps, if_true, clash, like}
+use Rattle.std.specs.Prelude.{◌+◌, ◌*◌, ◌%◌, ◌<◌, ◌&&◌, ◌||◌, ◌≡◌}
+use Rattle.laws.proofs.Common.{ℕ, Bool, true, false, not, refl, sym, ap, arith}
+use Rattle.laws.proofs.Common.{ltb-false, eqb-true, ltb, when◌then◌else◌, if_keeps, if_true, clash, like}
 use Rattle.module_rules.proofs.Types.{Settings, Engine, Module, Progress, Low, High, Undriven}
 use Rattle.module_rules.specs.Settings.{width_of, cke_of}
 use Rattle.module_rules.specs.Bits.{samples, sdo_after}
@@ -15,8 +16,8 @@ use Rattle.link_rules.specs.Link.{level_read}
 
 -- What the other end reads of an SDO that is not off and not deselected.
 read_level : (off dissdo away sdo : Bool) → off ≡ false → away ≡ false →
-    (not dissdo && sdo) ≡ level_read (if off || (dissdo || away) then Undriven else if sdo then High else Low)
-unfolding level_read if◌then◌else◌
+    (not dissdo && sdo) ≡ level_read (when off || (dissdo || away) then Undriven else when sdo then High else Low)
+unfolding level_read when◌then◌else◌
 read_level true dissdo away sdo e f = clash true refl e
 read_level false dissdo true sdo e f = clash true refl f
 read_level false true false sdo e f = refl

@@ -9,8 +9,9 @@
 --     link_holds_lem                both ends keep the invariant, whatever the limit
 --     link_within_limit         the edges used are never above the limit
 -- Assumes nothing.
-use Rattle.laws.proofs.Common.{ℕ, zero, suc, ◌≤◌, zero-le, Bool, true, false, not, ◌&&◌, ◌||◌, Bool·beq, List, ◌≡◌, refl, sym}
-use Rattle.laws.proofs.Common.{ap, ap₂, subst, ◌∙◌, arith, not-false, eqb-true, ltb, eqb, if◌then◌else◌, by_test, if_keeps}
+use Rattle.std.specs.Prelude.{◌≤◌, ◌&&◌, ◌||◌, ◌≡◌}
+use Rattle.laws.proofs.Common.{ℕ, zero, suc, zero-le, Bool, true, false, not, Bool·beq, List, refl, sym}
+use Rattle.laws.proofs.Common.{ap, ap₂, subst, ◌∙◌, arith, not-false, eqb-true, ltb, eqb, when◌then◌else◌, by_test, if_keeps}
 use Rattle.laws.proofs.Common.{if_false, clash, or_left, or_right, like}
 use Rattle.module_rules.proofs.Types.{Settings, Module, Outcome, Refusal, Disabled, WrongClock, DifferentModes, TooManyEdges}
 use Rattle.module_rules.proofs.Types.{Answer, Refused, Done, Value, NoEdge, Edge, Output, Low, High, Undriven, Call}
@@ -34,8 +35,8 @@ tells_edges (linked.Used n) = true
 
 -- A run that may be refused by a test and is not has passed the test.
 passes : (host client : Module) (r : Refusal) (n : ℕ) (b : Bool) (l : Linked) →
-    (if b then refuse_link host client r else l).answer ≡ linked.Used n → (b ≡ false) × (l.answer ≡ linked.Used n)
-unfolding if◌then◌else◌ refuse_link
+    (when b then refuse_link host client r else l).answer ≡ linked.Used n → (b ≡ false) × (l.answer ≡ linked.Used n)
+unfolding when◌then◌else◌ refuse_link
 passes host client r n true l e = clash (tells_edges (linked.Used n)) refl (sym (ap tells_edges e))
 passes host client r n false l e = (refl, e)
 
@@ -109,7 +110,7 @@ module _ (host client : Module) (limit : ℕ) where
       ∙ if_false (different_modes host.settings client.settings) _ _ a.alike
 
 -- A choice between two runs has what both have.
-either_link : (P : Linked → Type 0) (b : Bool) (x y : Linked) → P x → P y → P (if b then x else y)
+either_link : (P : Linked → Type 0) (b : Bool) (x y : Linked) → P x → P y → P (when b then x else y)
 either_link P b x y h k = if_keeps P b x y (λ e. h) (λ e. k)
 
 -- What a run has if its refusals have it, and the run has it.
@@ -165,19 +166,19 @@ shown host client = (perform_of client (pins_beside host)).after
 abbrev pub turned : ℕ → Module → Module → Run
 turned left host client =
     let o : Outcome = ticked host client in
-    if is_edge o.answer then one_more (host_turn left o.after (shown o.after client)) else run_stops o.after client
+    when is_edge o.answer then one_more (host_turn left o.after (shown o.after client)) else run_stops o.after client
 
 pub turn_is : (left : ℕ) (host client : Module) → host_turn (suc left) host client ≡ turned left host client
 unfolding host_turn handed_over client_turn
 turn_is left host client =
     let o : Outcome = ticked host client in
     ap (λ (o : Outcome). handed_over (host_turn left) o client) (tick_is host client)
-    ∙ ap₂ (λ (b : Bool) (m : Module). if b then one_more (host_turn left o.after m) else run_stops o.after client)
+    ∙ ap₂ (λ (b : Bool) (m : Module). when b then one_more (host_turn left o.after m) else run_stops o.after client)
     (edge_is o.answer) (sees_is o.after client)
 
 -- An edge counts one, and nothing else does.
-edge_counts : (a : Answer) → (said_of a).edges ≡ (if is_edge a then 1 else 0)
-unfolding if◌then◌else◌
+edge_counts : (a : Answer) → (said_of a).edges ≡ (when is_edge a then 1 else 0)
+unfolding when◌then◌else◌
 edge_counts (Refused r) = refl
 edge_counts Done = refl
 edge_counts (Value v) = refl
@@ -194,7 +195,7 @@ pub record Ran (left : ℕ) (host client : Module) (r : Run) (hosts clients : Li
 -- So it is from the host's turn on.
 turn_ran : (left : ℕ) (host client : Module) →
     Ran left host client (host_turn left host client) (host_calls left host client) (client_calls left host client)
-unfolding host_turn one_more run_stops host_calls client_calls if◌then◌else◌
+unfolding host_turn one_more run_stops host_calls client_calls when◌then◌else◌
 turn_ran zero host client = record { host_does = refl; client_does = refl; counts = refl; within = zero-le }
 turn_ran (suc left) host client =
     let o : Outcome = ticked host client in

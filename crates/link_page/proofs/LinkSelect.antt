@@ -1,7 +1,8 @@
 -- A linked run leaves its client's select low.
 --     link_selected    after a linked run the client's select is low
 -- Assumes nothing.
-use Rattle.laws.proofs.Common.{ℕ, zero, suc, Bool, true, false, not, ◌&&◌, ◌≡◌, sym, ap, subst, ◌∙◌, if_keeps}
+use Rattle.std.specs.Prelude.{◌&&◌, ◌≡◌}
+use Rattle.laws.proofs.Common.{ℕ, zero, suc, Bool, true, false, not, sym, ap, subst, ◌∙◌, if_keeps}
 use Rattle.module_rules.proofs.Types.{Module, Outcome, Done}
 use Rattle.module_rules.specs.Settings.{own_clock}
 use Rattle.module_rules.specs.Refusals.{is_edge}

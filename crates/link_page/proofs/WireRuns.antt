@@ -1,7 +1,8 @@
 -- A run at concrete calls that meets the hypotheses of the wire's page is one of which the page speaks.
 --     page_runs   what the page says of it is what `holds` judges
 -- Assumes nothing.
-use Rattle.laws.proofs.Common.{ℕ, true, false, not, ◌&&◌, List, ◌≡◌, refl, eqb-true, not-true, eqb, and_left, and_right}
+use Rattle.std.specs.Prelude.{◌&&◌, ◌≡◌}
+use Rattle.laws.proofs.Common.{ℕ, true, false, not, List, refl, eqb-true, not-true, eqb, and_left, and_right}
 use Rattle.laws.proofs.Common.{clash}
 use Rattle.word_order.specs.Port.{Way, idle, sends, is_under}
 use Rattle.module_rules.proofs.Types.{Module, Call}

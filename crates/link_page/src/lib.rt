@@ -1,1 +1,2 @@
 // The page of linked runs, proved over all calls (`proofs/`).
+#![tactic(auto)]

@@ -3,8 +3,9 @@
 --     page_judges   it follows from the page: a run of which it is false refutes the page
 --     runs_hold     it is true of these runs
 -- Assumes nothing.
-use Rattle.laws.proofs.Common.{ℕ, Bool, true, false, ◌&&◌, List, [], ◌∷◌, ◌++◌, ◌≡◌, refl, sym, ap, ◌∙◌, eq-eqb, eqb, length}
-use Rattle.laws.proofs.Common.{if◌then◌else◌, and_both}
+use Rattle.std.specs.Prelude.{◌&&◌, ◌∷◌, ◌++◌, ◌≡◌}
+use Rattle.laws.proofs.Common.{ℕ, Bool, true, false, List, [], refl, sym, ap, ◌∙◌, eq-eqb, eqb, length}
+use Rattle.laws.proofs.Common.{when◌then◌else◌, and_both}
 use mir.Val.{bool_byte}
 use Rattle.ring.specs.Ring.{next, contents}
 use Rattle.word_order.specs.Bits.{bit_of}
@@ -23,7 +24,7 @@ use Rattle.module_rules.specs.Select.{select_remembered, aborted, select_seen}
 use Rattle.module_rules.specs.Words.{unread_in, owed_words}
 use Rattle.module_rules.specs.Demands.{edges_made}
 use Rattle.module_rules.specs.Watch.{Watched, watched_call, watched_calls}
-use Rattle.module_rules.specs.Lives.{powerUp, begins, life}
+use Rattle.module_rules.specs.Lives.{power_up, begins, life}
 use Rattle.module_rules.proofs.Claims.{numbers, same_numbers, judge_exact}
 use Rattle.link_rules.specs.declared.Linked.{Linked}
 use Rattle.link_rules.specs.Link.{level_read, made_edge, host_ticked, client_sees, run_stops, one_more, client_turn, handed_over, host_turn, run_of, refuse_link, told_of, linked_of, link_said_of}
@@ -64,20 +65,20 @@ runs limit used host client =
     judged host client used (linked_of host client limit) (run_host_calls host client limit) (run_client_calls host client limit)
 
 abbrev pub Runs : List Call → List Call → ℕ → ℕ → Type 0
-Runs hosts clients limit used = runs limit used (life (powerUp Eight) hosts).now (life (powerUp Eight) clients).now ≡ true
+Runs hosts clients limit used = runs limit used (life (power_up Eight) hosts).now (life (power_up Eight) clients).now ≡ true
 
 -- The page gives it, with the edges that it tells.
 pub page_judges : LinkedRuns → (hosts clients : List Call) (limit : ℕ) →
-    refusal_of (life (powerUp Eight) hosts).now (life (powerUp Eight) clients).now limit ≡ 0 →
-    Runs hosts clients limit (edges_used (life (powerUp Eight) hosts).now (life (powerUp Eight) clients).now limit)
+    refusal_of (life (power_up Eight) hosts).now (life (power_up Eight) clients).now limit ≡ 0 →
+    Runs hosts clients limit (edges_used (life (power_up Eight) hosts).now (life (power_up Eight) clients).now limit)
 unfolding runs judged
 page_judges p hosts clients limit made =
-    let host : Module = (life (powerUp Eight) hosts).now in
-    let client : Module = (life (powerUp Eight) clients).now in
+    let host : Module = (life (power_up Eight) hosts).now in
+    let client : Module = (life (power_up Eight) clients).now in
     let same : (m n : Module) → m ≡ n → same_numbers (shows m) (shows n) ≡ true =
     λ m n e. (judge_exact (numbers (shows m) (shows n))).1 (ap shows e) in
-    and_both _ _ (same _ _ (p.host_lives (powerUp Eight) (powerUp Eight) hosts clients limit made ∙ sym (life_goes_on (begins (powerUp Eight)) hosts _)))
-    (and_both _ _ (same _ _ (p.client_lives (powerUp Eight) (powerUp Eight) hosts clients limit made ∙ sym (life_goes_on (begins (powerUp Eight)) clients _)))
+    and_both _ _ (same _ _ (p.host_lives (power_up Eight) (power_up Eight) hosts clients limit made ∙ sym (life_goes_on (begins (power_up Eight)) hosts _)))
+    (and_both _ _ (same _ _ (p.client_lives (power_up Eight) (power_up Eight) hosts clients limit made ∙ sym (life_goes_on (begins (power_up Eight)) clients _)))
     (and_both _ _ (eq-eqb (edges_used host client limit) (edges_made host (run_host_calls host client limit)) (p.counts_edges host client limit made)) (eq-eqb (edges_used host client limit) (edges_used host client limit) refl)))
 
 -- A host and a client; DISSDO at the host, whose bits the client reads as 0; DISSDO at the client; 16 bits with CKE and select high
@@ -88,5 +89,5 @@ runs_hold :
     × Runs (ready 32 165 []) (ready 2048 60 []) 16 16
     × Runs (ready 1376 42405 []) (ready 1472 33023 []) 288 32
     × Runs (ready 32 165 (Tick true false ∷ Tick true false ∷ [])) (ready 0 60 (Pin true true false ∷ [])) 5 5
-unfolding shifted_in received_after shown_bit sdo_after progressed empty_transmit empty_receive first_waiting first_unread written departed appended taken overrun refuse answering powered_at word_taken read_buf read_of turns_on turns_off stat_written write_stat with_con1 with_con2 configured word_written write_buf write_of clock_step_of edge_told tick_of pins_of clear_of perform_of interrupt_of sck_of undriven sdo_of ss_of if◌then◌else◌ begun shifted advanced advanced_if_begun awaits_pulse under_way pulse_due pulse_after pulsed clocked edged stepped overflowed word_appended is_lost delivered sent_dropped freed finished raises noted word_leaves moved can_load loaded next_top sdo_at rested number_of bit_of weighed con1_from con1_value con2_from con2_value spitbf spirbf srxmpt srmpt at_most7 spibec stat_value stat_settings spirov_after stat_engine enabled_engine disabled_engine next select_remembered aborted select_seen level_read made_edge host_ticked client_sees run_stops one_more client_turn handed_over host_turn run_of refuse_link told_of linked_of link_said_of host_calls client_calls run_host_calls run_client_calls shows judged runs waiting unread contents opened
+unfolding shifted_in received_after shown_bit sdo_after progressed empty_transmit empty_receive first_waiting first_unread written departed appended taken overrun refuse answering powered_at word_taken read_buf read_of turns_on turns_off stat_written write_stat with_con1 with_con2 configured word_written write_buf write_of clock_step_of edge_told tick_of pins_of clear_of perform_of interrupt_of sck_of undriven sdo_of ss_of when◌then◌else◌ begun shifted advanced advanced_if_begun awaits_pulse under_way pulse_due pulse_after pulsed clocked edged stepped overflowed word_appended is_lost delivered sent_dropped freed finished raises noted word_leaves moved can_load loaded next_top sdo_at rested number_of bit_of weighed con1_from con1_value con2_from con2_value spitbf spirbf srxmpt srmpt at_most7 spibec stat_value stat_settings spirov_after stat_engine enabled_engine disabled_engine next select_remembered aborted select_seen level_read made_edge host_ticked client_sees run_stops one_more client_turn handed_over host_turn run_of refuse_link told_of linked_of link_said_of host_calls client_calls run_host_calls run_client_calls shows judged runs waiting unread contents opened
 runs_hold = (refl, refl, refl, refl, refl)

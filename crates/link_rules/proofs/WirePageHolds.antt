@@ -4,14 +4,14 @@
 --     page_runs             of two modules that calls reach from power-up it follows by a test alone
 --     runs_hold             it is true of these runs; more of them, and runs that do not deliver, stand in crates/link_delivers
 -- Assumes nothing.
-use Rattle.laws.proofs.Common.{ℕ, ◌+◌, ◌*◌, Bool, true, false, not, ◌&&◌, ◌||◌, List, [], ◌∷◌, ◌++◌, ◌≡◌, refl, ap, leb-true}
-use Rattle.laws.proofs.Common.{eqb-true, not-true, eqb, leb, length, take, drop, if◌then◌else◌, and_left, and_right, and_both}
-use Rattle.laws.proofs.Common.{clash}
+use Rattle.std.specs.Prelude.{◌+◌, ◌*◌, ◌&&◌, ◌||◌, ◌∷◌, ◌++◌, ◌≡◌}
+use Rattle.laws.proofs.Common.{ℕ, Bool, true, false, not, List, [], refl, ap, leb-true}
+use Rattle.laws.proofs.Common.{eqb, leb, length, take, drop, when◌then◌else◌, and_both}
 use mir.Val.{bool_byte}
 use Rattle.ring.specs.Ring.{next, contents}
 use Rattle.word_order.specs.Bits.{bit_of}
 use Rattle.word_order.specs.Ledger.{Passed, Ledger, words_of, edges_given, opened, left_to_send, loses, first_on_wire, counted, closed, given}
-use Rattle.word_order.specs.Port.{Way, idle, sends, is_under, all_unmarked}
+use Rattle.word_order.specs.Port.{is_under, all_unmarked}
 use Rattle.module_rules.proofs.Types.{Eight, Module, Call}
 use Rattle.module_rules.specs.Bits.{shifted_in, received_after, shown_bit, sdo_after, progressed}
 use Rattle.module_rules.specs.Buffers.{waiting, unread, empty_transmit, empty_receive, first_waiting, first_unread, written, departed, appended, taken, overrun}
@@ -26,13 +26,13 @@ use Rattle.module_rules.specs.Select.{select_remembered, aborted, select_seen}
 use Rattle.module_rules.specs.InBits.{word_bits}
 use Rattle.module_rules.specs.Words.{unread_in, owed_words}
 use Rattle.module_rules.specs.Watch.{port_in}
-use Rattle.module_rules.specs.Lives.{Beginning, powerUp, life}
+use Rattle.module_rules.specs.Lives.{power_up, life}
 use Rattle.module_rules.proofs.Claims.{Claim, level, number, numbers, AllHold, none, ◌also◌, all_judged, all_judged_lem}
 use Rattle.module_rules.proofs.PageHolds.{one_by_one, enabled, words, ticks, pins}
 use Rattle.link_rules.specs.declared.Linked.{Linked}
 use Rattle.link_rules.specs.Link.{level_read, made_edge, host_ticked, client_sees, run_stops, one_more, client_turn, handed_over, host_turn, run_of, refuse_link, told_of, linked_of, link_said_of}
 use Rattle.link_rules.specs.LinkDemands.{host_calls, client_calls, run_host_calls, run_client_calls, refusal_of}
-use Rattle.link_rules.specs.WireDemands.{Ready, Accepted, host_ledger, client_ledger, before, room_in, received, sent_of, first_of, Delivers, whole_words, Exchanges, WireDelivers}
+use Rattle.link_rules.specs.WireDemands.{Accepted, host_ledger, client_ledger, before, room_in, received, sent_of, first_of, Delivers, whole_words, Exchanges, WireDelivers}
 
 -- A list of words that passed as numbers: twice the word, and one more for its mark.
 abbrev told : List Passed → List ℕ
@@ -128,7 +128,7 @@ unfoldable pub delivers : Module → Module → ℕ → Bool
 delivers host client limit = spoken host client limit && holds host client limit
 
 abbrev pub after : List (List Call) → Module
-after cs = (life (powerUp Eight) (one_by_one cs)).now
+after cs = (life (power_up Eight) (one_by_one cs)).now
 
 abbrev pub Runs : ℕ → List (List Call) → List (List Call) → Type 0
 Runs limit hosts clients = delivers (after hosts) (after clients) limit ≡ true
@@ -143,5 +143,5 @@ runs_hold :
     (enabled 128 1 ∷ pins 16 true false ∷ words (129 ∷ []) ∷ [])
     × Runs 32 (enabled 1120 0 ∷ words (42435 ∷ []) ∷ []) (enabled 1216 1 ∷ words (61455 ∷ 4660 ∷ []) ∷ [])
     × Runs 21 (enabled 288 0 ∷ words (165 ∷ 60 ∷ []) ∷ []) (enabled 384 0 ∷ words (129 ∷ []) ∷ [])
-unfolding shifted_in received_after shown_bit sdo_after progressed empty_transmit empty_receive first_waiting first_unread written departed appended taken overrun refuse answering powered_at word_taken read_buf read_of turns_on turns_off stat_written write_stat with_con1 with_con2 configured word_written write_buf write_of clock_step_of edge_told tick_of pins_of clear_of perform_of interrupt_of sck_of undriven sdo_of ss_of if◌then◌else◌ begun shifted advanced advanced_if_begun awaits_pulse under_way pulse_due pulse_after pulsed clocked edged stepped overflowed word_appended is_lost delivered sent_dropped freed finished raises noted word_leaves moved can_load loaded next_top sdo_at rested number_of bit_of weighed con1_from con1_value con2_from con2_value spitbf spirbf srxmpt srmpt at_most7 spibec stat_value stat_settings spirov_after stat_engine enabled_engine disabled_engine next select_remembered aborted select_seen level_read made_edge host_ticked client_sees run_stops one_more client_turn handed_over host_turn run_of refuse_link told_of linked_of link_said_of host_calls client_calls run_host_calls run_client_calls waiting unread contents opened left_to_send loses first_on_wire counted closed given judged passed paced exchanged holds spoken delivers
+unfolding shifted_in received_after shown_bit sdo_after progressed empty_transmit empty_receive first_waiting first_unread written departed appended taken overrun refuse answering powered_at word_taken read_buf read_of turns_on turns_off stat_written write_stat with_con1 with_con2 configured word_written write_buf write_of clock_step_of edge_told tick_of pins_of clear_of perform_of interrupt_of sck_of undriven sdo_of ss_of when◌then◌else◌ begun shifted advanced advanced_if_begun awaits_pulse under_way pulse_due pulse_after pulsed clocked edged stepped overflowed word_appended is_lost delivered sent_dropped freed finished raises noted word_leaves moved can_load loaded next_top sdo_at rested number_of bit_of weighed con1_from con1_value con2_from con2_value spitbf spirbf srxmpt srmpt at_most7 spibec stat_value stat_settings spirov_after stat_engine enabled_engine disabled_engine next select_remembered aborted select_seen level_read made_edge host_ticked client_sees run_stops one_more client_turn handed_over host_turn run_of refuse_link told_of linked_of link_said_of host_calls client_calls run_host_calls run_client_calls waiting unread contents opened left_to_send loses first_on_wire counted closed given judged passed paced exchanged holds spoken delivers
 runs_hold = (refl, refl, refl, refl, refl)

@@ -1,7 +1,7 @@
 -- Document 01, "Two modules on one wire": a linked run of a host with its own clock and a client, both unframed.
 use Rattle.std.specs.Prelude.{ℕ, zero, suc, ◌+◌, ◌*◌, Bool, true, false, not, ◌||◌, eqb, ltb}
 use Rattle.std.specs.Bool.{beq}
-use Rattle.laws.specs.Choice.{if◌then◌else◌}
+use Rattle.laws.specs.Choice.{when◌then◌else◌}
 use Rattle.module_types.specs.declared.Depth.TheVariants.{Sixteen}
 use Rattle.module_types.specs.declared.Settings.{Settings}
 use Rattle.module_types.specs.declared.Module.{Module}
@@ -63,7 +63,7 @@ client_turn back host client = one_more (back host (client_sees host client))
 -- Once the host has ticked: an edge hands over to the client's turn, and no edge ends the run.
 unfoldable pub handed_over : (Module → Module → Run) → Outcome → Module → Run
 handed_over back ticked client =
-    if made_edge ticked.answer then client_turn back ticked.after client else run_stops ticked.after client
+    when made_edge ticked.answer then client_turn back ticked.after client else run_stops ticked.after client
 
 -- The host's turn with some edges left: with none left the run ends, else the host ticks. The client's turn hands back
 -- with one edge fewer left.
@@ -101,10 +101,10 @@ told_of r = record { answer = linked.Used r.used; host = r.host; client = r.clie
 -- A linked run: 11, then 2 for the host and the client, 7, 10; then the run.
 unfoldable pub linked_of : Module → Module → ℕ → Linked
 linked_of host client limit =
-    if ltb most_edges limit then refuse_link host client TooManyEdges
-    else if either_disabled host.settings client.settings then refuse_link host client Disabled
-    else if wrong_roles host.settings client.settings then refuse_link host client WrongClock
-    else if different_modes host.settings client.settings then refuse_link host client DifferentModes
+    when ltb most_edges limit then refuse_link host client TooManyEdges
+    else when either_disabled host.settings client.settings then refuse_link host client Disabled
+    else when wrong_roles host.settings client.settings then refuse_link host client WrongClock
+    else when different_modes host.settings client.settings then refuse_link host client DifferentModes
     else told_of (run_of host client limit)
 
 -- What the answer of a linked run says in the paper's numbers.

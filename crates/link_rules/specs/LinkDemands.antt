@@ -2,7 +2,7 @@
 -- proofs/LinkDemandsHold.antt proves it. A run is said to be made if its refusal number is 0.
 use Rattle.std.specs.Prelude.{ℕ, zero, suc, ◌≤◌, Bool, true, false, not, ◌||◌, List, [], ◌∷◌, ◌++◌, ◌≡◌, ltb}
 use Rattle.std.specs.Bool.{beq}
-use Rattle.laws.specs.Choice.{if◌then◌else◌}
+use Rattle.laws.specs.Choice.{when◌then◌else◌}
 use Rattle.module_types.specs.declared.Module.{Module}
 use Rattle.module_types.specs.declared.Outcome.{Outcome}
 use Rattle.module_types.specs.declared.Output.{Output}
@@ -58,13 +58,13 @@ host_calls zero host client = []
 host_calls (suc left) host client =
     let ticked : Outcome = perform_of host (tick_beside client) in
     tick_beside client
-    ∷ (if is_edge ticked.answer then host_calls left ticked.after (perform_of client (pins_beside ticked.after)).after else [])
+    ∷ (when is_edge ticked.answer then host_calls left ticked.after (perform_of client (pins_beside ticked.after)).after else [])
 
 unfoldable pub client_calls : ℕ → Module → Module → List Call
 client_calls zero host client = []
 client_calls (suc left) host client =
     let ticked : Outcome = perform_of host (tick_beside client) in
-    if is_edge ticked.answer
+    when is_edge ticked.answer
     then pins_beside ticked.after ∷ client_calls left ticked.after (perform_of client (pins_beside ticked.after)).after
     else []
 

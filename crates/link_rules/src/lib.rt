@@ -1,9 +1,11 @@
 // The vocabulary of document 01, "Two modules on one wire". Its rules are the definitions in specs/, and what follows from
 // them is in proofs/.
+#![tactic(auto)]
+
 use module_types::{Module, Refusal};
 
 // What a linked run comes to: the edges that the host made, and both modules after it.
-#[derive(Drop)]
+#[derive(Clone, Copy)]
 pub struct Run {
     pub used: u16,
     pub host: Module,
@@ -11,22 +13,22 @@ pub struct Run {
 }
 
 // What a linked run answers: a refusal, or the edges used, the host's only.
-#[derive(Drop)]
+#[derive(Clone, Copy)]
 pub enum LinkAnswer {
     Refused(Refusal),
     Used(u16),
 }
 
-// That answer in the paper's numbers: the refusal number, 0 if not refused, and the edges used, 0 if refused. linkSaidOf
+// That answer in the paper's numbers: the refusal number, 0 if not refused, and the edges used, 0 if refused. link_said_of
 // in specs/Link.antt gives them.
-#[derive(Drop)]
+#[derive(Clone, Copy)]
 pub struct LinkSaid {
     pub number: u8,
     pub edges: u16,
 }
 
 // What a linked run returns: its answer, and both modules after it.
-#[derive(Drop)]
+#[derive(Clone, Copy)]
 pub struct Linked {
     pub answer: LinkAnswer,
     pub host: Module,

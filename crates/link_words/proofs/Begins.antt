@@ -3,8 +3,9 @@
 --     carried, heard_first      they are what is heard of its word call
 --     made_fresh                its word call with a word of no more bits than its own
 -- Assumes nothing.
-use Rattle.laws.proofs.Common.{ℕ, ◌+◌, ◌*◌, ◌-◌, ◌%◌, ◌^◌, ◌<◌, Bool, true, false, ◌≡◌, ap, ◌∙◌, pow-succ', mod-lt}
-use Rattle.laws.proofs.Common.{mod-eq_of_lt, arith, if◌then◌else◌, if_keeps}
+use Rattle.std.specs.Prelude.{◌+◌, ◌*◌, ◌-◌, ◌%◌, ◌^◌, ◌<◌, ◌≡◌}
+use Rattle.laws.proofs.Common.{ℕ, Bool, true, false, ap, ◌∙◌, pow-succ', mod-lt}
+use Rattle.laws.proofs.Common.{mod-eq_of_lt, arith, when◌then◌else◌, if_keeps}
 use mir.Val.{bool_byte}
 use Rattle.word_order.specs.Bits.{bit_of}
 use Rattle.module_rules.proofs.Types.{Settings, Engine}
@@ -21,7 +22,7 @@ use Rattle.link_words.proofs.Heard.{Carries, carries_levels}
 
 -- The levels of SDO where the edges sample, and zeros under DISSDO.
 unfoldable pub first_levels : Settings → ℕ → Bool → ℕ
-first_levels s word sdo = if s.con1.dissdo then 0 else levels_first s word sdo
+first_levels s word sdo = when s.con1.dissdo then 0 else levels_first s word sdo
 
 pub first_fits : (s : Settings) (word : ℕ) (sdo : Bool) → first_levels s word sdo < 2 ^ width_of s
 unfolding first_levels levels_first

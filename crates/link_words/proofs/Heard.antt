@@ -4,9 +4,10 @@
 --     carries_on         it has them an edge on
 --     carries_levels     the levels of SDO are such a word, and zeros are one under DISSDO
 -- Assumes nothing.
-use Rattle.laws.proofs.Common.{ℕ, zero, suc, ◌+◌, ◌*◌, ◌-◌, ◌/◌, ◌%◌, ◌^◌, ◌<◌, ◌≤◌, Bool, true, false, not, ◌&&◌, ◌≡◌, refl}
+use Rattle.std.specs.Prelude.{◌+◌, ◌*◌, ◌-◌, ◌/◌, ◌%◌, ◌^◌, ◌<◌, ◌≤◌, ◌&&◌, ◌≡◌}
+use Rattle.laws.proofs.Common.{ℕ, zero, suc, Bool, true, false, not, refl}
 use Rattle.laws.proofs.Common.{sym, ap, ◌∙◌, mod-lt, zero-div, div-eq_of_lt, mul-add-div_right, arith, eqb-true, eqb-false}
-use Rattle.laws.proofs.Common.{eqb, if◌then◌else◌, if_keeps, if_true, by_test}
+use Rattle.laws.proofs.Common.{eqb, when◌then◌else◌, if_keeps, if_true, by_test}
 use mir.Val.{bool_byte}
 use Rattle.word_order.specs.Bits.{bit_of}
 use Rattle.module_rules.proofs.Types.{Settings, Progress}
@@ -92,7 +93,7 @@ heard_none t sent k sdo off =
     record { next = λ e. zero_bit _ ∙ read sdo; later = λ j below. zero_bit j ∙ read (bit_of sent j) }
 
 pub carries_levels : (t : Settings) (p : Progress) (sdo : Bool) → p.edges < word_edges t →
-    Carries t p.word p.edges sdo (if t.con1.dissdo then 0 else all_levels t p sdo)
+    Carries t p.word p.edges sdo (when t.con1.dissdo then 0 else all_levels t p sdo)
 carries_levels t p sdo short =
     if_keeps (Carries t p.word p.edges sdo) t.con1.dissdo _ _ (heard_none t p.word p.edges sdo)
     (heard_levels t p sdo short)

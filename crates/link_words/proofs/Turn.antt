@@ -3,8 +3,9 @@
 --     turned_both   a turn of them
 --     step_on       short of a word's last edge they stay so
 -- Assumes nothing.
-use Rattle.laws.proofs.Common.{ℕ, suc, ◌+◌, ◌*◌, ◌-◌, ◌<◌, Bool, true, false, not, ◌&&◌, Bool·beq, ◌≡◌, refl, sym, ap, ap₂}
-use Rattle.laws.proofs.Common.{◌∙◌, arith, ltb, if◌then◌else◌, if_keeps, if_false, by_test, and_first, and-false}
+use Rattle.std.specs.Prelude.{◌+◌, ◌*◌, ◌-◌, ◌<◌, ◌&&◌, ◌≡◌}
+use Rattle.laws.proofs.Common.{ℕ, suc, Bool, true, false, not, Bool·beq, refl, sym, ap, ap₂}
+use Rattle.laws.proofs.Common.{◌∙◌, arith, ltb, when◌then◌else◌, if_keeps, if_false, by_test, and_first, and-false}
 use Rattle.word_order.specs.Bits.{bit_of}
 use Rattle.module_rules.proofs.Types.{Settings, Engine, Pins, Module, Outcome, Progress, Shift, Begun, Edge, Tick}
 use Rattle.module_rules.specs.Changes.{with_ss}
@@ -130,7 +131,7 @@ module _ (s u : Settings) (pair : Matched s u) (to_host to_client : ℕ) where
     pub turned_both : (left : ℕ) →
         host_turn (suc left) (at s n) (at u m)
         ≡ one_more (host_turn left (at s (host_on (sdi_at s p.edges to_host))) (at u (client_on (sdi_at u q.edges to_client))))
-    unfolding host_turn host_ticked perform_of handed_over made_edge if◌then◌else◌ client_turn sck_of clocked
+    unfolding host_turn host_ticked perform_of handed_over made_edge when◌then◌else◌ client_turn sck_of clocked
     turned_both left =
         let sdi = level_read (sdo_of (at u m)) in
         let clock : sck_of (at s (host_on sdi)) ≡ not m.pins.sck =

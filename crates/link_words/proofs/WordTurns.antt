@@ -4,7 +4,8 @@
 --     host_made, client_made   what each end makes of what it hears is its word call
 --     running_on               the ends run on behind it
 -- Assumes nothing.
-use Rattle.laws.proofs.Common.{ℕ, zero, suc, ◌+◌, ◌-◌, ◌^◌, ◌<◌, ◌≤◌, Bool, true, false, not, ◌&&◌, ◌≡◌, refl, sym, ap, ap₂}
+use Rattle.std.specs.Prelude.{◌+◌, ◌-◌, ◌^◌, ◌<◌, ◌≤◌, ◌&&◌, ◌≡◌}
+use Rattle.laws.proofs.Common.{ℕ, zero, suc, Bool, true, false, not, refl, sym, ap, ap₂}
 use Rattle.laws.proofs.Common.{subst₂, ◌∙◌, arith, not-true, if_true, if_false, and_left, and_right, and_first, and-false}
 use Rattle.laws.proofs.Common.{like, so_lt}
 use Rattle.word_order.specs.Bits.{bit_of}

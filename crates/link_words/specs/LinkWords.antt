@@ -1,7 +1,7 @@
 -- A linked run (document 01, "Two modules on one wire") where both ends are at a word's beginning: the edges of that word at both ends, at once.
 -- It brings no rule of its own, since it is proved to be so many turns.
 use Rattle.std.specs.Prelude.{ℕ, ◌+◌, ◌-◌, Bool, true, false, not, ◌&&◌, ◌≡◌}
-use Rattle.laws.specs.Choice.{if◌then◌else◌}
+use Rattle.laws.specs.Choice.{when◌then◌else◌}
 use Rattle.module_types.specs.declared.Settings.{Settings}
 use Rattle.module_types.specs.declared.Module.{Module}
 use Rattle.module_rules.specs.Settings.{width_of, framed, cke_of, own_clock}
@@ -35,7 +35,7 @@ at_beginning host client = not (is_free host.engine.shift) && (between host && b
 
 -- What the other end samples of a word: the levels of SDO where the edges sample, as a word call tells them, and zeros under DISSDO.
 unfoldable pub heard_of : Module → ℕ
-heard_of m = if m.settings.con1.dissdo then 0 else (word_of m false 0).levels
+heard_of m = when m.settings.con1.dissdo then 0 else (word_of m false 0).levels
 
 -- So many more edges are used.
 unfoldable pub further : ℕ → Run → Run

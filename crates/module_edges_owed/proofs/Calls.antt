@@ -8,7 +8,8 @@
 --     falls                  two falls in a row
 -- What one edge does is in proofs/Edge.antt.
 -- Assumes nothing.
-use Rattle.laws.proofs.Common.{ℕ, suc, ◌+◌, ◌≤◌, zero-le, Bool, true, false, not, List, [], ◌∷◌, ◌≡◌, refl, sym, ap, subst}
+use Rattle.std.specs.Prelude.{◌+◌, ◌≤◌, ◌∷◌, ◌≡◌}
+use Rattle.laws.proofs.Common.{ℕ, suc, zero-le, Bool, true, false, not, List, [], refl, sym, ap, subst}
 use Rattle.laws.proofs.Common.{◌∙◌, le_trans, zero-add, arith, length, by_test, and-false, clash, and_left, and_right}
 use Rattle.laws.proofs.Common.{and_both, and_rest}
 use Prim.Native.Nat.{suc-le-suc}

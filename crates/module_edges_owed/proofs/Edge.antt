@@ -7,8 +7,9 @@
 --     busy_owes, idle_owes                nothing is owed exactly when the shift register is free
 --     stat_owes                           a STAT write that leaves SPIEN does not change what is owed
 -- Assumes nothing.
-use Rattle.laws.proofs.Common.{ℕ, suc, ◌+◌, ◌*◌, ◌-◌, ◌<◌, ◌≤◌, Bool, true, false, not, ◌&&◌, ◌||◌, Bool·beq, List, [], ◌∷◌}
-use Rattle.laws.proofs.Common.{◌≡◌, refl, sym, ap, ◌∙◌, sub-zero, arith, ltb-true, ltb-false, eqb-true, eqb-false, not-true}
+use Rattle.std.specs.Prelude.{◌+◌, ◌*◌, ◌-◌, ◌<◌, ◌≤◌, ◌&&◌, ◌||◌, ◌∷◌, ◌≡◌}
+use Rattle.laws.proofs.Common.{ℕ, suc, Bool, true, false, not, Bool·beq, List, []}
+use Rattle.laws.proofs.Common.{refl, sym, ap, ◌∙◌, sub-zero, arith, ltb-true, ltb-false, eqb-true, eqb-false, not-true}
 use Rattle.laws.proofs.Common.{not-false, ltb, length, if_keeps, if_false, clash, and_left}
 use native.Mathlib.Nat.{mul-zero, mul-suc}
 use Rattle.module_rules.proofs.Types.{Settings, Engine, Transmit, Module, Progress, Shift, Free, Loaded, Begun}

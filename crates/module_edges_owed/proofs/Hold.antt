@@ -2,7 +2,8 @@
 --     owed_is_held      of a module that is tied to its ledger
 --     host_falls_idle   an enabled unframed host with its own clock pays what it owes, and is idle once it owes none
 -- Assumes nothing.
-use Rattle.laws.proofs.Common.{ℕ, ◌+◌, ◌*◌, ◌-◌, ◌≤◌, Bool, true, false, not, ◌&&◌, List, [], ◌∷◌, ◌≡◌, refl, sym, ap, ap₂}
+use Rattle.std.specs.Prelude.{◌+◌, ◌*◌, ◌-◌, ◌≤◌, ◌&&◌, ◌∷◌, ◌≡◌}
+use Rattle.laws.proofs.Common.{ℕ, Bool, true, false, not, List, [], refl, sym, ap, ap₂}
 use Rattle.laws.proofs.Common.{subst, ◌∙◌, zero-add, le_of_eq, le_refl, arith, lt-ltb, le-ltb, eqb, ltb, length}
 use Rattle.laws.proofs.Common.{length-append, if_keeps, if_true, and-false, by_test, clash}
 use Rattle.word_order.specs.Ledger.{Terms, Op, Wire, quiet, busy, Ledger, sent, unsent, closed, given, noted_all}

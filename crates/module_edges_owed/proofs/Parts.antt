@@ -3,7 +3,8 @@
 --     owing, owing_in, owed_in   by the settings, the shift register and the number of words waiting; of an engine; of a module
 --     Undisturbing             a call that leaves the module enabled and accepts no word
 --     Pays                     an outcome that makes as many edges as what is owed falls by, and leaves the module its clock
-use Rattle.laws.proofs.Common.{ℕ, ◌+◌, ◌*◌, ◌-◌, true, false, ◌&&◌, List, [], ◌∷◌, ◌≡◌, length}
+use Rattle.std.specs.Prelude.{◌+◌, ◌*◌, ◌-◌, ◌&&◌, ◌∷◌, ◌≡◌}
+use Rattle.laws.proofs.Common.{ℕ, true, false, List, [], length}
 use Rattle.word_order.specs.Port.{edges_under}
 use Rattle.module_rules.proofs.Types.{Settings, Engine, Module, Outcome, Shift, Call}
 use Rattle.module_rules.specs.Settings.{width_of, unframed_host}

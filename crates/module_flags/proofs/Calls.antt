@@ -2,8 +2,9 @@
 --     FlagsOf      an outcome after which the flags are as they must be, by the law's operations or with no word seen
 --     call_flags   every call has such an outcome
 -- Assumes nothing.
-use Rattle.laws.proofs.Common.{ℕ, ◌≤◌, Bool, true, false, not, ◌&&◌, ◌||◌, or-false, List, [], ◌≡◌, refl, sym, ap, subst₂}
-use Rattle.laws.proofs.Common.{arith, leb-false, if◌then◌else◌, clash, and_both, and_first}
+use Rattle.std.specs.Prelude.{◌≤◌, ◌&&◌, ◌||◌, ◌≡◌}
+use Rattle.laws.proofs.Common.{ℕ, Bool, true, false, not, or-false, List, [], refl, sym, ap, subst₂}
+use Rattle.laws.proofs.Common.{arith, leb-false, when◌then◌else◌, clash, and_both, and_first}
 use Rattle.word_order.specs.Bits.{bit_of}
 use Rattle.word_order.specs.Ledger.{Op}
 use Rattle.word_order.specs.Machine.{Entry, opens, notes, is_opening}
@@ -31,7 +32,7 @@ use Rattle.module_flags.proofs.Levels.{level_flags}
 
 -- SPIROV after a call, by what it loses.
 abbrev pub spirov_by : Module → Call → Answer → Bool → Bool
-spirov_by m c a lost = if is_done a && writes 0 c then m.engine.spirov && bit_of (asks c).value 6 else m.engine.spirov || lost
+spirov_by m c a lost = when is_done a && writes 0 c then m.engine.spirov && bit_of (asks c).value 6 else m.engine.spirov || lost
 
 -- A call of an enabled module that stays enabled, by its operations.
 pub record Flagged (m : Module) (c : Call) (os : List Op) (o : Outcome) : Type 0 where
@@ -62,8 +63,8 @@ plain_by : {m : Module} {c : Call} {e : Entry} {o : Outcome} →
 plain_by i v n r t = record { flag = i; spirov = v; unnoted = n; unread = r; waiting = t }
 
 -- A STAT write notes nothing unless it opens a ledger.
-stat_unnoted : (b : Bool) → is_opening (if b then opens else notes []) ≡ false → (if b then opens else notes []) ≡ notes []
-unfolding if◌then◌else◌
+stat_unnoted : (b : Bool) → is_opening (when b then opens else notes []) ≡ false → (when b then opens else notes []) ≡ notes []
+unfolding when◌then◌else◌
 stat_unnoted true e = clash true refl e
 stat_unnoted false e = refl
 
@@ -76,7 +77,7 @@ module _ (m : Module) (x : Memory) (busy : Bool) (k : ℕ) (h : ModuleHolds m) (
       n.transmit ≡ m.engine.transmit → n.receive ≡ m.engine.receive →
       n.interrupt ≡ (not (is_clear c) && m.engine.interrupt) → n.spirov ≡ m.engine.spirov → (is_done a && writes 0 c) ≡ false →
       FlagsOf m c x busy k (record { answer = a; after = module_of m.settings n })
-  unfolding FlagsOf if◌then◌else◌
+  unfolding FlagsOf when◌then◌else◌
   calm c a n none t r i v stat =
       let after : Module = module_of m.settings n in
       let quiet : raised m.settings (happened m [] after) ≡ false =
@@ -94,7 +95,7 @@ module _ (m : Module) (x : Memory) (busy : Bool) (k : ℕ) (h : ModuleHolds m) (
       )
 
   refused : (c : Call) (r : Refusal) → is_clear c ≡ false → FlagsOf m c x busy k (refuse m r)
-  unfolding refuse if◌then◌else◌
+  unfolding refuse when◌then◌else◌
   refused (Read register) r plain = calm (Read register) (Refused r) m.engine refl refl refl refl refl refl
   refused (Write register v) r plain = calm (Write register v) (Refused r) m.engine refl refl refl refl refl refl
   refused (Tick sdi ss) r plain = calm (Tick sdi ss) (Refused r) m.engine refl refl refl refl refl refl
@@ -106,7 +107,7 @@ module _ (m : Module) (x : Memory) (busy : Bool) (k : ℕ) (h : ModuleHolds m) (
   stepped-flags : m.settings.spien ≡ true → (c : Call) (a : Answer) (os : List Op) (n : Engine) →
       entered c a (module_of m.settings n) ≡ notes os → is_clear c ≡ false → (is_done a && writes 0 c) ≡ false →
       Raises m.settings m.engine os n → FlagsOf m c x busy k (record { answer = a; after = module_of m.settings n })
-  unfolding FlagsOf if◌then◌else◌
+  unfolding FlagsOf when◌then◌else◌
   stepped-flags on c a os n noted' unclear stat r =
       rw noted' (
         λ on' on''. record { flag = cc r.flag; spirov = cc r.spirov },
@@ -114,14 +115,14 @@ module _ (m : Module) (x : Memory) (busy : Bool) (k : ℕ) (h : ModuleHolds m) (
       )
 
   read_flags : (register : ℕ) → FlagsOf m (Read register) x busy k (read_of m register)
-  unfolding answering if◌then◌else◌
+  unfolding answering when◌then◌else◌
   read_flags =
       read_cases m (λ i. FlagsOf m (Read i) x busy k) (λ i r. refused (Read i) r refl)
       (λ i v other. calm (Read i) (Value v) m.engine (rw other) refl refl refl refl refl)
       (λ on unmarked some. stepped-flags on (Read 3) _ _ _ refl refl refl (taken_flags m.settings m.engine _))
 
   write-flags : (register v : ℕ) → FlagsOf m (Write register v) x busy k (write_of m register v)
-  unfolding FlagsOf answering spitbf stat_settings enabled_engine disabled_engine stat_engine spirov_after empty_receive empty_transmit if◌then◌else◌
+  unfolding FlagsOf answering spitbf stat_settings enabled_engine disabled_engine stat_engine spirov_after empty_receive empty_transmit when◌then◌else◌
   write-flags register v =
       let s : Settings = m.settings in
       let up : Bool = not s.spien && bit_of v 15 in
@@ -170,21 +171,21 @@ module _ (m : Module) (x : Memory) (busy : Bool) (k : ℕ) (h : ModuleHolds m) (
 
   -- The next edge of a host with its own clock, by a call that the watcher notes so.
   turn-flags : m.settings.spien ≡ true → (c : Call) (a : Answer) (sdi ss : Bool) →
-      let told : Bool = if frame_client m.settings then ss else x.ss in
+      let told : Bool = when frame_client m.settings then ss else x.ss in
       entered c a (after (not x.sck) sdi told)
       ≡ notes (level_ops (sight_at m.settings m.engine a (shows_pulse (after (not x.sck) sdi told))) x (not x.sck) sdi told) →
       is_clear c ≡ false → (is_done a && writes 0 c) ≡ false →
       FlagsOf m c x busy k (record { answer = a; after = after (not m.engine.pins.sck) sdi (told_select m ss) })
   turn-flags on c a sdi ss noted' unclear stat =
-      let told : Bool = if frame_client m.settings then ss else x.ss in
-      let told' : told_select m ss ≡ told = ap (λ (b : Bool). if frame_client m.settings then ss else b) (sym (was on).ss) in
+      let told : Bool = when frame_client m.settings then ss else x.ss in
+      let told' : told_select m ss ≡ told = ap (λ (b : Bool). when frame_client m.settings then ss else b) (sym (was on).ss) in
       let turn : not m.engine.pins.sck ≡ not x.sck = ap not (sym (was on).sck) in
       subst₂ (λ (p q : Bool). FlagsOf m c x busy k (record { answer = a; after = after p sdi q })) (sym turn) (sym told')
       (stepped-flags on c a _ _ noted' unclear stat (seen-flags on a (not x.sck) sdi told))
 
   -- Every call.
   pub call_flags : (c : Call) → FlagsOf m c x busy k (perform_of m c)
-  unfolding perform_of clear_of answering if◌then◌else◌
+  unfolding perform_of clear_of answering when◌then◌else◌
   call_flags (Read register) = read_flags register
   call_flags (Write register v) = write-flags register v
   call_flags (Tick sdi ss) =

@@ -2,7 +2,8 @@
 --     call_changes_lem   registers, the interrupt flag, SPIROV and the levels
 --     dropped        a received word that is new in the ledger
 -- Assumes nothing.
-use Rattle.laws.proofs.Common.{ℕ, ◌+◌, Bool, true, false, not, ◌&&◌, ◌||◌, or-false, [], ◌≡◌, refl, sym, ap, subst, ◌∙◌}
+use Rattle.std.specs.Prelude.{◌+◌, ◌&&◌, ◌||◌, ◌≡◌}
+use Rattle.laws.proofs.Common.{ℕ, Bool, true, false, not, or-false, [], refl, sym, ap, subst, ◌∙◌}
 use Rattle.laws.proofs.Common.{arith, le-ltb, ltb, length, by_test, and_left, and_right, and_first, and-false}
 use mir.Val.{bool_byte}
 use Rattle.word_order.specs.Ledger.{Ledger, is_quiet, edges_given, opened, lost_of, Terms}

@@ -3,7 +3,8 @@
 --     written_flag, written_count     the same after a BUF write
 -- Assumes nothing.
 use mir.Val.{bool_byte}
-use Rattle.laws.proofs.Common.{ℕ, ◌+◌, ◌-◌, ◌<◌, ◌≤◌, Bool, true, false, not, ◌&&◌, ◌||◌, or-false, ◌≡◌, refl, sym, ap, ◌∙◌}
+use Rattle.std.specs.Prelude.{◌+◌, ◌<◌, ◌≤◌, ◌&&◌, ◌||◌, ◌≡◌}
+use Rattle.laws.proofs.Common.{ℕ, Bool, true, false, not, or-false, refl, sym, ap, ◌∙◌}
 use Rattle.laws.proofs.Common.{arith, lt-leb, eqb-false, ne_eqb, not-true, if_keeps, if_false, and_left, and_right, and_first}
 use Rattle.laws.proofs.Common.{by_test}
 use mathlib.Core.Bool.{and-false, and-or_distrib_right, or_assoc}

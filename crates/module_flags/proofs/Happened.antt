@@ -4,7 +4,8 @@
 --     seen_happened    of an enabled module that stays enabled the two are the same
 --     quiet_raises     where no word passes no condition is met
 -- Assumes nothing.
-use Rattle.laws.proofs.Common.{ℕ, ◌+◌, Bool, true, false, not, ◌&&◌, List, [], ◌∷◌, ◌≡◌, refl, sym, ap, ap₂, ◌∙◌, le_refl}
+use Rattle.std.specs.Prelude.{◌+◌, ◌&&◌, ◌∷◌, ◌≡◌}
+use Rattle.laws.proofs.Common.{ℕ, Bool, true, false, not, List, [], refl, sym, ap, ap₂, ◌∙◌, le_refl}
 use Rattle.laws.proofs.Common.{arith, le-ltb, ne_eqb, eqb, ltb, length, clash, and-false}
 use mir.Val.{bool_byte}
 use Rattle.word_order.specs.Ledger.{Terms, Op, Ledger, lost_of, left_to_send, is_quiet, edges_given}

@@ -1,7 +1,8 @@
 -- The last edge of a word, of every record.
 --     last_edge_drops   a finished word is dropped exactly if its buffer is full or marked
 -- Assumes nothing.
-use Rattle.laws.proofs.Common.{ℕ, ◌+◌, ◌*◌, ◌≤◌, Bool, true, false, not, ◌&&◌, ◌||◌, Bool·beq, ◌≡◌, refl, sym, ap, subst, ◌∙◌}
+use Rattle.std.specs.Prelude.{◌+◌, ◌*◌, ◌≤◌, ◌&&◌, ◌||◌, ◌≡◌}
+use Rattle.laws.proofs.Common.{ℕ, Bool, true, false, not, Bool·beq, refl, sym, ap, subst, ◌∙◌}
 use Rattle.laws.proofs.Common.{le-ltb, not-true, ltb, leb, if_keeps, if_false, clash, by_test, and_left, and_right, and-false}
 use Rattle.laws.proofs.Common.{or_rest, unlike}
 use mir.Val.{bool_byte}
@@ -9,7 +10,6 @@ use Rattle.module_rules.proofs.Types.{Settings, Engine, Receive, Module, Outcome
 use Rattle.module_rules.proofs.Types.{Tick, Pin, ClockStep, Clear}
 use Rattle.module_rules.specs.Settings.{width_of, depth_of, clock_stops, ssen_client, own_clock}
 use Rattle.module_rules.specs.Registers.{is_free}
-use Rattle.module_rules.specs.Buffers.{unread}
 use Rattle.module_rules.specs.Bits.{received_after}
 use Rattle.module_rules.specs.Finish.{is_lost, delivered, finished}
 use Rattle.module_rules.specs.Select.{select_remembered, deselected}

@@ -2,8 +2,9 @@
 --     edge_flags    an edge that is heard
 --     level_flags   select, and then an edge or none
 -- Assumes nothing.
-use Rattle.laws.proofs.Common.{◌+◌, Bool, true, false, not, ◌&&◌, List, [], ◌∷◌, ◌++◌, ◌≡◌, refl, sym, ap, subst, ◌∙◌, ltb}
-use Rattle.laws.proofs.Common.{if◌then◌else◌, if_keeps, if_true, if_false, by_test, unlike, and_first}
+use Rattle.std.specs.Prelude.{◌+◌, ◌&&◌, ◌∷◌, ◌++◌, ◌≡◌}
+use Rattle.laws.proofs.Common.{Bool, true, false, not, List, [], refl, sym, ap, subst, ◌∙◌, ltb}
+use Rattle.laws.proofs.Common.{when◌then◌else◌, if_keeps, if_true, if_false, by_test, unlike, and_first}
 use mir.Val.{bool_byte}
 use Rattle.word_order.specs.Ledger.{Op, begins, clocks, forgets}
 use Rattle.word_order.specs.Port.{accepts_op, reads_op, finishes_op, loses_op, loses_at, ends_at}
@@ -26,7 +27,7 @@ module _ (s : Settings) (on : s.spien ≡ true) (n : Engine) (h : EngineHolds s 
     (d : deselected s n.pins.ss ≡ false) (x : Memory) (shown : Bool) (same : x.pulse ≡ n.pins.pulse)
     (seen : frame_host s ≡ true → shown ≡ (pulsed s sck (advanced_if_begun s sdi (under_way s sck n) (clocked sck n))).pins.pulse) where
   abbrev heard : List Op
-  heard = (if may_begin s x shown sck then begins ∷ [] else []) ++ (clocks n.pins.sdo sdi ∷ [])
+  heard = (when may_begin s x shown sck then begins ∷ [] else []) ++ (clocks n.pins.sdo sdi ∷ [])
 
   abbrev clock : Op
   clock = clocks n.pins.sdo sdi

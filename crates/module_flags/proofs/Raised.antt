@@ -4,7 +4,8 @@
 --     finish_raises     a finish: an append or none, a leaving or none, and the finish itself
 --     write_raises      a BUF write: a leaving or none, and the write itself
 -- Assumes nothing.
-use Rattle.laws.proofs.Common.{ℕ, zero, suc, ◌*◌, Bool, true, false, ◌&&◌, ◌||◌, or-false, and-true, ◌≡◌, refl, sym, ap, ◌∙◌}
+use Rattle.std.specs.Prelude.{◌*◌, ◌&&◌, ◌||◌, ◌≡◌}
+use Rattle.laws.proofs.Common.{ℕ, zero, suc, Bool, true, false, or-false, and-true, refl, sym, ap, ◌∙◌}
 use Rattle.laws.proofs.Common.{arith, ne_eqb, leb-true, le-leb, leb-false, lt-leb, ltb-true, eqb, leb, ltb, get_or, if_keeps}
 use Rattle.laws.proofs.Common.{if_true, if_false, by_test}
 use mathlib.Core.Bool.{and-false}

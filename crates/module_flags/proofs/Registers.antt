@@ -1,9 +1,10 @@
 -- What reads of STAT, CON1 and CON2 show, bit by bit, in the page's words (specs/Flags.antt).
 --     reads_show_lem   after any calls
 -- Assumes nothing.
-use Rattle.laws.proofs.Common.{ℕ, ◌+◌, ◌*◌, ◌/◌, ◌%◌, ◌^◌, ◌<◌, ◌≤◌, Bool, true, false, ◌&&◌, not, Bool·not-not, List, ◌≡◌}
+use Rattle.std.specs.Prelude.{◌+◌, ◌*◌, ◌/◌, ◌%◌, ◌^◌, ◌<◌, ◌≤◌, ◌&&◌, ◌≡◌}
+use Rattle.laws.proofs.Common.{ℕ, Bool, true, false, not, Bool·not-not}
 use Rattle.laws.proofs.Common.{refl, sym, ap, ap₂, ◌∙◌, mod-eq_of_lt, arith, ltb-true, ltb-false, le-ltb, le-leb, lt-leb}
-use Rattle.laws.proofs.Common.{eqb-true, eqb-false, ne_eqb, eqb, ltb, length, if◌then◌else◌, if_keeps, if_false, if_ap}
+use Rattle.laws.proofs.Common.{eqb-true, eqb-false, eqb, ltb, length, when◌then◌else◌, if_keeps, if_false, if_ap}
 use Rattle.laws.proofs.Common.{and-false, by_test}
 use mir.Val.{bool_byte}
 use Rattle.word_order.specs.Bits.{bit_of}
@@ -21,12 +22,11 @@ use Rattle.module_rules.specs.Invariant.{ModuleHolds}
 use Rattle.module_rules.specs.Watch.{Watched, port_in, way_of, terms}
 use Rattle.module_rules.specs.Flags.{con2_bits, shifts_none, counts, stat_bits, con1_bits, number_in}
 use Rattle.module_rules.specs.Demands.{ReadsShow}
-use Rattle.module_rules.proofs.Sizes.{depth_most}
 use Rattle.module_rules.proofs.BuffersOrder.{unread_length, waiting_length}
 
 -- A weight is a bit's number times it.
 weighed_is : (b : Bool) (w : ℕ) → weighed b w ≡ bool_byte b * w
-unfolding weighed if◌then◌else◌
+unfolding weighed when◌then◌else◌
 weighed_is true w = omega arith
 weighed_is false w = omega arith
 
@@ -62,10 +62,10 @@ full_is d c h =
     (λ e. let other : c ≡ d → ⊥ = eqb-false c d e in lt-leb d c (omega arith) ∙ sym e)
 
 -- At most 7 words are shown.
-at_most_7_is : (c : ℕ) → at_most7 c ≡ (if ltb 7 c then 7 else c)
+at_most_7_is : (c : ℕ) → at_most7 c ≡ (when ltb 7 c then 7 else c)
 unfolding at_most7
 at_most_7_is c =
-    if_keeps (λ (k : ℕ). (if ltb c 7 then c else 7) ≡ k) (ltb 7 c) 7 c
+    if_keeps (λ (k : ℕ). (when ltb c 7 then c else 7) ≡ k) (ltb 7 c) 7 c
     (λ f. if_false (ltb c 7) c 7 (le-ltb c 7 (omega (arith, ltb-true 7 c f))))
     (λ f. if_keeps (λ (k : ℕ). k ≡ c) (ltb c 7) c 7 (λ e. refl) (λ e. omega (arith, ltb-false 7 c f, ltb-false c 7 e)))
 
@@ -117,22 +117,22 @@ module _ (x : Watched) (h : ModuleHolds x.now)
       ap (λ (b : Bool). (b && s.con2.spiben) && is_free n.shift) off
       ∙ sym (ap (λ (b : Bool). (b && s.con2.spiben) && shifts_none x) off))
 
-  counts-is : (if s.con1.msten then n.transmit.count else n.receive.count) ≡ counts m
+  counts-is : (when s.con1.msten then n.transmit.count else n.receive.count) ≡ counts m
   counts-is =
-      ap₂ (λ (a b : ℕ). if s.con1.msten then a else b) (sym waits) (sym unreads)
+      ap₂ (λ (a b : ℕ). when s.con1.msten then a else b) (sym waits) (sym unreads)
       ∙ sym (if_ap length s.con1.msten (waiting_in m) (unread_in m))
 
-  spibec-is : spibec m ≡ (if shows_enhanced s then (if ltb 7 (counts m) then 7 else counts m) else 0)
+  spibec-is : spibec m ≡ (when shows_enhanced s then (when ltb 7 (counts m) then 7 else counts m) else 0)
   unfolding spibec
   spibec-is =
-      ap (λ (k : ℕ). if shows_enhanced s then k else 0) (ap at_most7 counts-is ∙ at_most_7_is (counts m))
+      ap (λ (k : ℕ). when shows_enhanced s then k else 0) (ap at_most7 counts-is ∙ at_most_7_is (counts m))
 
   spibec-small : spibec m < 8
   unfolding spibec at_most7
   spibec-small =
       if_keeps (λ (k : ℕ). k < 8) (shows_enhanced s) _ 0
       (λ e.
-      let c : ℕ = if s.con1.msten then n.transmit.count else n.receive.count in
+      let c : ℕ = when s.con1.msten then n.transmit.count else n.receive.count in
       if_keeps (λ (k : ℕ). k < 8) (ltb c 7) c 7 (λ f. let small : c < 7 = ltb-true c 7 f in omega arith) (λ f. omega arith))
       (λ e. omega arith)
 
@@ -147,7 +147,7 @@ module _ (x : Watched) (h : ModuleHolds x.now)
 
   -- What reads show.
   pub reads_show_lem : ReadsShow x
-  unfolding perform_of read_of if◌then◌else◌
+  unfolding perform_of read_of when◌then◌else◌
   reads_show_lem =
       record {
         stat = ap (λ (v : ℕ). Value v) stat-reads;

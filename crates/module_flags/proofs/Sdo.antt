@@ -2,8 +2,9 @@
 --     sdo_shown_lem    SDO after a call
 --     pins_show_lem    the pins
 -- Assumes nothing.
-use Rattle.laws.proofs.Common.{ℕ, ◌+◌, ◌-◌, ◌/◌, ◌≤◌, zero-le, Bool, true, false, not, ◌&&◌, Bool·beq, List, [], ◌∷◌, ◌++◌}
-use Rattle.laws.proofs.Common.{◌≡◌, refl, sym, ap, ap₂, ◌∙◌, arith, eqb-true, eqb-false, ltb, length, get_or, if◌then◌else◌}
+use Rattle.std.specs.Prelude.{◌+◌, ◌-◌, ◌/◌, ◌≤◌, ◌&&◌, ◌∷◌, ◌++◌, ◌≡◌}
+use Rattle.laws.proofs.Common.{ℕ, zero-le, Bool, true, false, not, Bool·beq, List, []}
+use Rattle.laws.proofs.Common.{refl, sym, ap, ap₂, ◌∙◌, arith, eqb-true, eqb-false, ltb, length, get_or, when◌then◌else◌}
 use Rattle.laws.proofs.Common.{if_keeps, if_true, if_false, by_test, clash}
 use mathlib.Core.Bool.{and-false}
 use Rattle.word_order.specs.Bits.{bit_of}
@@ -54,8 +55,8 @@ module _ (s : Settings) (n : Engine) (l : Ledger) (t : Tied (terms s) (port_of s
       (left_takes_first (depth_of s) n.transmit (depth_most s) b.transmit.cells b.transmit.ring some)
 
   -- The word on the wire.
-  sent_word : (p : Progress) → n.shift ≡ Begun p → ProgressHolds s n p → p.word ≡ (if p.filler then 0 else first_unsent l)
-  unfolding if◌then◌else◌
+  sent_word : (p : Progress) → n.shift ≡ Begun p → ProgressHolds s n p → p.word ≡ (when p.filler then 0 else first_unsent l)
+  unfolding when◌then◌else◌
   sent_word p e k =
       if_keeps (λ (w : ℕ). p.word ≡ w) p.filler 0 (first_unsent l) k.zeros
       (λ f.
@@ -68,7 +69,7 @@ module _ (s : Settings) (n : Engine) (l : Ledger) (t : Tied (terms s) (port_of s
   on-wire Free e k begun before = clash false begun refl
   on-wire (Loaded word) e k begun before = clash false begun refl
   on-wire (Begun p) e k begun before =
-      k.shows ∙ ap (λ (word : ℕ). bit_of word (width_of s - 1 - (if cke_of s then p.edges else p.edges - 1) / 2))
+      k.shows ∙ ap (λ (word : ℕ). bit_of word (width_of s - 1 - (when cke_of s then p.edges else p.edges - 1) / 2))
       (sent_word p e k)
 
   -- The top bit of the word to be sent next.
@@ -90,7 +91,7 @@ module _ (s : Settings) (n : Engine) (l : Ledger) (t : Tied (terms s) (port_of s
 
   -- With no word begun the wire is quiet.
   quiet-level : (sh : Shift) → is_begun sh ≡ false → (before : Bool) →
-      (if cke_of s then bit_of (first_unsent l) (width_of s - 1) else before) ≡ level_shown s l (wire_from (terms s) (way_of sh)) before
+      (when cke_of s then bit_of (first_unsent l) (width_of s - 1) else before) ≡ level_shown s l (wire_from (terms s) (way_of sh)) before
   quiet-level Free unbegun before = refl
   quiet-level (Loaded word) unbegun before = refl
   quiet-level (Begun p) unbegun before = clash true refl unbegun
@@ -104,7 +105,7 @@ carried_level s l before owed (sends u) quiet c = absurd c
 carried_level s l before owed (sends u) (busy w) c =
     ap₂
     (λ (f : Bool) (e : ℕ).
-    bit_of (if f then 0 else first_unsent l) (width_of s - 1 - (if cke_of s then e else e - 1) / 2))
+    bit_of (when f then 0 else first_unsent l) (width_of s - 1 - (when cke_of s then e else e - 1) / 2))
     c.filler c.edges
 
 -- SDO is left by everything with CKE 0 but the edges of a word that goes on.
@@ -230,7 +231,7 @@ sdo_shown_lem x c h was =
 
 -- The pins as others see them.
 pub pins_show_lem : (x : Watched) → (x.now.settings.spien ≡ true → Recalls x.now x.memory) → PinsShow x
-unfolding sdo_of undriven sck_of ss_of if◌then◌else◌
+unfolding sdo_of undriven sck_of ss_of when◌then◌else◌
 pins_show_lem x was =
     record {
       sdo = by_test x.now.settings.spien (λ on. rw (was on).ss) (λ off. rw off);

@@ -3,14 +3,15 @@
 --     taken_flags, written_flags   a BUF read and a BUF write
 --     level_flags    levels that are seen
 -- Assumes nothing.
-use Rattle.laws.proofs.Common.{arith, lt-ltb, le-ltb, not-true, length, ℕ, ◌+◌, ◌*◌, ◌≤◌, ◌<◌, Bool, false, ◌||◌, or-false}
-use Rattle.laws.proofs.Common.{true, ◌&&◌, not, List, ◌∷◌, [], refl, ◌≡◌, sym, ap, ◌∙◌, ap₂, ltb, eqb, and-false, if_keeps}
+use Rattle.std.specs.Prelude.{◌+◌, ◌*◌, ◌≤◌, ◌<◌, ◌||◌, ◌&&◌, ◌∷◌, ◌≡◌}
+use Rattle.laws.proofs.Common.{arith, lt-ltb, le-ltb, not-true, length, ℕ, Bool, false, or-false}
+use Rattle.laws.proofs.Common.{true, not, List, [], refl, sym, ap, ◌∙◌, ap₂, ltb, eqb, and-false, if_keeps}
 use Rattle.laws.proofs.Common.{and_left, and_right}
 use mir.Val.{bool_byte}
 use Rattle.word_order.specs.Ledger.{Op, accepts, reads}
 use Rattle.word_order.specs.Port.{counted_in, accepts_op, reads_op, finishes_in, losses_in}
 use Rattle.module_rules.proofs.Types.{Settings, Engine, Module, Receive, Progress}
-use Rattle.module_rules.specs.Buffers.{waiting, unread, taken, empty}
+use Rattle.module_rules.specs.Buffers.{unread, taken, empty}
 use Rattle.module_rules.specs.Words.{unread_in, waiting_in, owed_words}
 use Rattle.module_rules.specs.Watch.{terms}
 use Rattle.module_rules.specs.Flags.{raised, Seen}

@@ -5,8 +5,9 @@
 --     Stays, Edges   the two kinds of call
 --     call_does      every call of a framed module is one of them
 -- Assumes nothing.
-use Rattle.laws.proofs.Common.{List, [], ℕ, ◌*◌, ◌<◌, Bool, true, false, not, ◌&&◌, Bool·beq, Bool·not-not, ◌||◌, ◌≡◌, refl}
-use Rattle.laws.proofs.Common.{sym, ap, subst, ◌∙◌, ap₂, arith, not-true, eqb, if◌then◌else◌, if_keeps, if_true, if_false}
+use Rattle.std.specs.Prelude.{◌*◌, ◌<◌, ◌&&◌, ◌||◌, ◌≡◌}
+use Rattle.laws.proofs.Common.{List, [], ℕ, Bool, true, false, not, Bool·beq, Bool·not-not, refl}
+use Rattle.laws.proofs.Common.{sym, ap, subst, ◌∙◌, ap₂, arith, not-true, eqb, when◌then◌else◌, if_keeps, if_true, if_false}
 use Rattle.laws.proofs.Common.{clash, by_test, and_right, and-false, unlike, and_first, like}
 use Rattle.word_order.specs.Bits.{bit_of}
 use Rattle.word_order.specs.Machine.{Entry, entered, notes}
@@ -68,7 +69,7 @@ pub record Edges (x : Watched) (c : Call) : Type 0 where
       (is_quiet (watched_call x c).ledger.wire)
   pub given : frame_host x.now.settings ≡ true →
       (watched_call x c).now.engine.pins.pulse
-      ≡ (if to_idle x c then x.now.engine.pins.pulse
+      ≡ (when to_idle x c then x.now.engine.pins.pulse
       else pulse_due x.now.settings (watched_call x c).now.engine.transmit.count (watched_call x c).now.engine.shift)
   pub begins : frame_host x.now.settings ≡ true → x.now.settings.con2.frmdly ≡ true → (word : ℕ) →
       x.now.engine.shift ≡ Loaded word → to_idle x c ≡ false → (watched_call x c).now.engine.pins.pulse ≡ true
@@ -139,8 +140,8 @@ pub record Sees (x : Watched) (c : Call) (sck sdi ss : Bool) : Type 0 where
 
 -- The pulse of a frame host after an edge.
 host_law : (f idle fsd seen pulse due : Bool) → f ≡ true → fsd ≡ false →
-    (if f then (if idle then (if fsd then seen else pulse) else not fsd && due) else pulse) ≡ (if idle then pulse else due)
-unfolding if◌then◌else◌
+    (when f then (when idle then (when fsd then seen else pulse) else not fsd && due) else pulse) ≡ (when idle then pulse else due)
+unfolding when◌then◌else◌
 host_law f idle fsd seen pulse due a b = rw (a, b)
 
 module _ (x : Watched) (v : Lives x) (on : x.now.settings.spien ≡ true) where
@@ -161,9 +162,9 @@ module _ (x : Watched) (v : Lives x) (on : x.now.settings.spien ≡ true) where
       perform_of x.now c ≡ answering x.now a (stepped s (levels sck sdi ss) n) → tells a ≡ true → clock ≡ sck → select ≡ ss →
       let v : Sight = sight_of x.now c in
       (watched_call x c).ledger
-      ≡ entered (terms s) (if tells v.answer then notes (level_ops v x.memory clock sdi select) else notes []) l →
+      ≡ entered (terms s) (when tells v.answer then notes (level_ops v x.memory clock sdi select) else notes []) l →
       (watched_call x c).memory
-      ≡ (if tells v.answer then levels_kept v x.memory
+      ≡ (when tells v.answer then levels_kept v x.memory
       (not (is_quiet (watched_call x c).ledger.wire)) clock select else x.memory) →
       Sees x c clock sdi select
   unfolding answering
@@ -181,8 +182,8 @@ module _ (x : Watched) (v : Lives x) (on : x.now.settings.spien ≡ true) where
   turned : not x.memory.sck ≡ not n.pins.sck
   turned = ap not recalls.sck
 
-  selected : (ss : Bool) → (if frame_client s then ss else x.memory.ss) ≡ told_select x.now ss
-  selected ss = ap (λ (b : Bool). if frame_client s then ss else b) recalls.ss
+  selected : (ss : Bool) → (when frame_client s then ss else x.memory.ss) ≡ told_select x.now ss
+  selected ss = ap (λ (b : Bool). when frame_client s then ss else b) recalls.ss
 
   -- A pin call of a module that is clocked there.
   pub pin_sees : (sck sdi ss : Bool) → own_clock s ≡ false → Sees x (Pin sck sdi ss) sck sdi ss
@@ -224,7 +225,7 @@ module _ (x : Watched) (v : Lives x) (on : x.now.settings.spien ≡ true) where
     -- The pulse of a frame host.
     edge-pulse : (sck sdi ss : Bool) → sck ≡ not n.pins.sck → frame_host s ≡ true →
         (stepped s (levels sck sdi ss) n).pins.pulse
-        ≡ (if Bool·beq sck s.con1.ckp then n.pins.pulse
+        ≡ (when Bool·beq sck s.con1.ckp then n.pins.pulse
         else pulse_due s (stepped s (levels sck sdi ss) n).transmit.count (stepped s (levels sck sdi ss) n).shift)
     unfolding pulsed pulse_after clocked select_remembered
     edge-pulse sck sdi ss edge host =
@@ -235,7 +236,7 @@ module _ (x : Watched) (v : Lives x) (on : x.now.settings.spien ≡ true) where
         (host_law (framed s) (Bool·beq sck s.con1.ckp) s.con2.spifsd
         (active s z.pins.ss && not (is_begun z.shift)) z.pins.pulse
         (pulse_due s z.transmit.count z.shift) f fsd
-        ∙ ap (λ (b : Bool). if Bool·beq sck s.con1.ckp then b else pulse_due s z.transmit.count z.shift)
+        ∙ ap (λ (b : Bool). when Bool·beq sck s.con1.ckp then b else pulse_due s z.transmit.count z.shift)
         (advanced_levels s sdi way (clocked sck (select_remembered ss n))).pulse)
 
     -- A call that makes an edge.
@@ -265,9 +266,9 @@ module _ (x : Watched) (v : Lives x) (on : x.now.settings.spien ≡ true) where
           given = λ host.
               ap (λ (e : Engine). e.pins.pulse) engine
               ∙ edge-pulse sck sdi ss edge host
-              ∙ ap (λ (e : Engine). if Bool·beq sck s.con1.ckp then n.pins.pulse else pulse_due s e.transmit.count e.shift)
+              ∙ ap (λ (e : Engine). when Bool·beq sck s.con1.ckp then n.pins.pulse else pulse_due s e.transmit.count e.shift)
               (sym engine)
-              ∙ ap (λ (b : Bool). if Bool·beq b s.con1.ckp then n.pins.pulse else pulse_due s y.now.engine.transmit.count y.now.engine.shift)
+              ∙ ap (λ (b : Bool). when Bool·beq b s.con1.ckp then n.pins.pulse else pulse_due s y.now.engine.transmit.count y.now.engine.shift)
               (sym clock);
           begins = λ host dly word loaded away.
               ap (λ (e : Engine). e.pins.pulse) (engine ∙ edge_steps sck sdi ss edge)
@@ -278,8 +279,8 @@ module _ (x : Watched) (v : Lives x) (on : x.now.settings.spien ≡ true) where
     -- A refused call, which the watcher is not told of.
     refused-does : (c : Call) (r : Refusal) (tells : Answer → Bool) (e : Entry) (m : Memory) →
         perform_of x.now c ≡ refuse x.now r → tells (Refused r) ≡ false →
-        (watched_call x c).ledger ≡ entered (terms s) (if tells (perform_of x.now c).answer then e else notes []) l →
-        (watched_call x c).memory ≡ (if tells (perform_of x.now c).answer then m else x.memory) → Does x c
+        (watched_call x c).ledger ≡ entered (terms s) (when tells (perform_of x.now c).answer then e else notes []) l →
+        (watched_call x c).memory ≡ (when tells (perform_of x.now c).answer then m else x.memory) → Does x c
     unfolding refuse
     refused-does c r tells e m is deaf ledger memory =
         let none : tells (perform_of x.now c).answer ≡ false = ap (λ (o : Outcome). tells o.answer) is ∙ deaf in
@@ -334,7 +335,7 @@ module _ (x : Watched) (v : Lives x) (on : x.now.settings.spien ≡ true) where
         by_test (own_clock s)
         (λ own.
         seen-does c _ sdi _
-        (sees c (not x.memory.sck) sdi (if frame_client s then ss else x.memory.ss) Edge is_edge
+        (sees c (not x.memory.sck) sdi (when frame_client s then ss else x.memory.ss) Edge is_edge
         (tick_is x.now sdi ss on own runs_on) refl turned (selected ss) refl refl)
         (λ client. if_true (frame_client s) _ _ client))
         (λ pin.
@@ -357,9 +358,9 @@ module _ (x : Watched) (v : Lives x) (on : x.now.settings.spien ≡ true) where
     unfolding perform_of
     step-does sck sdi ss =
         let c : Call = ClockStep sck sdi ss in
-        let mine : Bool = if frame_client s then ss else x.memory.ss in
-        let clock : Bool = if own_clock s then not x.memory.sck else sck in
-        let select : Bool = if own_clock s then mine else ss in
+        let mine : Bool = when frame_client s then ss else x.memory.ss in
+        let clock : Bool = when own_clock s then not x.memory.sck else sck in
+        let select : Bool = when own_clock s then mine else ss in
         by_test (own_clock s)
         (λ own.
         let told : select ≡ mine = if_true (own_clock s) mine ss own in

@@ -1,8 +1,9 @@
 -- Fillers of a module and of its ledger (module_rules, specs/Demands.antt).
 --     fillers   the module sends one exactly while the ledger has one on the wire, low, and a client without SSEN begins one
 -- Assumes nothing.
-use Rattle.laws.proofs.Common.{◌-◌, Bool, true, false, not, ◌&&◌, ◌||◌, Bool·beq, ◌≡◌, refl, sym, ap, ◌∙◌, zero-div, arith}
-use Rattle.laws.proofs.Common.{le-ltb, length, if◌then◌else◌, clash, and-false, unlike}
+use Rattle.std.specs.Prelude.{◌&&◌, ◌||◌, ◌≡◌}
+use Rattle.laws.proofs.Common.{Bool, true, false, not, Bool·beq, refl, sym, ap, ◌∙◌, zero-div, arith}
+use Rattle.laws.proofs.Common.{le-ltb, length, when◌then◌else◌, clash, and-false, unlike}
 use Rattle.word_order.specs.Bits.{bit_of}
 use Rattle.word_order.specs.Ledger.{Ledger, Terms, carries_filler, is_quiet, left_to_send, unsent, sent}
 use Rattle.module_rules.proofs.Types.{Settings, Engine, Shift, Free, Loaded, Begun, Pin, Module}
@@ -48,7 +49,7 @@ module _ (x : Watched) (v : Lives x) (on : x.now.settings.spien ≡ true) where
   begins : s.con1.msten ≡ false → s.con1.ssen ≡ false → s.con2.frmen ≡ false → is_quiet x.ledger.wire ≡ true →
       unsent x.ledger ≡ 0 → (sck sdi ss : Bool) → Bool·beq sck (sck_of x.now) ≡ false → Bool·beq sck s.con1.ckp ≡ false →
       sends_filler (perform_of x.now (Pin sck sdi ss)).after.engine.shift ≡ true
-  unfolding if◌then◌else◌ sck_of
+  unfolding when◌then◌else◌ sck_of
   begins client ssen frmen none left sck sdi ss edge active =
       let y : Watched = watched_call x (Pin sck sdi ss) in
       let r : Sees x (Pin sck sdi ss) sck sdi ss =
@@ -60,12 +61,12 @@ module _ (x : Watched) (v : Lives x) (on : x.now.settings.spien ≡ true) where
       let may : Bool = may_begin s x.memory shown sck in
       let can : may ≡ true =
       ap (λ (b : Bool). not b && started_by s x.memory.pulse shown) active
-      ∙ ap (λ (b : Bool). not b || (if gives_pulses s && s.con2.frmdly then shown else x.memory.pulse)) frmen in
+      ∙ ap (λ (b : Bool). not b || (when gives_pulses s && s.con2.frmdly then shown else x.memory.pulse)) frmen in
       sym (lives_carried y (lives_on x (Pin sck sdi ss) v) (ap (λ (m : Module). m.settings.spien) r.now ∙ on)).filler
       ∙ begins_filler (terms s) may x.ledger y.ledger
       (edge_heard x v on (Pin sck sdi ss) sck sdi ss r hears (unlike sck x.now.engine.pins.sck edge))
       can none (none_left_lem left)
-      (ap (λ (b : Bool). if b then not s.con2.spifsd else s.con1.msten) frmen ∙ client)
+      (ap (λ (b : Bool). when b then not s.con2.spifsd else s.con1.msten) frmen ∙ client)
 
   pub fillers : Fillers x
   fillers =

@@ -2,10 +2,11 @@
 --     frames_hold_lem           each call, a frame host's call, a frame client's call, and that words follow on
 --     enabling_shows_none   enabling leaves SS without a pulse
 -- Assumes nothing.
-use Rattle.laws.proofs.Common.{ℕ, ◌+◌, ◌*◌, ◌-◌, ◌%◌, ◌≤◌, Bool, true, false, not, ◌&&◌, ◌||◌, or-false, or-true, Bool·beq}
-use Rattle.laws.proofs.Common.{and-true, Bool·not-not, List, [], ◌∷◌, ◌≡◌, refl, sym, ap, ap₂, ◌∙◌, arith, le-leb, lt-leb}
+use Rattle.std.specs.Prelude.{◌+◌, ◌*◌, ◌-◌, ◌%◌, ◌≤◌, ◌&&◌, ◌||◌, ◌∷◌, ◌≡◌}
+use Rattle.laws.proofs.Common.{ℕ, Bool, true, false, not, or-false, or-true, Bool·beq}
+use Rattle.laws.proofs.Common.{and-true, Bool·not-not, List, [], refl, sym, ap, ap₂, ◌∙◌, arith, le-leb, lt-leb}
 use Rattle.laws.proofs.Common.{ltb-true, ltb-false, eq-eqb, ne_eqb, eqb-true, eqb-false, not-true, not-false, eqb, ltb, leb}
-use Rattle.laws.proofs.Common.{length, length-append, if◌then◌else◌, if_true, if_false, clash, by_test, and_left, and_right}
+use Rattle.laws.proofs.Common.{length, length-append, when◌then◌else◌, if_true, if_false, clash, by_test, and_left, and_right}
 use Rattle.laws.proofs.Common.{and_both, and_first, and-false}
 use mathlib.Core.Bool.{and-not_self, and_assoc}
 use Rattle.word_order.specs.Ledger.{Wire, quiet, busy, is_quiet, Passed, unmarked, Ledger, sent, left_to_send, edges_given, unsent, carries_filler}
@@ -49,9 +50,9 @@ and_right_of {k = k} e f = rw (e, f) (Bool·not-not k)
 host_begins_law : (idle pulse shown left dly : Bool) → (dly ≡ true → pulse ≡ false) →
     (dly ≡ true → idle ≡ false → shown ≡ true → left ≡ true) → (dly ≡ false → pulse ≡ true → left ≡ true) →
     (dly ≡ false → idle ≡ false → pulse ≡ true → shown ≡ false) →
-    (not idle && ((if dly then shown else pulse) && left))
-    ≡ (not idle && (if dly then not pulse && shown else pulse && not shown))
-unfolding if◌then◌else◌
+    (not idle && ((when dly then shown else pulse) && left))
+    ≡ (not idle && (when dly then not pulse && shown else pulse && not shown))
+unfolding when◌then◌else◌
 host_begins_law true pulse shown left dly a b c d = refl
 host_begins_law false pulse true left true a b c d = b refl refl refl ∙ sym (ap (λ (p : Bool). not p && true) (a refl))
 host_begins_law false pulse false left true a b c d = sym (ap (λ (p : Bool). not p && false) (a refl))
@@ -138,14 +139,14 @@ counted_unsent s n l t =
 -- The pulse expected, with nothing under way or something, the edges given to it, and the words left to send.
 abbrev expected_with : Settings → Bool → ℕ → ℕ → Bool
 expected_with s none k left =
-    if s.con2.frmdly then eqb k 1
+    when s.con2.frmdly then eqb k 1
     else (none && leb 1 left) || (eqb (k + 1) (2 * width_of s) && leb 2 left)
 
 -- The pulse that is due is the one expected.
 module _ (s : Settings) (n : Engine) (l : Ledger) (t : Tied (terms s) (port_of s n) l) (host : frame_host s ≡ true) where
   due_expected : (sh : Shift) → n.shift ≡ sh → ShiftHolds s n sh →
       pulse_due s n.transmit.count sh ≡ expected_with s (not (is_begun sh)) (edges_under (way_of sh)) (unsent l)
-  unfolding pulse_due if◌then◌else◌
+  unfolding pulse_due when◌then◌else◌
   due_expected Free e h =
       let out : ssen_client s ≡ false = framed_no_client s (and_left (framed s) _ host) in
       let none : unsent l ≡ 0 =
@@ -239,8 +240,8 @@ module _ (x : Watched) (v : Lives x) (on : x.now.settings.spien ≡ true) (f : f
   -- A word under way is given every edge, to its last.
   whole_of : Does x c → is_quiet l.wire ≡ false →
       edges_given y.ledger.wire
-      ≡ (if edge_made x c
-      then (if eqb (edges_given l.wire + 1) (2 * width_of s) then 0 else edges_given l.wire + 1)
+      ≡ (when edge_made x c
+      then (when eqb (edges_given l.wire + 1) (2 * width_of s) then 0 else edges_given l.wire + 1)
       else edges_given l.wire)
   whole_of (stays r) b = ap edges_given r.wire ∙ sym (if_false (edge_made x c) _ _ (stays-unmade r))
   whole_of (edges r) b = r.noted.goes b ∙ sym (if_true (edge_made x c) _ _ (edges_made_lem r))
@@ -303,8 +304,8 @@ module _ (x : Watched) (v : Lives x) (on : x.now.settings.spien ≡ true) (f : f
     -- SS after any call.
     pulse-of : Does x c →
         shows_pulse y.now
-        ≡ (if transmit_edge x c then pulse_expected s y.ledger else y.now.settings.spien && shows_pulse x.now)
-    unfolding if◌then◌else◌
+        ≡ (when transmit_edge x c then pulse_expected s y.ledger else y.now.settings.spien && shows_pulse x.now)
+    unfolding when◌then◌else◌
     pulse-of (stays r) =
         rw (stays-quietly r)
         (by_test y.now.settings.spien
@@ -329,13 +330,13 @@ module _ (x : Watched) (v : Lives x) (on : x.now.settings.spien ≡ true) (f : f
 
     -- When a word begins with nothing under way, in the ledger's words.
     host-starts : (started_by s x.memory.pulse (shows_pulse y.now) && (left_to_send l || not (silent s)))
-        ≡ ((if s.con2.frmdly then shows_pulse y.now else x.memory.pulse) && left_to_send l)
-    unfolding if◌then◌else◌
+        ≡ ((when s.con2.frmdly then shows_pulse y.now else x.memory.pulse) && left_to_send l)
+    unfolding when◌then◌else◌
     host-starts = rw (f, fsd, or-false)
 
     quiet-begins : (r : Edges x c) → is_quiet l.wire ≡ true →
         is_quiet y.ledger.wire
-        ≡ not (not (to_idle x c) && ((if s.con2.frmdly then shows_pulse y.now else x.memory.pulse) && left_to_send l))
+        ≡ not (not (to_idle x c) && ((when s.con2.frmdly then shows_pulse y.now else x.memory.pulse) && left_to_send l))
     quiet-begins r q = edge-begins r q ∙ ap (λ (b : Bool). not (not (to_idle x c) && b)) host-starts
 
     -- A pulse between words is one for a word that is left to send.
@@ -351,7 +352,7 @@ module _ (x : Watched) (v : Lives x) (on : x.now.settings.spien ≡ true) (f : f
 
     shown-before : (r : Edges x c) → s.con2.frmdly ≡ false → to_idle x c ≡ false → is_quiet y.ledger.wire ≡ false →
         edges_given y.ledger.wire ≡ 1 → shows_pulse y.now ≡ false
-    unfolding if◌then◌else◌
+    unfolding when◌then◌else◌
     shown-before r early away begun one =
         expected r away
         ∙ rw (begun, ne_eqb (edges_given y.ledger.wire + 1) (2 * width_of s) (λ z. omega (arith, z, one, width_eight s)), early)
@@ -368,7 +369,7 @@ module _ (x : Watched) (v : Lives x) (on : x.now.settings.spien ≡ true) (f : f
     -- A word under way has been given an edge, so that the next one is not its first; and the edge that ends a pulse
     -- within it, FRMDLY 0, goes to the idle level.
     not_first : Edges x c → is_quiet l.wire ≡ false → edges_given y.ledger.wire ≡ 1 → ⊥
-    unfolding if◌then◌else◌
+    unfolding when◌then◌else◌
     not_first r b one =
         let once : 1 ≤ edges_given l.wire =
         omega (arith, carried.edges, started s n n.shift v.holds.holds.shift (one-begun b)) in
@@ -385,8 +386,8 @@ module _ (x : Watched) (v : Lives x) (on : x.now.settings.spien ≡ true) (f : f
 
     -- A word begins exactly at the edge that ends a pulse, or starts one.
     begins-of : Does x c →
-        word_begins x c ≡ (transmit_edge x c && (if s.con2.frmdly then starts_pulse x c else ends_pulse x c))
-    unfolding if◌then◌else◌
+        word_begins x c ≡ (transmit_edge x c && (when s.con2.frmdly then starts_pulse x c else ends_pulse x c))
+    unfolding when◌then◌else◌
     begins-of (stays r) = stays-begins-none r ∙ sym (and_first (transmit_edge x c) _ (stays-quietly r))
     begins-of (edges r) =
         by_test (is_quiet l.wire)
@@ -439,7 +440,7 @@ module _ (x : Watched) (v : Lives x) (on : x.now.settings.spien ≡ true) (f : f
         (edges_given y.ledger.wire + 1 ≡ 2 * width_of s)
         × (y.memory.pulse ≡ true)
         × (y.now.engine.pins.sck ≡ not s.con1.ckp)
-    unfolding if◌then◌else◌
+    unfolding when◌then◌else◌
     pulse-early r early near more =
         let under : is_quiet l.wire ≡ false = busy-near 2 near (omega arith) in
         let short : eqb (edges_given l.wire + 1) (2 * width_of s) ≡ false =
@@ -465,7 +466,7 @@ module _ (x : Watched) (v : Lives x) (on : x.now.settings.spien ≡ true) (f : f
         (is_quiet y.ledger.wire ≡ true)
         × (y.now.engine.pins.sck ≡ s.con1.ckp)
         × (x.memory.pulse ≡ true → y.memory.pulse ≡ true)
-    unfolding if◌then◌else◌
+    unfolding when◌then◌else◌
     word-ends r near =
         let under : is_quiet l.wire ≡ false = busy-near 1 near (omega arith) in
         let clock : n.pins.sck ≡ not s.con1.ckp =
@@ -482,7 +483,7 @@ module _ (x : Watched) (v : Lives x) (on : x.now.settings.spien ≡ true) (f : f
     -- The edge after it begins the next word: FRMDLY 0 by the pulse that stands, FRMDLY 1 if a word is there.
     begins-before : (r : Edges x c) → s.con2.frmdly ≡ false → is_quiet l.wire ≡ true → x.memory.pulse ≡ true →
         n.pins.sck ≡ s.con1.ckp → word_begins x c ≡ true
-    unfolding if◌then◌else◌
+    unfolding when◌then◌else◌
     begins-before r early q stands at =
         and_right_of q (quiet-begins r q ∙ rw (away-from r at, stands, left-when q stands, early))
 
@@ -503,7 +504,7 @@ module _ (x : Watched) (v : Lives x) (on : x.now.settings.spien ≡ true) (f : f
 
     begins-with : (r : Edges x c) → s.con2.frmdly ≡ true → is_quiet l.wire ≡ true → 1 ≤ unsent l →
         n.pins.sck ≡ s.con1.ckp → word_begins x c ≡ true
-    unfolding if◌then◌else◌
+    unfolding when◌then◌else◌
     begins-with r dly q some at =
         let away : to_idle x c ≡ false = away-from r at in
         and_right_of q (quiet-begins r q ∙ rw (away, shown-loaded r dly q some away, some_left some, dly))
@@ -521,7 +522,7 @@ module _ (x : Watched) (v : Lives x) (on : x.now.settings.spien ≡ true) (f : f
         quiet-begins r q
         ∙ ap not
         (and-false (not (to_idle x c)) _
-        (and_first (if s.con2.frmdly then shows_pulse y.now else x.memory.pulse) _
+        (and_first (when s.con2.frmdly then shows_pulse y.now else x.memory.pulse) _
         (if_false s.con2.frmdly _ _ early ∙ sym shows_before ∙ none))) in
         let unsent-still : unsent y.ledger ≡ unsent l =
         ap₂ (λ (a : List ℕ) (d : List Passed). length a - length (unmarked d)) r.noted.accepted
@@ -552,7 +553,7 @@ module _ (x : Watched) (v : Lives x) (on : x.now.settings.spien ≡ true) (f : f
 
     -- It begins by the pulse that stood.
     client-starts : (started_by s x.memory.pulse (shows_pulse y.now) && (left_to_send l || not (silent s))) ≡ x.memory.pulse
-    unfolding if◌then◌else◌
+    unfolding when◌then◌else◌
     client-starts = rw (f, client-fsd, or-true) (and-true x.memory.pulse)
 
     client-begins : Does x c → word_begins x c ≡ (transmit_edge x c && x.memory.pulse)
@@ -573,10 +574,10 @@ module _ (x : Watched) (v : Lives x) (on : x.now.settings.spien ≡ true) (f : f
 
     client-stands : Does x c →
         y.memory.pulse
-        ≡ (if edge_made x c
+        ≡ (when edge_made x c
         then to_idle x c && (Bool·beq (ss_told c) s.con2.frmpol && is_quiet y.ledger.wire)
         else x.memory.pulse)
-    unfolding sck_of if◌then◌else◌
+    unfolding sck_of when◌then◌else◌
     client-stands (stays r) = rw (stays-unmade r) r.pulse
     client-stands (edges r) =
         rw (edges_made_lem r) (rw (no_host, client, r.told client) at r.pulse)
@@ -718,7 +719,7 @@ follows_before x h near more c made y z d e there beyond =
     let k : Kept u y = (next_edge_lem u y false d hu there).0 in
     let near-y : edges_given y.ledger.wire + 1 ≡ 2 * width_of y.now.settings =
     ap (λ (w : Wire). edges_given w + 1) k.wire ∙ early.0
-    ∙ ap (λ (q : ℕ). 2 * q) (sym (same_in (λ c d. if c.mode16 then 16 else 8) (same_on _ _ _ (edge_same x c r) k.same))) in
+    ∙ ap (λ (q : ℕ). 2 * q) (sym (same_in (λ c d. when c.mode16 then 16 else 8) (same_on _ _ _ (edge_same x c r) k.same))) in
     let b : Ended y z false e =
     ended y false (hosts_still u y false hu k) near-y d (next_edge_lem u y false d hu there).1 z e beyond in
     let hz : Hosts z false = b.hosts in

@@ -3,19 +3,20 @@
 --     Noted        the word on the wire and the words accepted and sent after them
 --     edge_noted   after every such edge
 -- Assumes nothing.
-use Rattle.laws.proofs.Common.{◌+◌, ◌<◌, ◌≤◌, Bool, true, false, not, ◌&&◌, ◌||◌, List, [], ◌∷◌, ◌++◌, ◌≡◌, refl, sym, ap}
-use Rattle.laws.proofs.Common.{subst, ◌∙◌, arith, lt-ltb, ltb-true, ltb-false, eq-eqb, ne_eqb, eqb, ltb, if◌then◌else◌}
+use Rattle.std.specs.Prelude.{◌+◌, ◌<◌, ◌≤◌, ◌&&◌, ◌||◌, ◌∷◌, ◌++◌, ◌≡◌}
+use Rattle.laws.proofs.Common.{Bool, true, false, not, List, [], refl, sym, ap}
+use Rattle.laws.proofs.Common.{subst, ◌∙◌, arith, lt-ltb, ltb-true, ltb-false, eq-eqb, ne_eqb, eqb, ltb, when◌then◌else◌}
 use Rattle.laws.proofs.Common.{if_keeps, if_true, if_false, clash}
 use Rattle.word_order.specs.Ledger.{Terms, Op, begins, clocks, OnWire, Wire, quiet, busy, is_quiet, edges_given, carries_filler, Ledger, with_wire, left_to_send, fresh, first_on_wire, counted, closed, given, noted_all}
 
 abbrev pub heard_ops : Bool → Bool → Bool → List Op
-heard_ops may sdo sdi = (if may then begins ∷ [] else []) ++ (clocks sdo sdi ∷ [])
+heard_ops may sdo sdi = (when may then begins ∷ [] else []) ++ (clocks sdo sdi ∷ [])
 
 -- The ledger `k` after such an edge of the ledger `l`.
 pub record Noted (t : Terms) (may : Bool) (l k : Ledger) : Type 0 where
   pub ends : is_quiet l.wire ≡ false → is_quiet k.wire ≡ eqb (edges_given l.wire + 1) t.last
   pub goes : is_quiet l.wire ≡ false →
-      edges_given k.wire ≡ (if eqb (edges_given l.wire + 1) t.last then 0 else edges_given l.wire + 1)
+      edges_given k.wire ≡ (when eqb (edges_given l.wire + 1) t.last then 0 else edges_given l.wire + 1)
   pub begins : is_quiet l.wire ≡ true → is_quiet k.wire ≡ not (may && (left_to_send l || not t.silent))
   pub first : is_quiet l.wire ≡ true → is_quiet k.wire ≡ false →
       (edges_given k.wire ≡ 1) × (carries_filler k.wire ≡ not (left_to_send l))

@@ -2,7 +2,8 @@
 --     word_taken_holds     the engine after a BUF read
 --     word_written_holds   the engine after a BUF write
 -- Assumes nothing.
-use Rattle.laws.proofs.Common.{ℕ, ◌^◌, ◌<◌, ◌≤◌, true, false, ◌≡◌, refl, sym, ◌∙◌, arith, if_keeps, clash}
+use Rattle.std.specs.Prelude.{◌^◌, ◌<◌, ◌≤◌, ◌≡◌}
+use Rattle.laws.proofs.Common.{ℕ, true, false, refl, sym, ◌∙◌, arith, if_keeps, clash}
 use Rattle.module_rules.proofs.Types.{Settings, Engine, Transmit, Shift, Free, Loaded, Begun, Receive}
 use Rattle.module_rules.specs.Settings.{width_of, depth_of}
 use Rattle.module_rules.specs.Registers.{is_free}

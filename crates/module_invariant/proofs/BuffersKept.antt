@@ -5,7 +5,8 @@
 --     first_unread_fits                       the first unread word fits the width
 --     first_waiting_stays                     a word written behind others leaves the first as it was
 -- Assumes nothing.
-use Rattle.laws.proofs.Common.{ℕ, ◌-◌, ◌^◌, ◌<◌, ◌≤◌, ◌≡◌, refl, arith, leb-false, eqb-false, if_keeps}
+use Rattle.std.specs.Prelude.{◌^◌, ◌<◌, ◌≤◌, ◌≡◌}
+use Rattle.laws.proofs.Common.{ℕ, refl, arith, leb-false, eqb-false, if_keeps}
 use Rattle.ring.proofs.Positions.{write_within}
 use Rattle.ring.proofs.Buffer.{buffer_empty, buffer_push, buffer_pop, buffer_first_stays}
 use Rattle.module_rules.proofs.Types.{Settings, Transmit, Receive}

@@ -4,8 +4,9 @@
 --     Outcomes, call_cases      every call, for what looks at its outcome alone
 -- The cases of clock steps, ticks and pin calls are in module_rules, proofs/ClockSteps.antt.
 -- Assumes nothing.
-use Rattle.laws.proofs.Common.{ℕ, zero, suc, ◌<◌, Bool, true, false, not, ◌&&◌, ◌≡◌, refl, sym, ap, ◌∙◌, arith, lt-ltb}
-use Rattle.laws.proofs.Common.{not-true, not-false, eqb, ltb, if◌then◌else◌, if_keeps, by_test, clash, and_left, and_right}
+use Rattle.std.specs.Prelude.{◌<◌, ◌&&◌, ◌≡◌}
+use Rattle.laws.proofs.Common.{ℕ, zero, suc, Bool, true, false, not, refl, sym, ap, ◌∙◌, arith, lt-ltb}
+use Rattle.laws.proofs.Common.{not-true, not-false, eqb, ltb, when◌then◌else◌, if_keeps, by_test, clash, and_left, and_right}
 use Rattle.laws.proofs.Common.{and_rest, and_rest_first}
 use Rattle.word_order.specs.Bits.{bit_of}
 use Rattle.module_rules.proofs.Types.{Con1, Con2, Settings, Engine, Module, Outcome, Answer, Refused, Done, Value, NoEdge}
@@ -50,7 +51,7 @@ module _ (m : Module) where
       (m.settings.spien ≡ true → m.engine.receive.marked ≡ false → empty m.engine.receive.count ≡ false →
       P 3 (answering m (Value word_read) (word_taken m.settings m.engine))) →
       (register : ℕ) → P register (read_of m register)
-  unfolding read_of read_buf if◌then◌else◌
+  unfolding read_of read_buf when◌then◌else◌
   read_cases P refused shown taken =
       register_cases (λ k. P k (read_of m k)) (shown 0 _ refl) (shown 1 _ refl) (shown 2 _ refl)
       (if_keeps (P 3) (not m.settings.spien) _ _ (λ off. refused 3 Disabled)
@@ -96,7 +97,7 @@ module _ (m : Module) where
       configured-cases register s done = if_keeps (P register) m.settings.spien _ _ (λ on. refused register Enabled) done
 
       pub write_cases : (register : ℕ) → P register (write_of m register v)
-      unfolding write_of with_con1 with_con2 write_buf if◌then◌else◌
+      unfolding write_of with_con1 with_con2 write_buf when◌then◌else◌
       write_cases =
           register_cases (λ k. P k (write_of m k v)) stat-cases (configured-cases 1 _ con1) (configured-cases 2 _ con2)
           (if_keeps (P 3) (not m.settings.spien) _ _ (λ off. refused 3 Disabled)

@@ -9,8 +9,9 @@
 --     heard_edge                     levels that make an edge of what is under way
 --     told_edge, own_edge_lem            the step of a tick: the clock of a host goes to its other level
 -- Assumes nothing.
-use Rattle.laws.proofs.Common.{ℕ, Bool, true, false, not, ◌&&◌, ◌||◌, Bool·beq, ◌≡◌, refl, sym, ap, ◌∙◌, not-true, not-false}
-use Rattle.laws.proofs.Common.{if◌then◌else◌, if_false, clash, and_both, and_left, and_right}
+use Rattle.std.specs.Prelude.{◌&&◌, ◌||◌, ◌≡◌}
+use Rattle.laws.proofs.Common.{ℕ, Bool, true, false, not, Bool·beq, refl, sym, ap, ◌∙◌, not-true, not-false}
+use Rattle.laws.proofs.Common.{when◌then◌else◌, if_false, clash, and_both, and_left, and_right}
 use Rattle.module_rules.proofs.Types.{Settings, Engine, Module, Outcome, Shift, Free, Loaded, Begun, Answer, Done, Value}
 use Rattle.module_rules.proofs.Types.{NoEdge, Edge, Refusal, Disabled, TransmitFull, ReceiveEmpty, WrongClock, Overflowed}
 use Rattle.module_rules.proofs.Types.{Read, Write, Tick, Pin}
@@ -28,8 +29,8 @@ use Rattle.module_invariant.proofs.Parts.{accepts}
 
 -- A call that may be refused by a test and is not has passed the test.
 passes : (m : Module) (r : Refusal) (a : Answer) → accepts a ≡ true → (b : Bool) (o : Outcome) →
-    (if b then refuse m r else o).answer ≡ a → (b ≡ false) × (o.answer ≡ a)
-unfolding if◌then◌else◌ refuse
+    (when b then refuse m r else o).answer ≡ a → (b ≡ false) × (o.answer ≡ a)
+unfolding when◌then◌else◌ refuse
 passes m r a ok true o e = clash (accepts a) ok (sym (ap accepts e))
 passes m r a ok false o e = (refl, e)
 
@@ -52,7 +53,7 @@ module _ (m : Module) where
   -- A BUF read answers a value if the module is enabled and a word is unread in a buffer without a mark.
   pub buf_read_when : (v : ℕ) → (perform_of m (Read 3)).answer ≡ Value v →
       (m.settings.spien ≡ true) × (empty m.engine.receive.count ≡ false) × (m.engine.receive.marked ≡ false)
-  unfolding perform_of read_of read_buf if◌then◌else◌
+  unfolding perform_of read_of read_buf when◌then◌else◌
   buf_read_when v e =
       let p = passes m Disabled (Value v) refl (not m.settings.spien) _ e in
       let k = passes m Overflowed (Value v) refl m.engine.receive.marked _ p.1 in
@@ -64,7 +65,7 @@ module _ (m : Module) where
       m.engine.receive.marked ≡ false →
       perform_of m (Read 3)
       ≡ answering m (Value (low_bits m.settings (first_unread m.engine.receive))) (word_taken m.settings m.engine)
-  unfolding perform_of read_of read_buf if◌then◌else◌
+  unfolding perform_of read_of read_buf when◌then◌else◌
   buf_read_is on some plain =
       if_false (not m.settings.spien) _ _ (ap not on)
       ∙ if_false m.engine.receive.marked _ _ plain
@@ -72,7 +73,7 @@ module _ (m : Module) where
 
   -- A BUF write is done if the module is enabled and the transmit buffer is not full.
   pub buf_write_when : (v : ℕ) → (perform_of m (Write 3 v)).answer ≡ Done → (m.settings.spien ≡ true) × (spitbf m ≡ false)
-  unfolding perform_of write_of write_buf if◌then◌else◌
+  unfolding perform_of write_of write_buf when◌then◌else◌
   buf_write_when v e =
       let p = passes m Disabled Done refl (not m.settings.spien) _ e in
       let q = passes m TransmitFull Done refl (spitbf m) _ p.1 in
@@ -81,7 +82,7 @@ module _ (m : Module) where
   -- Such a BUF write has its low bits waiting or loaded.
   pub buf_write_is : (v : ℕ) → m.settings.spien ≡ true → spitbf m ≡ false →
       perform_of m (Write 3 v) ≡ answering m Done (word_written m.settings (low_bits m.settings v) m.engine)
-  unfolding perform_of write_of write_buf if◌then◌else◌
+  unfolding perform_of write_of write_buf when◌then◌else◌
   buf_write_is v on room = if_false (not m.settings.spien) _ _ (ap not on) ∙ if_false (spitbf m) _ _ room
 
   -- A refusal is no other answer.

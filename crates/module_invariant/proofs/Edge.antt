@@ -9,8 +9,9 @@
 --     stepped_holds     the levels are seen
 --     awaits_framed, framed_not_host, pulsed_holds   frames: who awaits a pulse, and that it moves nothing else
 -- Assumes nothing.
-use Rattle.laws.proofs.Common.{ℕ, ◌+◌, ◌-◌, ◌*◌, ◌/◌, ◌%◌, ◌^◌, ◌<◌, Bool, true, false, not, ◌&&◌, ◌||◌, Bool·beq, ◌≡◌, refl}
-use Rattle.laws.proofs.Common.{sym, ap, ◌∙◌, arith, ltb-true, ltb-false, eq-eqb, eqb-false, not-true, ltb, eqb, if◌then◌else◌}
+use Rattle.std.specs.Prelude.{◌+◌, ◌-◌, ◌*◌, ◌/◌, ◌%◌, ◌^◌, ◌<◌, ◌&&◌, ◌||◌, ◌≡◌}
+use Rattle.laws.proofs.Common.{ℕ, Bool, true, false, not, Bool·beq, refl}
+use Rattle.laws.proofs.Common.{sym, ap, ◌∙◌, arith, ltb-true, ltb-false, eq-eqb, eqb-false, not-true, ltb, eqb, when◌then◌else◌}
 use Rattle.laws.proofs.Common.{if_keeps, clash, and_left, and_right, and_rest, and_rest_first, like, unlike}
 use Rattle.word_order.specs.Bits.{bit_of}
 use Rattle.module_rules.proofs.Types.{Settings, Engine, Progress, Shift, Free, Loaded, Begun}
@@ -62,12 +63,12 @@ module _ (s : Settings) (sdi : Bool) (p : Progress) (n : Engine) (h : EdgeHolds 
   -- SDO after an edge short of 2w.
   shifted_shows : sdo_after s p.word (p.edges + 1) n.pins.sdo
       ≡ bit_of p.word
-      (width_of s - 1 - (if cke_of s then p.edges + 1 else p.edges + 1 - 1) / 2)
+      (width_of s - 1 - (when cke_of s then p.edges + 1 else p.edges + 1 - 1) / 2)
   unfolding sdo_after shown_bit
   shifted_shows =
       let cke : Bool = cke_of s in
       let at : ℕ → Bool = λ k. bit_of p.word (width_of s - 1 - k) in
-      if_keeps (λ (b : Bool). b ≡ at ((if cke then p.edges + 1 else p.edges + 1 - 1) / 2)) (samples cke (p.edges + 1)) _ _
+      if_keeps (λ (b : Bool). b ≡ at ((when cke then p.edges + 1 else p.edges + 1 - 1) / 2)) (samples cke (p.edges + 1)) _ _
       (λ e. h.shows e ∙ ap at (sym (shown_sampled cke p.edges)))
       (λ e. ap at (shown_changed cke p.edges e ∙ sym (shown_sampled cke p.edges)))
 
@@ -262,7 +263,7 @@ module _ (s : Settings) (on : s.spien ≡ true) (sck : Bool) (n : Engine) (h : E
   -- With nothing begun.
   unbegun-cases : (sh : Shift) → n.shift ≡ sh → is_begun sh ≡ false → ShiftHolds s n sh →
       (Bool·beq sck s.con1.ckp ≡ false → P (begun s n sh)) →
-      P (if Bool·beq sck s.con1.ckp then sh else if awaits_pulse s n then sh else begun s n sh)
+      P (when Bool·beq sck s.con1.ckp then sh else when awaits_pulse s n then sh else begun s n sh)
   unfolding clocked
   unbegun-cases sh e unbegun k begins' =
       if_keeps P (Bool·beq sck s.con1.ckp) _ _ (λ to-idle. stays-so sh e unbegun k
@@ -272,7 +273,7 @@ module _ (s : Settings) (on : s.spien ≡ true) (sck : Bool) (n : Engine) (h : E
       (λ none. begins' away))
 
   way-cases : (sh : Shift) → n.shift ≡ sh → ShiftHolds s n sh →
-      P (if Bool·beq sck s.con1.ckp then sh else if awaits_pulse s n then sh else begun s n sh)
+      P (when Bool·beq sck s.con1.ckp then sh else when awaits_pulse s n then sh else begun s n sh)
   unfolding begun
   way-cases Free e k = unbegun-cases Free e refl k (begun_cases e k)
   way-cases (Loaded word) e k =

@@ -2,7 +2,8 @@
 --     engine_of                         the engine of a module that has the invariant
 --     reached, reached_on, reached_off  a module has the invariant by its parts, and by fewer if it is enabled or not
 -- Assumes nothing.
-use Rattle.laws.proofs.Common.{true, false, ◌≡◌, sym, ap, subst, clash}
+use Rattle.std.specs.Prelude.{◌≡◌}
+use Rattle.laws.proofs.Common.{true, false, sym, ap, subst, clash}
 use Rattle.module_rules.proofs.Types.{Settings, Engine, Transmit, Module, Free}
 use Rattle.module_rules.specs.Buffers.{empty_transmit}
 use Rattle.module_rules.specs.Invariant.{SettingsHold, Emptied, ModuleHolds}

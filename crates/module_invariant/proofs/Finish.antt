@@ -4,7 +4,8 @@
 --     rested_holds     once SDO shows the next word, the engine holds
 --     finished_holds   after the finish the engine holds
 -- Assumes nothing.
-use Rattle.laws.proofs.Common.{ℕ, ◌^◌, ◌<◌, Bool, true, false, not, ◌&&◌, ◌≡◌, refl, sym, ap, ◌∙◌, eqb-true, not-true}
+use Rattle.std.specs.Prelude.{◌^◌, ◌<◌, ◌&&◌, ◌≡◌}
+use Rattle.laws.proofs.Common.{ℕ, Bool, true, false, not, refl, sym, ap, ◌∙◌, eqb-true, not-true}
 use Rattle.laws.proofs.Common.{not-false, if_keeps, if_true, if_false, clash, and_left, and_right, and_both, and_rest}
 use mathlib.Core.Bool.{and-false}
 use Rattle.module_rules.proofs.Types.{Settings, Engine, Shift, Free, Loaded, Begun, Event}

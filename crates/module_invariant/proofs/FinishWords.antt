@@ -7,8 +7,9 @@
 --     finished_spares    what else the finish leaves as it was
 --     finished_sdo       with CKE 0 also SDO
 -- Assumes nothing.
-use Rattle.laws.proofs.Common.{ℕ, ◌^◌, ◌<◌, Bool, true, false, not, ◌&&◌, ◌||◌, List, [], ◌∷◌, ◌++◌, append-nil, ◌≡◌, refl}
-use Rattle.laws.proofs.Common.{sym, ap, ◌∙◌, if◌then◌else◌, so, not_so, if_keeps, if_ap, if_false, and_left}
+use Rattle.std.specs.Prelude.{◌^◌, ◌<◌, ◌&&◌, ◌||◌, ◌∷◌, ◌++◌, ◌≡◌}
+use Rattle.laws.proofs.Common.{ℕ, Bool, true, false, not, List, [], append-nil, refl}
+use Rattle.laws.proofs.Common.{sym, ap, ◌∙◌, when◌then◌else◌, so, not_so, if_keeps, if_ap, if_false, and_left}
 use Rattle.word_order.specs.Port.{idle, is_under}
 use Rattle.module_rules.proofs.Types.{Settings, Engine, Transmit, Progress, Begun, Loaded, Free, Shift}
 use Rattle.module_rules.specs.Settings.{width_of, depth_of, cke_of, ssen_client}
@@ -30,9 +31,9 @@ use Rattle.module_invariant.proofs.Losses.{kept_finds_room}
 -- The first of the words, unless it was a filler, is the finished one.
 sent_first : (filler client : Bool) (word : ℕ) (now later : List ℕ) →
     (client ≡ true → filler ≡ false → now ≡ word ∷ later) →
-    (if filler || client then [] else word ∷ []) ++ now
-    ≡ (if filler then [] else word ∷ []) ++ (if client && not filler then later else now)
-unfolding if◌then◌else◌
+    (when filler || client then [] else word ∷ []) ++ now
+    ≡ (when filler then [] else word ∷ []) ++ (when client && not filler then later else now)
+unfolding when◌then◌else◌
 sent_first true true word now later h = refl
 sent_first true false word now later h = refl
 sent_first false true word now later h = h refl refl
@@ -42,7 +43,7 @@ module _ (s : Settings) (n : Engine) where
   -- The words that wait once an SSEN client has dropped the word it sent.
   sent_dropped_waiting : (filler : Bool) →
       waiting (depth_of s) (sent_dropped s filler n).transmit
-      ≡ (if ssen_client s && not filler then waiting (depth_of s) (departed (depth_of s) n.transmit)
+      ≡ (when ssen_client s && not filler then waiting (depth_of s) (departed (depth_of s) n.transmit)
       else waiting (depth_of s) n.transmit)
   unfolding sent_dropped word_leaves noted
   sent_dropped_waiting filler =
@@ -77,11 +78,11 @@ module _ (s : Settings) (n : Engine) where
   -- A received word stands last among those unread, unless it is lost.
   pub delivered_unread : (word : ℕ) → BuffersHold s n →
       unread (depth_of s) (delivered s word n).receive
-      ≡ unread (depth_of s) n.receive ++ (if is_lost s n then [] else word ∷ [])
+      ≡ unread (depth_of s) n.receive ++ (when is_lost s n then [] else word ∷ [])
   unfolding delivered overflowed overrun word_appended noted unread
   delivered_unread word b =
       let before : List ℕ = unread (depth_of s) n.receive in
-      let more : List ℕ = if is_lost s n then [] else word ∷ [] in
+      let more : List ℕ = when is_lost s n then [] else word ∷ [] in
       if_keeps (λ (x : Engine). unread (depth_of s) x.receive ≡ before ++ more) (is_lost s n) _ _
       (λ e. sym (append-nil before) ∙ ap (λ (l : List ℕ). before ++ l) (so (is_lost s n) [] (word ∷ []) e refl))
       (λ e.
@@ -92,7 +93,7 @@ module _ (s : Settings) (n : Engine) where
   -- The finished word, unless it was a filler, was the first of those unfinished and waiting.
   pub sent_leaves : (word : ℕ) (p : Progress) → TransmitHolds s n.transmit → WordHolds s n p.filler p.word →
       unfinished s (Begun p) ++ waiting (depth_of s) n.transmit
-      ≡ (if p.filler then [] else p.word ∷ [])
+      ≡ (when p.filler then [] else p.word ∷ [])
       ++ waiting (depth_of s) (sent_dropped s p.filler (delivered s word n)).transmit
   sent_leaves word p t h =
       let drops : Bool = ssen_client s && not p.filler in
@@ -100,8 +101,8 @@ module _ (s : Settings) (n : Engine) where
       (λ c f.
       left_takes_first (depth_of s) n.transmit (depth_most s) t.cells t.ring (h.first c f).0
       ∙ ap (λ (x : ℕ). x ∷ waiting (depth_of s) (departed (depth_of s) n.transmit)) (sym (h.first c f).1))
-      ∙ ap (λ (l : List ℕ). (if p.filler then [] else p.word ∷ []) ++ l)
-      (ap (λ (u : Transmit). if drops then waiting (depth_of s) (departed (depth_of s) u) else waiting (depth_of s) u)
+      ∙ ap (λ (l : List ℕ). (when p.filler then [] else p.word ∷ []) ++ l)
+      (ap (λ (u : Transmit). when drops then waiting (depth_of s) (departed (depth_of s) u) else waiting (depth_of s) u)
       (sym (delivered_elsewhere word).0)
       ∙ sym (sent_dropped_waiting s (delivered s word n) p.filler))
 

@@ -4,10 +4,11 @@
 --     calls_keep         every list of calls keeps it
 --     reached_holds      every list of calls from power-up gives it
 -- Assumes nothing.
-use Rattle.laws.proofs.Common.{true, false, List, [], ◌∷◌, ◌≡◌, refl, arith, clash}
+use Rattle.std.specs.Prelude.{◌∷◌, ◌≡◌}
+use Rattle.laws.proofs.Common.{true, false, List, [], refl, arith, clash}
 use Rattle.module_rules.proofs.Types.{Depth, Settings, Engine, Module, Answer, Call}
 use Rattle.module_rules.specs.Registers.{con1_from, con2_from, low_bits}
-use Rattle.module_rules.specs.Calls.{after_calls, answering, powered_at, clock_step_of, clear_of, perform_of}
+use Rattle.module_rules.specs.Calls.{after_calls, answering, powered_at, clear_of, perform_of}
 use Rattle.module_rules.specs.Invariant.{Emptied, ModuleHolds}
 use Rattle.module_rules.proofs.Sizes.{low_bits_fit}
 use Rattle.module_invariant.proofs.Parts.{HoldsAfter, BuffersHold, EngineHolds}

@@ -5,7 +5,8 @@
 --     kept_finds_room   a word that is not lost finds room
 -- Assumes nothing.
 use mir.Val.{bool_byte}
-use Rattle.laws.proofs.Common.{ℕ, ◌+◌, ◌<◌, Bool, false, not, ◌&&◌, ◌||◌, or-true, or-false, ◌≡◌, refl, sym, ap, ◌∙◌, arith}
+use Rattle.std.specs.Prelude.{◌+◌, ◌<◌, ◌&&◌, ◌||◌, ◌≡◌}
+use Rattle.laws.proofs.Common.{ℕ, Bool, false, not, or-true, or-false, refl, sym, ap, ◌∙◌, arith}
 use Rattle.laws.proofs.Common.{leb-false, if_keeps, or_left, if_false}
 use Rattle.module_rules.proofs.Types.{Settings, Engine, Receive}
 use Rattle.module_rules.specs.Settings.{depth_of}

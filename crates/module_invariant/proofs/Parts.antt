@@ -14,7 +14,8 @@
 --     EngineHolds           an engine between calls
 --     EdgedHolds            an engine after an edge, for what is under way at that edge
 --     Spared                an engine with the same receive buffer, SCK, SS, pulse and SPIROV as another
-use Rattle.laws.proofs.Common.{ℕ, ◌+◌, ◌-◌, ◌%◌, ◌^◌, ◌≤◌, ◌<◌, Bool, true, false, Bool·beq, List, [], ◌∷◌, ◌++◌, ◌≡◌, eqb}
+use Rattle.std.specs.Prelude.{◌+◌, ◌-◌, ◌%◌, ◌^◌, ◌≤◌, ◌<◌, ◌∷◌, ◌++◌, ◌≡◌}
+use Rattle.laws.proofs.Common.{ℕ, Bool, true, false, Bool·beq, List, [], eqb}
 use Rattle.ring.specs.Ring.{BufferHolds}
 use Rattle.word_order.specs.Bits.{bit_of}
 use Rattle.module_rules.proofs.Types.{Settings, Engine, Outcome, Transmit, Receive, Progress, Shift, Free, Loaded, Begun}

@@ -1,33 +1,34 @@
 -- Document 02, Twelve: power-up with a depth, and the depth after every call.
 --     powers_up_lem   what the page says of it
 -- Assumes nothing.
-use Rattle.laws.proofs.Common.{ℕ, Bool, true, false, ◌||◌, ◌≡◌, refl, sym, eqb-true, eqb, if◌then◌else◌, clash}
+use Rattle.std.specs.Prelude.{◌||◌, ◌≡◌}
+use Rattle.laws.proofs.Common.{ℕ, Bool, true, false, refl, sym, eqb-true, eqb, when◌then◌else◌, clash}
 use Rattle.module_rules.proofs.Types.{Four, Eight, Sixteen, Module, Outcome, NoSuchDepth, Done, Call}
 use Rattle.module_rules.specs.InBits.{chosen}
 use Rattle.module_rules.specs.Refusals.{number_of, said_of, is_done}
 use Rattle.module_rules.specs.Registers.{stat_settings}
 use Rattle.module_rules.specs.Calls.{refuse, answering, powered_at, power_up_of, clear_of, perform_of}
-use Rattle.module_rules.specs.Demands.{is_depth, PowersUp}
+use Rattle.module_rules.specs.Demands.{PowersUp}
 use Rattle.module_rules.proofs.ExamplesHold.{power_up_zero}
 use Rattle.module_invariant.proofs.CallCases.{call_cases}
 
 -- By the three tests.
 abbrev powered : Bool → Bool → Bool → Module → Outcome
 powered four eight sixteen m =
-    if four then record { answer = Done; after = powered_at Four }
-    else if eight then record { answer = Done; after = powered_at Eight }
-    else if sixteen then record { answer = Done; after = powered_at Sixteen }
+    when four then record { answer = Done; after = powered_at Four }
+    else when eight then record { answer = Done; after = powered_at Eight }
+    else when sixteen then record { answer = Done; after = powered_at Sixteen }
     else refuse m NoSuchDepth
 
-refused_so : (a b c : Bool) (m : Module) → (said_of (powered a b c m).answer).number ≡ (if a || (b || (c || false)) then 0 else 25)
-unfolding if◌then◌else◌ refuse number_of
+refused_so : (a b c : Bool) (m : Module) → (said_of (powered a b c m).answer).number ≡ (when a || (b || (c || false)) then 0 else 25)
+unfolding when◌then◌else◌ refuse number_of
 refused_so true b c m = refl
 refused_so false true c m = refl
 refused_so false false true m = refl
 refused_so false false false m = refl
 
 unchanged_so : (a b c : Bool) (m : Module) → (a || (b || (c || false))) ≡ false → (powered a b c m).after ≡ m
-unfolding if◌then◌else◌ refuse
+unfolding when◌then◌else◌ refuse
 unchanged_so true b c m e = clash true refl e
 unchanged_so false true c m e = clash true refl e
 unchanged_so false false true m e = clash true refl e
@@ -37,7 +38,7 @@ done_so : (a b c : Bool) (m : Module) (words : ℕ) → (a ≡ true → words �
     (a || (b || (c || false))) ≡ true →
     (is_done (powered a b c m).answer ≡ true) × (chosen (powered a b c m).after.settings.depth ≡ words)
     × ((powered a b c m).after ≡ powered_at (powered a b c m).after.settings.depth)
-unfolding if◌then◌else◌ powered_at
+unfolding when◌then◌else◌ powered_at
 done_so true b c m words four eight sixteen e = (refl, sym (four refl), refl)
 done_so false true c m words four eight sixteen e = (refl, sym (eight refl), refl)
 done_so false false true m words four eight sixteen e = (refl, sym (sixteen refl), refl)

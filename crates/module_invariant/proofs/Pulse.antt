@@ -2,7 +2,8 @@
 --     unframed_pulse   no pulse stands in an unframed module
 --     call_reaches     every call keeps the whole invariant
 -- Assumes nothing.
-use Rattle.laws.proofs.Common.{ℕ, ◌+◌, ◌*◌, ◌%◌, ◌≤◌, le_refl, Bool, true, false, not, ◌&&◌, Bool·beq, Bool·not-not, ◌≡◌}
+use Rattle.std.specs.Prelude.{◌+◌, ◌*◌, ◌%◌, ◌≤◌, ◌&&◌, ◌≡◌}
+use Rattle.laws.proofs.Common.{ℕ, le_refl, Bool, true, false, not, Bool·beq, Bool·not-not}
 use Rattle.laws.proofs.Common.{refl, sym, ap, subst, ◌∙◌, arith, leb-true, lt-ltb, le-ltb, eqb-true, eqb-false, ne_eqb}
 use Rattle.laws.proofs.Common.{not-true, eqb, ltb, if_keeps, if_true, if_false, clash, by_test, and_left, and_right, and_both}
 use Rattle.laws.proofs.Common.{or_right, or_rest, or_rest_first, like, unlike}
@@ -80,7 +81,7 @@ written_fits s word n h pulse =
     let more : n.transmit.count ≤ q.transmit.count =
     if_keeps (λ (t : Transmit). n.transmit.count ≤ t.count) (full (depth_of s) n.transmit.count) _ _ (λ e. le_refl _)
     (λ e. omega arith) in
-    fits_count s (loaded s q) _ (loaded s q).shift (le_refl _) (loaded_fits s n q refl more refl h pulse)
+    fits_count s (loaded s q) (word_written s word n) (loaded s q).shift (le_refl _) (loaded_fits s n q refl more refl h pulse)
 
 -- Select leaves the pulse, and the shift register of a framed module, which is no SSEN client.
 pub framed_no_client : (s : Settings) → framed s ≡ true → ssen_client s ≡ false
@@ -93,7 +94,7 @@ selected_fits s ss n h =
     (λ e stands.
     clash (ssen_client s) (and_left (ssen_client s) ss (and_left (deselected s ss) _ e))
     (framed_no_client s (fits_framed s n n.shift (h stands))))
-    (λ e stands. fits_count s n _ n.shift (omega arith) (h stands))
+    (λ e stands. fits_count s n (select_remembered ss n) n.shift (omega arith) (h stands))
 
 -- The pulse that a frame host gives from a transmit edge on.
 due_fits : (s : Settings) (n : Engine) (sh : Shift) → frame_host s ≡ true → pulse_due s n.transmit.count sh ≡ true →
@@ -185,13 +186,13 @@ module _ (s : Settings) (sck sdi : Bool) (n : Engine) (edge : sck ≡ not n.pins
   unfolding advanced_if_begun clocked
   sample-fits host idle Free e k h =
       clash s.con2.spifsd (and_right (framed s) _ h) (not-true s.con2.spifsd (and_right (framed s) _ host))
-  sample-fits host idle (Loaded word) e k h = fits_known s _ (Loaded word) e h
+  sample-fits host idle (Loaded word) e k h = fits_known s (clocked sck n) (Loaded word) e h
   sample-fits host idle (Begun p) e k h = by_test s.con2.frmdly (with_fits p k h idle) (before-fits p h)
 
   -- An edge that is only remembered.
   clocked-fits : Fits s n → deselected s n.pins.ss ≡ true → Fits s (clocked sck n)
   unfolding clocked
-  clocked-fits h d stands = fits_count s n _ n.shift (le_refl _) (h stands)
+  clocked-fits h d stands = fits_count s n (clocked sck n) n.shift (le_refl _) (h stands)
 
   -- The end of an edge.
   pulsed-fits : EngineHolds s n → Fits s n →
@@ -201,7 +202,7 @@ module _ (s : Settings) (sck sdi : Bool) (n : Engine) (edge : sck ≡ not n.pins
       let x : Engine = advanced_if_begun s sdi (under_way s sck n) (clocked sck n) in
       let same : x.pins.pulse ≡ n.pins.pulse = (advanced_levels s sdi (under_way s sck n) (clocked sck n)).pulse in
       let Q : Bool → Type 0 = λ b. b ≡ true → PulseFits s x x.shift in
-      fits_count s x _ x.shift (le_refl _)
+      fits_count s x (pulsed s sck x) x.shift (le_refl _)
       (if_keeps Q (framed s) _ _
       (λ f.
       if_keeps Q (Bool·beq sck s.con1.ckp) _ _
@@ -328,13 +329,13 @@ module _ (m : Module) (k : ModuleHolds m) (h : PulseHolds m) (g : MarkFits m.set
         same = λ a. record { fits = h; mark = g };
         taken = λ on plain v.
             record {
-              fits = λ on stands. fits_count s n _ n.shift (le_refl _) (h on stands);
+              fits = λ on stands. fits_count s n (word_taken s n) n.shift (le_refl _) (h on stands);
               mark = λ stands. clash n.receive.marked (sym (taken_marked (depth_of s) n.receive) ∙ stands) plain;
             };
         enables = λ off v up good. record { fits = λ on stands. clash false stands refl; mark = g };
         disables = λ on v down. off_fits _ down refl;
         rewrites = λ v same.
-            record { fits = λ on stands. stat_same s v n _ n.shift (h (sym same ∙ on) stands) refl; mark = g };
+            record { fits = λ on stands. stat_same s v n (stat_engine v n) n.shift (h (sym same ∙ on) stands) refl; mark = g };
         configures = λ off c d spre ppre. off_fits _ off (unmarked_off m k off);
         written = λ on v. record { fits = λ on. written_fits s _ n (h on); mark = written_mark s _ n g };
         seen = λ on a ok x busy.
@@ -342,7 +343,7 @@ module _ (m : Module) (k : ModuleHolds m) (h : PulseHolds m) (g : MarkFits m.set
               fits = λ on. stepped_fits s x.sck x.sdi x.ss n (engine_of m k) (h on);
               mark = stepped_mark s x.sck x.sdi x.ss n (engine_of m k) g;
             };
-        cleared = record { fits = λ on stands. fits_count s n _ n.shift (le_refl _) (h on stands); mark = g };
+        cleared = record { fits = λ on stands. fits_count s n (clear_of m).after.engine n.shift (le_refl _) (h on stands); mark = g };
       })
 
 -- Power-up, and every call.

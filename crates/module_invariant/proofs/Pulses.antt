@@ -3,8 +3,9 @@
 --     loaded_shown   a pulse with the first bit
 --     starts_as      where a word may begin, the watcher says so too
 -- Assumes nothing.
-use Rattle.laws.proofs.Common.{ℕ, ◌+◌, ◌*◌, Bool, true, false, not, ◌&&◌, ◌||◌, Bool·beq, ◌≡◌, refl, ap, ◌∙◌, arith, lt-ltb}
-use Rattle.laws.proofs.Common.{not-true, eqb, ltb, if◌then◌else◌, if_true, if_false, and_left, and_right, clash}
+use Rattle.std.specs.Prelude.{◌+◌, ◌*◌, ◌&&◌, ◌||◌, ◌≡◌}
+use Rattle.laws.proofs.Common.{ℕ, Bool, true, false, not, Bool·beq, refl, ap, ◌∙◌, arith, lt-ltb}
+use Rattle.laws.proofs.Common.{not-true, eqb, ltb, when◌then◌else◌, if_true, if_false, and_left, and_right, clash}
 use Rattle.module_rules.proofs.Types.{Settings, Engine, Module, Shift, Free, Loaded, Begun, Low, High}
 use Rattle.module_rules.specs.Pulses.{started_by}
 use Rattle.module_rules.specs.Settings.{width_of, framed, frame_host, silent}
@@ -18,8 +19,8 @@ use Rattle.module_rules.specs.Watch.{is_level, shows_pulse}
 use Rattle.module_rules.proofs.Sizes.{width_least}
 
 -- A pin that is driven at one of the levels.
-driven_at : (pulse polarity : Bool) → is_level polarity (if Bool·beq pulse polarity then High else Low) ≡ pulse
-unfolding if◌then◌else◌
+driven_at : (pulse polarity : Bool) → is_level polarity (when Bool·beq pulse polarity then High else Low) ≡ pulse
+unfolding when◌then◌else◌
 driven_at true true = refl
 driven_at true false = refl
 driven_at false true = refl
@@ -44,8 +45,8 @@ module _ (m : Module) where
 
 -- Where a word may begin: by the pulse that stood before the edge, or by the one shown after it.
 starts_law : (f fsd dly pulse shown : Bool) → ((f && not fsd) ≡ true → dly ≡ true → shown ≡ true) →
-    (not f || (if (f && not fsd) && dly then shown else pulse)) ≡ not ((f && (fsd || not dly)) && not pulse)
-unfolding if◌then◌else◌
+    (not f || (when (f && not fsd) && dly then shown else pulse)) ≡ not ((f && (fsd || not dly)) && not pulse)
+unfolding when◌then◌else◌
 starts_law false fsd dly pulse shown h = refl
 starts_law true true dly true shown h = refl
 starts_law true true dly false shown h = refl
@@ -55,8 +56,8 @@ starts_law true false false false shown h = refl
 
 -- A pulse that is given with FRMDLY 1.
 given_law : (f idle fsd dly seen pulse early : Bool) → f ≡ true → idle ≡ false → fsd ≡ false → dly ≡ true →
-    (if f then (if idle then (if fsd then seen else pulse) else not fsd && (if dly then true else early)) else pulse) ≡ true
-unfolding if◌then◌else◌
+    (when f then (when idle then (when fsd then seen else pulse) else not fsd && (when dly then true else early)) else pulse) ≡ true
+unfolding when◌then◌else◌
 given_law f idle fsd dly seen pulse early a b c d = rw (a, b, c, d)
 
 module _ (s : Settings) (sck sdi : Bool) (n : Engine) where

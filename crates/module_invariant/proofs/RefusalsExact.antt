@@ -5,8 +5,9 @@
 --     refused_by        a test that refuses by its row: what comes after it is asked only if it fails
 --     by_spien          a call is refused exactly if it is so in every enabled and in every disabled module
 -- Assumes nothing.
-use Rattle.laws.proofs.Common.{ℕ, Bool, true, false, not, ◌&&◌, ◌||◌, or-false, ◌≡◌, refl, ap, ◌∙◌, arith, eqb, leb}
-use Rattle.laws.proofs.Common.{if◌then◌else◌, if_keeps}
+use Rattle.std.specs.Prelude.{◌&&◌, ◌||◌, ◌≡◌}
+use Rattle.laws.proofs.Common.{ℕ, Bool, true, false, not, or-false, refl, ap, ◌∙◌, arith, eqb, leb}
+use Rattle.laws.proofs.Common.{when◌then◌else◌, if_keeps}
 use Rattle.word_order.specs.Bits.{bit_of}
 use Rattle.module_rules.proofs.Types.{Module, Outcome, Refusal, NoSuchRegister, Disabled, Enabled, TransmitFull, ReceiveEmpty}
 use Rattle.module_rules.proofs.Types.{WrongClock, NoRate, UnreadableLine, DifferentModes, TooManyEdges, Undivided}
@@ -28,8 +29,8 @@ told o = (said_of o.answer).number
 
 -- A test that refuses, and a row that applies by the same test, give the same number if what comes after them does.
 refused_by : (m : Module) (r : Refusal) (b c : Bool) (o : Outcome) (k : ℕ) → c ≡ b → (b ≡ false → told o ≡ k) →
-    told (if b then refuse m r else o) ≡ (if c then number_of r else k)
-unfolding if◌then◌else◌ refuse
+    told (when b then refuse m r else o) ≡ (when c then number_of r else k)
+unfolding when◌then◌else◌ refuse
 refused_by m r true c o k same h = rw same refl
 refused_by m r false c o k same h = rw same (h refl)
 
@@ -44,9 +45,9 @@ by_spien c h m = h m.settings.spien m
 
 -- The first of three causes that is given, and its number.
 first_cause_lem : (up a b c : Bool) (p q r k : ℕ) →
-    (if up && (a || (b || c)) then (if a then p else if b then q else r) else k)
-    ≡ (if up && a then p else if up && b then q else if up && c then r else k)
-unfolding if◌then◌else◌
+    (when up && (a || (b || c)) then (when a then p else when b then q else r) else k)
+    ≡ (when up && a then p else when up && b then q else when up && c then r else k)
+unfolding when◌then◌else◌
 first_cause_lem true true b c p q r k = refl
 first_cause_lem true false true c p q r k = refl
 first_cause_lem true false false true p q r k = refl
@@ -55,8 +56,8 @@ first_cause_lem false a b c p q r k = refl
 
 -- The number of the first cause.
 cause_number : (a b : Bool) →
-    number_of (if a then Undivided else if b then LateSampling else UnselectedCke) ≡ (if a then 13 else if b then 14 else 15)
-unfolding if◌then◌else◌ number_of
+    number_of (when a then Undivided else when b then LateSampling else UnselectedCke) ≡ (when a then 13 else when b then 14 else 15)
+unfolding when◌then◌else◌ number_of
 cause_number true b = refl
 cause_number false true = refl
 cause_number false false = refl
@@ -82,7 +83,7 @@ never_given_lem NoSuchDepth = ((λ e. omega (arith, e)), (λ e. omega (arith, e)
 
 -- A read of STAT, CON1 or CON2 is never refused, and a BUF read exactly by its rows.
 read_refused : (m : Module) (register : ℕ) → told (perform_of m (Read register)) ≡ first_number (rows m (Read register))
-unfolding perform_of read_of read_buf if◌then◌else◌ refuse answering number_of
+unfolding perform_of read_of read_buf when◌then◌else◌ refuse answering number_of
 read_refused m =
     register_cases (λ k. told (perform_of m (Read k)) ≡ first_number (rows m (Read k)))
     (by_spien (Read 0) (elim [ true ↦ λ m. refl | false ↦ λ m. refl ]) m)
@@ -103,7 +104,7 @@ read_refused m =
 -- A STAT write is refused exactly by rows 13 to 15, a CON1 or CON2 write by row 3, and a BUF write by rows 2 and 5.
 write_refused : (m : Module) (v register : ℕ) →
     told (perform_of m (Write register v)) ≡ first_number (rows m (Write register v))
-unfolding perform_of write_of write_stat turns_on configured write_buf spitbf if◌then◌else◌ refuse answering number_of
+unfolding perform_of write_of write_stat turns_on configured write_buf spitbf when◌then◌else◌ refuse answering number_of
 write_refused m v =
     register_cases (λ k. told (perform_of m (Write k v)) ≡ first_number (rows m (Write k v)))
     (by_spien (Write 0 v)
@@ -112,7 +113,7 @@ write_refused m v =
       | false ↦ λ m.
           let s = m.settings in
           refused_by _ (first_given (causes s)) (bit_of v 15 && bad_settings s) (bit_of v 15 && bad_settings s) _ 0 refl (λ good. refl)
-          ∙ ap (λ (k : ℕ). if bit_of v 15 && bad_settings s then k else 0)
+          ∙ ap (λ (k : ℕ). when bit_of v 15 && bad_settings s then k else 0)
           (cause_number (undivided s) (late_sampling s))
           ∙ first_cause_lem (bit_of v 15) (undivided s) (late_sampling s) (unselected_cke s) 13 14 15 0
     ])
@@ -131,7 +132,7 @@ write_refused m v =
 
 -- A tick is refused exactly by its row.
 tick_refused : (sdi ss : Bool) (m : Module) → told (perform_of m (Tick sdi ss)) ≡ first_number (rows m (Tick sdi ss))
-unfolding perform_of clock_step_of edge_told tick_of if◌then◌else◌ refuse answering number_of
+unfolding perform_of clock_step_of edge_told tick_of when◌then◌else◌ refuse answering number_of
 tick_refused sdi ss =
     by_spien (Tick sdi ss)
     (elim [
@@ -144,7 +145,7 @@ tick_refused sdi ss =
 -- A pin call is refused exactly by its row.
 pin_refused : (sck sdi ss : Bool) (m : Module) →
     told (perform_of m (Pin sck sdi ss)) ≡ first_number (rows m (Pin sck sdi ss))
-unfolding perform_of clock_step_of pins_of if◌then◌else◌ refuse answering number_of
+unfolding perform_of clock_step_of pins_of when◌then◌else◌ refuse answering number_of
 pin_refused sck sdi ss =
     by_spien (Pin sck sdi ss)
     (elim [
@@ -157,7 +158,7 @@ pin_refused sck sdi ss =
 -- A clock step is refused exactly by its row.
 step_refused : (sck sdi ss : Bool) (m : Module) →
     told (perform_of m (ClockStep sck sdi ss)) ≡ first_number (rows m (ClockStep sck sdi ss))
-unfolding perform_of clock_step_of if◌then◌else◌ refuse answering number_of
+unfolding perform_of clock_step_of when◌then◌else◌ refuse answering number_of
 step_refused sck sdi ss =
     by_spien (ClockStep sck sdi ss)
     (elim [
@@ -167,7 +168,7 @@ step_refused sck sdi ss =
 
 -- The clear call is never refused.
 clear_refused : (m : Module) → told (perform_of m Clear) ≡ first_number (rows m Clear)
-unfolding perform_of clear_of if◌then◌else◌ answering
+unfolding perform_of clear_of when◌then◌else◌ answering
 clear_refused = by_spien Clear (elim [ true ↦ λ m. refl | false ↦ λ m. refl ])
 
 -- Every call is refused exactly when a row of the table applies, with the number of the first that does.

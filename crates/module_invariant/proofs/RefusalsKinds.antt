@@ -2,8 +2,9 @@
 --     call_fits   an answer that is no refusal is of the call's kind, and only a register write that is done changes
 --                 settings, to the bits of its value
 -- Assumes nothing.
-use Rattle.laws.proofs.Common.{zero, suc, ℕ, ◌/◌, ◌%◌, ◌<◌, ◌+◌, true, false, ◌&&◌, ◌∷◌, ◌≡◌, refl, sym, ap, ◌∙◌, arith}
-use Rattle.laws.proofs.Common.{eqb, if◌then◌else◌, if_false}
+use Rattle.std.specs.Prelude.{◌/◌, ◌%◌, ◌<◌, ◌+◌, ◌&&◌, ◌∷◌, ◌≡◌}
+use Rattle.laws.proofs.Common.{zero, suc, ℕ, true, false, refl, sym, ap, ◌∙◌, arith}
+use Rattle.laws.proofs.Common.{eqb, when◌then◌else◌, if_false}
 use Rattle.word_order.specs.Bits.{bit_of}
 use Rattle.module_rules.proofs.Types.{Settings, Engine, Module, Outcome, Answer, Refused, Done, Value, NoEdge, Edge, Call}
 use Rattle.module_rules.proofs.Types.{Read, Write, Tick, Pin, ClockStep, Clear, Refusal, Con1, Con2}
@@ -49,11 +50,11 @@ con2_bits_lem v c = refl
 pub record Fitting (s : Settings) (c : Call) (o : Outcome) : Type 0 where
   pub kind : among (said_of o.answer).kind (0 ∷ kinds_for c) ≡ true
   pub stat : stat_kept o.after.settings
-      ≡ (if is_done o.answer && writes 0 c then written_to (asks c).value (stat_kept s) else stat_kept s)
+      ≡ (when is_done o.answer && writes 0 c then written_to (asks c).value (stat_kept s) else stat_kept s)
   pub con1 : con1_bits o.after.settings.con1
-      ≡ (if is_done o.answer && writes 1 c then written_to (asks c).value (con1_bits s.con1) else con1_bits s.con1)
+      ≡ (when is_done o.answer && writes 1 c then written_to (asks c).value (con1_bits s.con1) else con1_bits s.con1)
   pub con2 : con2_bits o.after.settings.con2
-      ≡ (if is_done o.answer && writes 2 c then written_to (asks c).value (con2_bits s.con2) else con2_bits s.con2)
+      ≡ (when is_done o.answer && writes 2 c then written_to (asks c).value (con2_bits s.con2) else con2_bits s.con2)
 
 module _ (m : Module) where
   -- An answer in kind that leaves the settings, of a call that is no done write of STAT, CON1 or CON2.
@@ -76,7 +77,7 @@ module _ (m : Module) where
 
   -- Every call.
   pub call_fits : (c : Call) → Fitting m.settings c (perform_of m c)
-  unfolding perform_of clear_of answering stat_settings if◌then◌else◌
+  unfolding perform_of clear_of answering stat_settings when◌then◌else◌
   call_fits (Read register) =
       read_cases m (λ k. Fitting m.settings (Read k)) (λ k. refusal-fits (Read k))
       (λ k v other. same_fits (Read k) (Value v) m refl refl refl refl refl)

@@ -2,7 +2,8 @@
 --     refused_unchanged_lem   a refused call changes nothing
 --     no_edge_unchanged   a tick or a clock step that makes no edge changes nothing
 -- Assumes nothing.
-use Rattle.laws.proofs.Common.{◌≡◌, refl, ap, clash}
+use Rattle.std.specs.Prelude.{◌≡◌}
+use Rattle.laws.proofs.Common.{refl, ap, clash}
 use Rattle.module_rules.proofs.Types.{Module, Outcome, Refusal, Refused, NoEdge, Call}
 use Rattle.module_rules.specs.Calls.{answering, clear_of, perform_of}
 use Rattle.module_invariant.proofs.CallCases.{sees, call_cases}

@@ -7,8 +7,9 @@
 --     shown_kept, shown_changed    the bit after an edge that samples, and after one that changes SDO
 --     turned                       each edge takes the clock to its other level
 -- Assumes nothing.
-use Rattle.laws.proofs.Common.{ℕ, suc, ◌+◌, ◌-◌, ◌*◌, ◌/◌, ◌%◌, ◌^◌, ◌<◌, ◌≤◌, Bool, true, false, not, Bool·beq, ◌≡◌, refl}
-use Rattle.laws.proofs.Common.{sym, arith, eqb-true, eqb-false, eq-eqb, ne_eqb, not-true, not-false, eqb, if◌then◌else◌}
+use Rattle.std.specs.Prelude.{◌+◌, ◌-◌, ◌*◌, ◌/◌, ◌%◌, ◌^◌, ◌<◌, ◌≤◌, ◌≡◌}
+use Rattle.laws.proofs.Common.{ℕ, suc, Bool, true, false, not, Bool·beq, refl}
+use Rattle.laws.proofs.Common.{sym, arith, eqb-true, eqb-false, eq-eqb, ne_eqb, not-true, not-false, eqb, when◌then◌else◌}
 use Rattle.laws.proofs.Common.{if_keeps, like, unlike, by_test}
 use Rattle.module_types.specs.declared.Settings.{Settings}
 use Rattle.module_rules.specs.Settings.{cke_of}
@@ -17,7 +18,7 @@ use Rattle.module_rules.specs.Invariant.{sampled}
 
 -- An edge that samples adds a bit.
 pub sampled_more : (cke : Bool) (k : ℕ) → samples cke (k + 1) ≡ true → sampled cke (k + 1) ≡ suc (sampled cke k)
-unfolding sampled if◌then◌else◌
+unfolding sampled when◌then◌else◌
 sampled_more true k e =
     let odd : (k + 1) % 2 ≡ 1 = eqb-true ((k + 1) % 2) 1 (sym (like true _ e)) in
     omega arith
@@ -27,7 +28,7 @@ sampled_more false k e =
 
 -- An edge that does not sample adds none.
 pub sampled_same : (cke : Bool) (k : ℕ) → samples cke (k + 1) ≡ false → sampled cke (k + 1) ≡ sampled cke k
-unfolding sampled if◌then◌else◌
+unfolding sampled when◌then◌else◌
 sampled_same true k e =
     let is_odd : Bool = eqb ((k + 1) % 2) 1 in
     let even : (k + 1) % 2 ≡ 1 → ⊥ = eqb-false ((k + 1) % 2) 1 (not-true is_odd (sym (unlike true is_odd e))) in
@@ -39,31 +40,31 @@ sampled_same false k e =
 
 -- Before the first edge no bit is sampled.
 pub sampled_none : (cke : Bool) → sampled cke 0 ≡ 0
-unfolding sampled if◌then◌else◌
+unfolding sampled when◌then◌else◌
 sampled_none true = refl
 sampled_none false = refl
 
 -- After edge 2w, w bits are sampled.
 pub sampled_all : (cke : Bool) (k w : ℕ) → k ≡ 2 * w → sampled cke k ≡ w
-unfolding sampled if◌then◌else◌
+unfolding sampled when◌then◌else◌
 sampled_all true k w e = omega arith
 sampled_all false k w e = omega arith
 
 -- By edge 2w no more than w bits are sampled.
 pub sampled_most : (cke : Bool) (k w : ℕ) → k ≤ 2 * w → sampled cke k ≤ w
-unfolding sampled if◌then◌else◌
+unfolding sampled when◌then◌else◌
 sampled_most true k w h = omega arith
 sampled_most false k w h = omega arith
 
 -- Above the bit that SDO shows after an edge stand as many bits as were sampled before that edge.
-pub shown_sampled : (cke : Bool) (k : ℕ) → (if cke then k + 1 else k + 1 - 1) / 2 ≡ sampled cke k
-unfolding sampled if◌then◌else◌
+pub shown_sampled : (cke : Bool) (k : ℕ) → (when cke then k + 1 else k + 1 - 1) / 2 ≡ sampled cke k
+unfolding sampled when◌then◌else◌
 shown_sampled true k = refl
 shown_sampled false k = omega arith
 
 -- An edge that samples finds SDO at the bit that the edge before it left there.
-pub shown_kept : (cke : Bool) (k : ℕ) → samples cke (k + 1) ≡ true → (if cke then k else k - 1) / 2 ≡ sampled cke k
-unfolding sampled if◌then◌else◌
+pub shown_kept : (cke : Bool) (k : ℕ) → samples cke (k + 1) ≡ true → (when cke then k else k - 1) / 2 ≡ sampled cke k
+unfolding sampled when◌then◌else◌
 shown_kept true k e =
     let odd : (k + 1) % 2 ≡ 1 = eqb-true ((k + 1) % 2) 1 (sym (like true _ e)) in
     omega arith
@@ -73,7 +74,7 @@ shown_kept false k e =
 
 -- An edge that does not sample takes SDO to the bit below those sampled.
 pub shown_changed : (cke : Bool) (k : ℕ) → samples cke (k + 1) ≡ false → (k + 1) / 2 ≡ sampled cke k
-unfolding sampled if◌then◌else◌
+unfolding sampled when◌then◌else◌
 shown_changed true k e = refl
 shown_changed false k e =
     let is_odd : Bool = eqb ((k + 1) % 2) 1 in

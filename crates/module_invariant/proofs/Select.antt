@@ -4,7 +4,8 @@
 --     seen_levels       a select level that is seen is remembered, and else nothing changes there
 --     stepped_levels    the levels seen leave the clock and the select level that they show
 -- Assumes nothing.
-use Rattle.laws.proofs.Common.{◌+◌, Bool, ◌&&◌, Bool·beq, ◌≡◌, refl, sym, ap, ◌∙◌, ltb, if_keeps, like}
+use Rattle.std.specs.Prelude.{◌+◌, ◌&&◌, ◌≡◌}
+use Rattle.laws.proofs.Common.{Bool, Bool·beq, refl, sym, ap, ◌∙◌, ltb, if_keeps, like}
 use Rattle.module_rules.proofs.Types.{Settings, Engine, Pins, Shift, Free, Loaded, Begun}
 use Rattle.module_rules.specs.Loading.{is_begun, sdo_at, rested}
 use Rattle.module_rules.specs.Select.{select_remembered, aborted, deselected, select_seen}

@@ -2,7 +2,8 @@
 --     enabled_holds, disabled_holds, rewritten_holds   a STAT write that enables, disables or neither
 --     configured_holds                                 a CON1 or CON2 write
 -- Assumes nothing.
-use Rattle.laws.proofs.Common.{ℕ, ◌<◌, true, false, ◌≡◌, refl, sym, ap, ◌∙◌, arith, eq-eqb, clash}
+use Rattle.std.specs.Prelude.{◌<◌, ◌≡◌}
+use Rattle.laws.proofs.Common.{ℕ, true, false, refl, sym, ap, ◌∙◌, arith, eq-eqb, clash}
 use mathlib.Core.Bool.{and-false}
 use Rattle.word_order.specs.Bits.{bit_of}
 use Rattle.module_rules.proofs.Types.{Con1, Con2, Settings, Engine, Transmit, Module, Shift, Free, Loaded, Begun}
@@ -53,7 +54,7 @@ module _ (m : Module) (h : ModuleHolds m) where
       reached_on _ up (stat_settings_hold v (λ on. good))
       (record {
         buffers = record { transmit = b.transmit; receive = b.receive };
-        shift = shift_is _ (enabled_engine v s.con1 n) Free free (λ out. none, λ on own. refl);
+        shift = shift_is (stat_settings v s) (enabled_engine v s.con1 n) Free free (λ out. none, λ on own. refl);
         rest = λ on cke between.
             sym (ap (next_top (stat_settings v s) n.transmit) free ∙ next_top_none _ n.transmit none);
       })

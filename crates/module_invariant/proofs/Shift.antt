@@ -3,7 +3,8 @@
 --     progress_with, shift_same   a begun word, and the shift register, under changes of anything else
 --     shift_is                    the invariant for a shift register that is known
 -- Assumes nothing.
-use Rattle.laws.proofs.Common.{ℕ, ◌≤◌, Bool, true, false, ◌≡◌, refl, sym, subst, ◌∙◌}
+use Rattle.std.specs.Prelude.{◌≤◌, ◌≡◌}
+use Rattle.laws.proofs.Common.{ℕ, Bool, true, false, refl, sym, subst, ◌∙◌}
 use Rattle.module_rules.proofs.Types.{Settings, Engine, Receive, Progress, Shift, Free, Loaded, Begun}
 use Rattle.module_rules.specs.Settings.{ssen_client}
 use Rattle.module_rules.specs.Buffers.{first_waiting}

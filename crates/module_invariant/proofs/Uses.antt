@@ -12,9 +12,10 @@
 --     emptied     disabled_nothing_waits, disabled_nothing_unread, disabled_nothing_loaded
 --     rest        sdo_shows_next_word
 -- Assumes nothing.
-use Rattle.laws.proofs.Common.{ℕ, ◌+◌, ◌-◌, ◌*◌, ◌/◌, ◌%◌, ◌^◌, ◌≤◌, ◌<◌, Bool, true, false, not, ◌&&◌, ◌||◌, Bool·beq}
-use Rattle.laws.proofs.Common.{or-false, ◌≡◌, refl, sym, ap, subst, ◌∙◌, mod-eq_of_lt, zero-div, arith, leb-true, lt-ltb}
-use Rattle.laws.proofs.Common.{le-ltb, eq-eqb, ne_eqb, not-true, not-false, ltb, length, if◌then◌else◌, if_keeps, if_true}
+use Rattle.std.specs.Prelude.{◌+◌, ◌-◌, ◌*◌, ◌/◌, ◌%◌, ◌^◌, ◌≤◌, ◌<◌, ◌&&◌, ◌||◌, ◌≡◌}
+use Rattle.laws.proofs.Common.{ℕ, Bool, true, false, not, Bool·beq}
+use Rattle.laws.proofs.Common.{or-false, refl, sym, ap, subst, ◌∙◌, mod-eq_of_lt, zero-div, arith, leb-true, lt-ltb}
+use Rattle.laws.proofs.Common.{le-ltb, eq-eqb, ne_eqb, not-true, not-false, ltb, length, when◌then◌else◌, if_keeps, if_true}
 use Rattle.laws.proofs.Common.{if_false, clash, and_left, and_both, and_rest, or_left, or_right, by_test}
 use Rattle.ring.proofs.Positions.{write_within}
 use Rattle.word_order.specs.Bits.{bit_of}
@@ -275,13 +276,13 @@ module _ (m : Module) (h : ModuleHolds m) where
     -- the next one at each even edge, with CKE 0 the top bit from edge 1 and the next one at each odd edge.
     pub begun_shows_bit : m.settings.con1.dissdo ≡ false →
         sdo_of m
-        ≡ (if bit_of p.word
-        (width_of m.settings - 1 - (if cke_of m.settings then p.edges else p.edges - 1) / 2)
+        ≡ (when bit_of p.word
+        (width_of m.settings - 1 - (when cke_of m.settings then p.edges else p.edges - 1) / 2)
         then High else Low)
     unfolding sdo_of
     begun_shows_bit driven =
         if_false (undriven m) _ _ (begun_is_shown ∙ driven)
-        ∙ ap (λ (b : Bool). if b then High else Low) progress.shows
+        ∙ ap (λ (b : Bool). when b then High else Low) progress.shows
 
     -- The begun word of an SSEN client still waits, as the first.
     pub begun_word_waits : ssen_client m.settings ≡ true → p.filler ≡ false →
@@ -326,8 +327,8 @@ module _ (m : Module) (h : ModuleHolds m) where
 
   -- With CKE 1 and no word begun a driven SDO shows the top bit of the word to be sent next.
   pub sdo_shows_next_word : cke_of m.settings ≡ true → is_begun m.engine.shift ≡ false → undriven m ≡ false →
-      sdo_of m ≡ (if next_top m.settings m.engine.transmit m.engine.shift then High else Low)
+      sdo_of m ≡ (when next_top m.settings m.engine.transmit m.engine.shift then High else Low)
   unfolding sdo_of undriven
   sdo_shows_next_word cke between driven =
       let on : m.settings.spien ≡ true = not-false m.settings.spien (or_left (not m.settings.spien) _ driven) in
-      if_false (undriven m) _ _ driven ∙ ap (λ (b : Bool). if b then High else Low) (h.rest on cke between)
+      if_false (undriven m) _ _ driven ∙ ap (λ (b : Bool). when b then High else Low) (h.rest on cke between)

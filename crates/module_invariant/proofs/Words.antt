@@ -9,7 +9,8 @@
 --     waiting_words_fit, unread_words_fit   every word in a buffer fits the width
 --     disabled_waiting_none, disabled_unread_none   a disabled module holds no word
 -- Assumes nothing.
-use Rattle.laws.proofs.Common.{ℕ, ◌^◌, ◌≤◌, ◌<◌, Bool, true, false, not, List, [], ◌∷◌, ◌++◌, append_assoc, ◌≡◌, refl, sym}
+use Rattle.std.specs.Prelude.{◌^◌, ◌≤◌, ◌<◌, ◌∷◌, ◌++◌, ◌≡◌}
+use Rattle.laws.proofs.Common.{ℕ, Bool, true, false, not, List, [], append_assoc, refl, sym}
 use Rattle.laws.proofs.Common.{ap, ◌∙◌, arith, leb-false, eqb-false, not-true, get_or, if_keeps, if_false, and_left, and_right}
 use Rattle.ring.proofs.Contents.{contents_keep}
 use Rattle.module_rules.proofs.Types.{Settings, Engine, Transmit, Receive, Module, Outcome, Progress, Shift, Free, Loaded}

@@ -3,8 +3,9 @@
 --     StepOf                     an outcome after which the module and its watcher are as the law asks
 --     call_steps                 every call has such an outcome
 -- Assumes nothing.
-use Rattle.laws.proofs.Common.{ℕ, ◌^◌, ◌≤◌, ◌<◌, Bool, true, false, not, List, [], ◌∷◌, ◌++◌, append_assoc, ◌≡◌, refl, sym}
-use Rattle.laws.proofs.Common.{ap, subst₂, ◌∙◌, arith, leb-false, eqb-false, drop, if◌then◌else◌, clash, and_both, and_first}
+use Rattle.std.specs.Prelude.{◌^◌, ◌≤◌, ◌<◌, ◌∷◌, ◌++◌, ◌≡◌}
+use Rattle.laws.proofs.Common.{ℕ, Bool, true, false, not, List, [], append_assoc, refl, sym}
+use Rattle.laws.proofs.Common.{ap, subst₂, ◌∙◌, arith, leb-false, eqb-false, drop, when◌then◌else◌, clash, and_both, and_first}
 use Rattle.word_order.specs.Bits.{bit_of}
 use Rattle.word_order.specs.Ledger.{accepts, reads}
 use Rattle.word_order.specs.Port.{emptied, played, is_under}
@@ -120,7 +121,7 @@ module _ (m : Module) (x : Memory) (busy : Bool) (k : ℕ) (h : ModuleHolds m) (
   )
 
   refused : (c : Call) (r : Refusal) → StepOf m c x busy k (refuse m r)
-  unfolding refuse if◌then◌else◌ StepOf
+  unfolding refuse when◌then◌else◌ StepOf
   refused (Read register) r = calm m.engine _ refl refl refl _ (λ later. refl)
   refused (Write register v) r = calm m.engine _ refl refl refl _ (λ later. refl)
   refused (Tick sdi ss) r = calm m.engine _ refl refl refl _ (λ later. refl)
@@ -129,7 +130,7 @@ module _ (m : Module) (x : Memory) (busy : Bool) (k : ℕ) (h : ModuleHolds m) (
   refused Clear r = calm m.engine _ refl refl refl _ (λ later. refl)
 
   read-steps : (register : ℕ) → StepOf m (Read register) x busy k (read_of m register)
-  unfolding answering word_taken noted if◌then◌else◌ StepOf
+  unfolding answering word_taken noted when◌then◌else◌ StepOf
   read-steps =
       let s : Settings = m.settings in
       let r : Receive = m.engine.receive in
@@ -147,7 +148,7 @@ module _ (m : Module) (x : Memory) (busy : Bool) (k : ℕ) (h : ModuleHolds m) (
       ))
 
   write-steps : (register v : ℕ) → StepOf m (Write register v) x busy k (write_of m register v)
-  unfolding answering word_written rested sdo_at noted spitbf stat_settings enabled_engine stat_engine if◌then◌else◌ StepOf
+  unfolding answering word_written rested sdo_at noted spitbf stat_settings enabled_engine stat_engine when◌then◌else◌ StepOf
   write-steps register v =
       let s : Settings = m.settings in
       let n : Engine = m.engine in
@@ -212,15 +213,15 @@ module _ (m : Module) (x : Memory) (busy : Bool) (k : ℕ) (h : ModuleHolds m) (
 
   -- The next edge of a host with its own clock, in the levels that the watcher remembers.
   turns : (a : Answer) (sdi ss : Bool) → m.settings.spien ≡ true →
-      Seen a (not m.engine.pins.sck) sdi (told_select m ss) (not x.sck) (if frame_client m.settings then ss else x.ss)
+      Seen a (not m.engine.pins.sck) sdi (told_select m ss) (not x.sck) (when frame_client m.settings then ss else x.ss)
   turns a sdi ss on =
-      let told : Bool = if frame_client m.settings then ss else x.ss in
-      let told' : told_select m ss ≡ told = ap (λ (b : Bool). if frame_client m.settings then ss else b) (sym (was on).ss) in
+      let told : Bool = when frame_client m.settings then ss else x.ss in
+      let told' : told_select m ss ≡ told = ap (λ (b : Bool). when frame_client m.settings then ss else b) (sym (was on).ss) in
       let turn : not m.engine.pins.sck ≡ not x.sck = ap not (sym (was on).sck) in
       subst₂ (λ (c b : Bool). Seen a c sdi b (not x.sck) told) (sym turn) (sym told') (seen a (not x.sck) sdi told on)
 
   steps : (c : Call) → StepOf m c x busy k (perform_of m c)
-  unfolding perform_of clear_of answering if◌then◌else◌ StepOf
+  unfolding perform_of clear_of answering when◌then◌else◌ StepOf
   steps (Read register) = read-steps register
   steps (Write register v) = write-steps register v
   steps (Tick sdi ss) =

@@ -3,10 +3,11 @@
 --     dropped   of an enabled module, after any call
 --     goes_on   no call of an enabled module opens the ledger
 -- Assumes nothing.
-use Rattle.laws.proofs.Common.{not-true, ℕ, ◌+◌, Bool, true, false, not, ◌&&◌, ◌||◌, Bool·beq, List, [], ◌∷◌, ◌++◌, ◌≡◌, refl}
+use Rattle.std.specs.Prelude.{◌+◌, ◌&&◌, ◌||◌, ◌∷◌, ◌++◌, ◌≡◌}
+use Rattle.laws.proofs.Common.{not-true, ℕ, Bool, true, false, not, Bool·beq, List, [], refl}
 use Rattle.laws.proofs.Common.{sym, ap, ◌∙◌, arith, eqb, ltb, leb, length, length-append, if_keeps, clash, and_left}
 use Rattle.laws.proofs.Common.{and_right}
-use Rattle.word_order.specs.Ledger.{Policy, dropsNew, Terms, Op, begins, clocks, Wire, quiet, busy, Passed, Ledger, loses, landed, closed, counted, given, with_wire, begun_on, noted_all, is_quiet, edges_given, accepts, reads, forgets}
+use Rattle.word_order.specs.Ledger.{Policy, drops_new, Terms, Op, begins, clocks, Wire, quiet, busy, Passed, Ledger, loses, landed, closed, counted, given, with_wire, begun_on, noted_all, is_quiet, edges_given, accepts, reads, forgets}
 use Rattle.word_order.specs.Machine.{Entry, entered, is_opening, opens, notes}
 use Rattle.word_order.specs.Port.{loses_at}
 use Rattle.word_order.specs.Bits.{spelled}
@@ -66,7 +67,7 @@ last_same (x ∷ l) a b e = last_same l a b (rest e)
 abbrev Brought : Terms → Ledger → Passed → Ledger → Type 0
 Brought t l a k = k.arrivals ≡ l.arrivals ++ (a ∷ []) → a.marked ≡ loses t l
 
-edge_brings : (t : Terms) (e : Bool) → t.policy ≡ dropsNew e → (l : Ledger) (a : Passed) (sdo sdi : Bool) (wire : Wire) →
+edge_brings : (t : Terms) (e : Bool) → t.policy ≡ drops_new e → (l : Ledger) (a : Passed) (sdo sdi : Bool) (wire : Wire) →
     Brought t l a (given t sdo sdi wire l)
 unfolding given closed
 edge_brings t e policy l a sdo sdi quiet = λ f. no_longer l.arrivals a f
@@ -78,7 +79,7 @@ edge_brings t e policy l a sdo sdi (busy w) =
     (last_same l.arrivals (record { word = spelled 0 (counted t sdo sdi w).seen; marked = loses t l }) a
     (sym (ap (λ (y : Policy). landed y (loses t l) (spelled 0 (counted t sdo sdi w).seen) l) policy) ∙ f))))
 
-module _ (t : Terms) (e : Bool) (policy : t.policy ≡ dropsNew e) (l : Ledger) (a : Passed) where
+module _ (t : Terms) (e : Bool) (policy : t.policy ≡ drops_new e) (l : Ledger) (a : Passed) where
   begun_brings : (sdo sdi : Bool) → Brought t l a (noted_all t (begins ∷ clocks sdo sdi ∷ []) l)
   unfolding loses
   begun_brings sdo sdi =

@@ -6,8 +6,9 @@
 --     level_cases       what holds of each outcome of levels that are seen holds of them
 --     level_steps       select, and then an edge or none
 -- Assumes nothing.
-use Rattle.laws.proofs.Common.{ℕ, ◌+◌, Bool, true, false, not, ◌&&◌, ◌||◌, Bool·beq, or-true, List, [], ◌∷◌, ◌++◌, ◌≡◌, refl}
-use Rattle.laws.proofs.Common.{sym, ap, ap₂, subst, ◌∙◌, arith, if◌then◌else◌, if_keeps, if_true, if_false, clash, by_test}
+use Rattle.std.specs.Prelude.{◌+◌, ◌&&◌, ◌||◌, ◌∷◌, ◌++◌, ◌≡◌}
+use Rattle.laws.proofs.Common.{ℕ, Bool, true, false, not, Bool·beq, or-true, List, [], refl}
+use Rattle.laws.proofs.Common.{sym, ap, ap₂, subst, ◌∙◌, arith, when◌then◌else◌, if_keeps, if_true, if_false, clash, by_test}
 use Rattle.laws.proofs.Common.{and_left, and_right, and_rest, if_both, unlike, and_first}
 use mir.Val.{bool_byte}
 use Rattle.word_order.specs.Ledger.{Op, begins, clocks, forgets}
@@ -53,12 +54,12 @@ module _ (s : Settings) (on : s.spien ≡ true) (n : Engine) (h : EngineHolds s 
   module _ (x : Memory) (shown : Bool) (same : x.pulse ≡ n.pins.pulse)
       (seen : frame_host s ≡ true → shown ≡ (pulsed s sck (advanced_if_begun s sdi (under_way s sck n) (clocked sck n))).pins.pulse)
     where
-      abbrev beginOps : Bool → List Op
-      beginOps may = if may then begins ∷ [] else []
+      abbrev begin_ops : Bool → List Op
+      begin_ops may = when may then begins ∷ [] else []
 
       -- Where nothing can begin it does not matter.
       still : (was : Shift) → ShiftHolds s n was → begun s n was ≡ was → (may awaits : Bool) →
-          played_all (terms s) (beginOps may) (port_at s n was) ≡ port_at s n (if awaits then was else begun s n was)
+          played_all (terms s) (begin_ops may) (port_at s n was) ≡ port_at s n (when awaits then was else begun s n was)
       still was k stays may awaits =
           if_keeps (λ (os : List Op). played_all (terms s) os (port_at s n was) ≡ port_at s n was) may _ _
           (λ e. begun_port s n h.buffers was k ∙ ap (port_at s n) stays)
@@ -66,15 +67,15 @@ module _ (s : Settings) (on : s.spien ≡ true) (n : Engine) (h : EngineHolds s 
           ∙ ap (port_at s n) (sym (if_keeps (λ (sh : Shift). sh ≡ was) awaits _ _ (λ e. refl) (λ e. stays)))
 
       moves : (was : Shift) → ShiftHolds s n was → (may awaits : Bool) → may ≡ not awaits →
-          played_all (terms s) (beginOps may) (port_at s n was) ≡ port_at s n (if awaits then was else begun s n was)
-      unfolding if◌then◌else◌
-      moves was k may true e = ap (λ (b : Bool). played_all (terms s) (beginOps b) (port_at s n was)) e
+          played_all (terms s) (begin_ops may) (port_at s n was) ≡ port_at s n (when awaits then was else begun s n was)
+      unfolding when◌then◌else◌
+      moves was k may true e = ap (λ (b : Bool). played_all (terms s) (begin_ops b) (port_at s n was)) e
       moves was k may false e =
-          ap (λ (b : Bool). played_all (terms s) (beginOps b) (port_at s n was)) e ∙ begun_port s n h.buffers was k
+          ap (λ (b : Bool). played_all (terms s) (begin_ops b) (port_at s n was)) e ∙ begun_port s n h.buffers was k
 
       away-begins : (was : Shift) → n.shift ≡ was → ShiftHolds s n was → Bool·beq sck s.con1.ckp ≡ false →
-          played_all (terms s) (beginOps (started_by s x.pulse shown)) (port_at s n was)
-          ≡ port_at s n (if awaits_pulse s n then was else begun s n was)
+          played_all (terms s) (begin_ops (started_by s x.pulse shown)) (port_at s n was)
+          ≡ port_at s n (when awaits_pulse s n then was else begun s n was)
       unfolding begun
       away-begins Free e k away =
           by_test (silent s)
@@ -84,24 +85,24 @@ module _ (s : Settings) (on : s.spien ≡ true) (n : Engine) (h : EngineHolds s 
           moves (Loaded word) k _ _ (starts_as s sck sdi n x.pulse shown same seen away (Loaded word) e refl (λ f. clash false f refl))
       away-begins (Begun p) e k away = still (Begun p) k refl _ _
 
-      pub begin_port : played_all (terms s) (beginOps (may_begin s x shown sck)) (port_of s n) ≡ port_at s n (under_way s sck n)
+      pub begin_port : played_all (terms s) (begin_ops (may_begin s x shown sck)) (port_of s n) ≡ port_at s n (under_way s sck n)
       unfolding under_way
       begin_port =
           by_test (Bool·beq sck s.con1.ckp)
           (λ i.
-          ap (λ (b : Bool). played_all (terms s) (beginOps (not b && started_by s x.pulse shown)) (port_of s n)) i
+          ap (λ (b : Bool). played_all (terms s) (begin_ops (not b && started_by s x.pulse shown)) (port_of s n)) i
           ∙ ap (λ (os : List Op). played_all (terms s) os (port_of s n)) (if_false false (begins ∷ []) [] refl)
           ∙ ap (port_at s n) (sym (if_true (Bool·beq sck s.con1.ckp) _ _ i)))
           (λ away.
-          ap (λ (b : Bool). played_all (terms s) (beginOps (not b && started_by s x.pulse shown)) (port_of s n)) away
+          ap (λ (b : Bool). played_all (terms s) (begin_ops (not b && started_by s x.pulse shown)) (port_of s n)) away
           ∙ away-begins n.shift refl h.shift away
           ∙ ap (port_at s n) (sym (if_false (Bool·beq sck s.con1.ckp) _ _ away)))
 
-      begin-legal : LegalAll (terms s) (beginOps (may_begin s x shown sck)) (port_of s n)
+      begin-legal : LegalAll (terms s) (begin_ops (may_begin s x shown sck)) (port_of s n)
       begin-legal = if_keeps (λ (os : List Op). LegalAll (terms s) os (port_of s n)) (may_begin s x shown sck) _ _ (λ e. (tt, tt)) (λ e. tt)
 
       abbrev heard : List Op
-      heard = beginOps (may_begin s x shown sck) ++ (clocks n.pins.sdo sdi ∷ [])
+      heard = begin_ops (may_begin s x shown sck) ++ (clocks n.pins.sdo sdi ∷ [])
 
       -- An edge that is heard.
       pub edge_steps : sck ≡ not n.pins.sck → Steps s n heard (edged s sck sdi n)
@@ -114,9 +115,9 @@ module _ (s : Settings) (on : s.spien ≡ true) (n : Engine) (h : EngineHolds s 
                 ap (port_of s) (if_false (deselected s n.pins.ss) _ _ d)
                 ∙ advanced_port s n h.buffers sck sdi way given
                 ∙ ap (played (terms s) (clocks n.pins.sdo sdi)) (sym begin_port)
-                ∙ sym (played_append (terms s) (beginOps (may_begin s x shown sck)) (clocks n.pins.sdo sdi ∷ []) (port_of s n));
+                ∙ sym (played_append (terms s) (begin_ops (may_begin s x shown sck)) (clocks n.pins.sdo sdi ∷ []) (port_of s n));
             legal =
-                legal_append (terms s) (beginOps (may_begin s x shown sck)) (clocks n.pins.sdo sdi ∷ []) (port_of s n) begin-legal
+                legal_append (terms s) (begin_ops (may_begin s x shown sck)) (clocks n.pins.sdo sdi ∷ []) (port_of s n) begin-legal
                 (subst (LegalAll (terms s) (clocks n.pins.sdo sdi ∷ [])) (sym begin_port)
                 (edge_shows s n h.buffers sck sdi way given, tt));
           }
@@ -125,7 +126,7 @@ module _ (s : Settings) (on : s.spien ≡ true) (n : Engine) (h : EngineHolds s 
       pub edge_counts : (f : Op → Port → Bool) → ((p : Port) → f begins p ≡ false) →
           counted_in f (terms s) heard (port_of s n) ≡ bool_byte (f (clocks n.pins.sdo sdi) (port_at s n (under_way s sck n)))
       edge_counts f never =
-          let ops : List Op = beginOps (may_begin s x shown sck) in
+          let ops : List Op = begin_ops (may_begin s x shown sck) in
           let clock : List Op = clocks n.pins.sdo sdi ∷ [] in
           let none : counted_in f (terms s) ops (port_of s n) ≡ 0 =
           if_keeps (λ (os : List Op). counted_in f (terms s) os (port_of s n) ≡ 0) (may_begin s x shown sck) _ _

@@ -2,7 +2,8 @@
 --     Recalls          the watcher's levels are the module's
 --     level_recalls    after levels are seen
 -- Assumes nothing.
-use Rattle.laws.proofs.Common.{Bool, true, false, not, ◌&&◌, ◌||◌, Bool·beq, ◌≡◌, refl, sym, ap, ap₂, ◌∙◌, if◌then◌else◌}
+use Rattle.std.specs.Prelude.{◌&&◌, ◌||◌, ◌≡◌}
+use Rattle.laws.proofs.Common.{Bool, true, false, not, Bool·beq, refl, sym, ap, ap₂, ◌∙◌, when◌then◌else◌}
 use Rattle.laws.proofs.Common.{if_both}
 use Rattle.module_rules.proofs.Types.{Settings, Engine, Module, Answer}
 use Rattle.module_rules.specs.Settings.{framed, frame_host}
@@ -22,11 +23,11 @@ pub record Recalls (m : Module) (x : Memory) : Type 0 where
 -- The pulse after an edge: given, or seen on select.
 noted_law : (f fsd still shown act busy pulse due : Bool) →
     ((f && not fsd) ≡ true →
-    shown ≡ (if f then (if still then (if fsd then act && not busy else pulse) else not fsd && due) else pulse)) →
+    shown ≡ (when f then (when still then (when fsd then act && not busy else pulse) else not fsd && due) else pulse)) →
     (f ≡ false → pulse ≡ false) →
-    (if f && not fsd then shown else still && (((f && fsd) && act) && not busy))
-    ≡ (if f then (if still then (if fsd then act && not busy else pulse) else not fsd && due) else pulse)
-unfolding if◌then◌else◌
+    (when f && not fsd then shown else still && (((f && fsd) && act) && not busy))
+    ≡ (when f then (when still then (when fsd then act && not busy else pulse) else not fsd && due) else pulse)
+unfolding when◌then◌else◌
 noted_law true true true shown act busy pulse due h k = refl
 noted_law true true false shown act busy pulse due h k = refl
 noted_law true false still shown act busy pulse due h k = h refl
@@ -45,7 +46,7 @@ module _ (s : Settings) (shown later sck : Bool) where
 
   edged-pulse : (sdi : Bool) (n : Engine) → later ≡ is_begun (edged s sck sdi n).shift →
       (frame_host s ≡ true → shown ≡ (edged s sck sdi n).pins.pulse) → (framed s ≡ false → n.pins.pulse ≡ false) →
-      (if deselected s n.pins.ss then n.pins.pulse else stands s shown sck n.pins.ss (not later))
+      (when deselected s n.pins.ss then n.pins.pulse else stands s shown sck n.pins.ss (not later))
       ≡ (edged s sck sdi n).pins.pulse
   unfolding edged clocked pulsed
   edged-pulse sdi n is seen plain =
@@ -60,8 +61,8 @@ module _ (s : Settings) (shown later sck : Bool) where
       is seen
 
 -- Select high for an SSEN client, or no edge.
-if_or : {A : Type 0} (a b : Bool) (x y : A) → (if a || b then x else y) ≡ (if b then x else if a then x else y)
-unfolding if◌then◌else◌
+if_or : {A : Type 0} (a b : Bool) (x y : A) → (when a || b then x else y) ≡ (when b then x else when a then x else y)
+unfolding when◌then◌else◌
 if_or true true x y = refl
 if_or true false x y = refl
 if_or false true x y = refl
@@ -86,7 +87,7 @@ level_recalls s a x shown later sck sdi ss n r is seen plain =
           (Bool·beq sck x.sck) (Bool·beq sck n.pins.sck) _ _ _ _ (ap (Bool·beq sck) (sym r.sck))
           (λ e is seen. r.pulse ∙ sym kept)
           (λ e is seen.
-          ap₂ (λ (b c : Bool). if deselected s b then c else stands s shown sck b (not later)) (sym (seen_select s ss n))
+          ap₂ (λ (b c : Bool). when deselected s b then c else stands s shown sck b (not later)) (sym (seen_select s ss n))
           (r.pulse ∙ sym kept)
           ∙ edged-pulse s shown later sck sdi y is seen (λ f. kept ∙ plain f))
           is seen;

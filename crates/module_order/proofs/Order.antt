@@ -5,7 +5,8 @@
 --     lives_on      after one call more
 --     in_order_lem      its word order
 -- Assumes nothing.
-use Rattle.laws.proofs.Common.{List, true, false, refl, ◌≡◌, clash}
+use Rattle.std.specs.Prelude.{◌≡◌}
+use Rattle.laws.proofs.Common.{List, true, false, refl, clash}
 use Rattle.word_order.specs.Machine.{Machine, InOrder}
 use Rattle.word_order.proofs.Order.{TiedAll, calls_tied, call_tied}
 use Rattle.word_order.proofs.Resumed.{tied_resumed}
@@ -13,7 +14,7 @@ use Rattle.module_rules.proofs.Types.{Call, Depth}
 use Rattle.module_rules.specs.Invariant.{Reached}
 use Rattle.module_rules.specs.Watch.{ours, Watched, watched_call, terms, port_in}
 use Rattle.module_rules.specs.Calls.{powered_at}
-use Rattle.module_rules.specs.Lives.{Beginning, life, begins, midLife, powerUp}
+use Rattle.module_rules.specs.Lives.{Beginning, life, begins, mid_life, power_up}
 use Rattle.module_invariant.proofs.Pulse.{call_reaches, unframed_pulse, powered_up_reached}
 use Rattle.module_order.proofs.Ports.{whole_terms}
 use Rattle.module_order.proofs.Levels.{Recalls}
@@ -42,9 +43,9 @@ power_up_off depth = refl
 
 -- At each beginning.
 begins_lives : (b : Beginning) → Lives (begins b)
-begins_lives (powerUp depth) =
+begins_lives (power_up depth) =
     record { holds = powered_up_reached depth; tied = λ on. clash (powered_at depth).settings.spien on (power_up_off depth) }
-begins_lives (midLife m holds enabled) =
+begins_lives (mid_life m holds enabled) =
     record {
       holds = holds;
       tied = λ on.

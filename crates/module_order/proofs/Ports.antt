@@ -6,9 +6,10 @@
 --     begun_port          beginning a word is the law's operation
 --     advanced_port       and so is an edge of what is under way
 -- Assumes nothing.
-use Rattle.laws.proofs.Common.{ℕ, zero, suc, ◌+◌, ◌*◌, ◌-◌, ◌^◌, ◌≤◌, ◌<◌, Bool, true, false, not, ◌&&◌, ◌||◌, List, [], ◌∷◌}
-use Rattle.laws.proofs.Common.{◌++◌, append-nil, ◌≡◌, refl, sym, ap, ap₂, ◌∙◌, arith, eqb-true, eqb-false, not-true}
-use Rattle.laws.proofs.Common.{not-false, ltb, leb, drop, if◌then◌else◌, if_keeps, if_both, if_true, if_false, clash, by_test}
+use Rattle.std.specs.Prelude.{◌+◌, ◌*◌, ◌-◌, ◌^◌, ◌≤◌, ◌<◌, ◌&&◌, ◌||◌, ◌∷◌, ◌++◌, ◌≡◌}
+use Rattle.laws.proofs.Common.{ℕ, zero, suc, Bool, true, false, not, List, []}
+use Rattle.laws.proofs.Common.{append-nil, refl, sym, ap, ap₂, ◌∙◌, arith, eqb-true, eqb-false, not-true}
+use Rattle.laws.proofs.Common.{not-false, ltb, leb, drop, when◌then◌else◌, if_keeps, if_both, if_true, if_false, clash, by_test}
 use Rattle.laws.proofs.Common.{and_left, and_right, and_rest}
 use mathlib.Core.Bool.{and_comm}
 use native.Mathlib.Numerals.{add-one}
@@ -78,10 +79,10 @@ whole_terms s =
 
 -- A silent module is no SSEN client.
 pub silent_not_client : (s : Settings) → silent s ≡ true → ssen_client s ≡ false
-unfolding if◌then◌else◌
+unfolding when◌then◌else◌
 silent_not_client s = go (framed s) s.con2.spifsd s.con1.msten s.con1.ssen
   where
-    go : (f fsd msten ssen : Bool) → (if f then not fsd else msten) ≡ true → (not msten && (not f && ssen)) ≡ false
+    go : (f fsd msten ssen : Bool) → (when f then not fsd else msten) ≡ true → (not msten && (not f && ssen)) ≡ false
     go true fsd true ssen e = refl
     go true fsd false ssen e = refl
     go false fsd true ssen e = refl
@@ -136,15 +137,15 @@ shifted_whole k received sdi most h =
     omega arith
 
 -- What is owed once the first word is gone, and what is unread once a word has come in.
-owed_rest : (filler : Bool) (word : ℕ) (rest owed : List ℕ) → owed ≡ (if filler then [] else word ∷ []) ++ rest →
-    rest ≡ (if filler then owed else drop 1 owed)
-unfolding if◌then◌else◌
+owed_rest : (filler : Bool) (word : ℕ) (rest owed : List ℕ) → owed ≡ (when filler then [] else word ∷ []) ++ rest →
+    rest ≡ (when filler then owed else drop 1 owed)
+unfolding when◌then◌else◌
 owed_rest true word rest owed e = sym e
 owed_rest false word rest owed e = ap (drop 1) (sym e)
 
 landed_as : (lost : Bool) (word : ℕ) (unread : List ℕ) →
-    unread ++ (if lost then [] else word ∷ []) ≡ (if lost then unread else unread ++ (word ∷ []))
-unfolding if◌then◌else◌
+    unread ++ (when lost then [] else word ∷ []) ≡ (when lost then unread else unread ++ (word ∷ []))
+unfolding when◌then◌else◌
 landed_as true word unread = append-nil unread
 landed_as false word unread = refl
 
@@ -193,7 +194,7 @@ module _ (s : Settings) (n : Engine) (p : Progress) (h : EdgeHolds s n p) (b : B
       (ap (unread (depth_of s)) spared.receive
       ∙ delivered_unread s n received b
       ∙ landed_as (is_lost s n) received (unread (depth_of s) n.receive)
-      ∙ ap₂ (λ (x : Bool) (v : ℕ). if x then unread (depth_of s) n.receive else unread (depth_of s) n.receive ++ (v ∷ []))
+      ∙ ap₂ (λ (x : Bool) (v : ℕ). when x then unread (depth_of s) n.receive else unread (depth_of s) n.receive ++ (v ∷ []))
       (sym lost) received_same)
       (ap (λ (r : Receive). r.marked) spared.receive
       ∙ delivered_marked s n received

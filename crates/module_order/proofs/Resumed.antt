@@ -1,8 +1,9 @@
 -- A module in the middle of its life can be watched from there: its words fit the law's terms.
 --     port_fits   of every module that has the invariant
 -- Assumes nothing.
-use Rattle.laws.proofs.Common.{ℕ, suc, ◌^◌, ◌<◌, Bool, true, false, ◌||◌, List, [], ◌∷◌, ◌++◌, ◌≡◌, sym, ap, ap₂, subst, ◌∙◌}
-use Rattle.laws.proofs.Common.{drop, get_or, if◌then◌else◌, by_test}
+use Rattle.std.specs.Prelude.{◌^◌, ◌<◌, ◌||◌, ◌∷◌, ◌++◌, ◌≡◌}
+use Rattle.laws.proofs.Common.{ℕ, suc, Bool, true, false, List, [], sym, ap, ap₂, subst, ◌∙◌}
+use Rattle.laws.proofs.Common.{drop, get_or, when◌then◌else◌, by_test}
 use Rattle.ring.proofs.Contents.{contents_keep}
 use Rattle.word_order.proofs.Tied.{AllBelow}
 use Rattle.word_order.proofs.Resumed.{FitsWay, Fits}
@@ -23,8 +24,8 @@ all_below_lem : (k : ℕ) (words : List ℕ) → ((i : ℕ) → get_or words i 0
 all_below_lem k [] h = tt
 all_below_lem k (word ∷ words) h = (h 0, all_below_lem k words (λ i. h (suc i)))
 
-below_first : (k word : ℕ) (b : Bool) (words : List ℕ) → word < k → AllBelow k words → AllBelow k ((if b then [] else word ∷ []) ++ words)
-unfolding if◌then◌else◌
+below_first : (k word : ℕ) (b : Bool) (words : List ℕ) → word < k → AllBelow k words → AllBelow k ((when b then [] else word ∷ []) ++ words)
+unfolding when◌then◌else◌
 below_first k word true words h all = all
 below_first k word false words h all = (h, all)
 
@@ -47,7 +48,7 @@ module _ (s : Settings) (n : Engine) (t : TransmitHolds s n.transmit) where
   -- The begun word, unless it is a filler, is the first of those owed.
   begun_first : (p : Progress) → ProgressHolds s n p → p.filler ≡ false →
       unfinished s (Begun p) ++ words ≡ p.word ∷ drop 1 (unfinished s (Begun p) ++ words)
-  unfolding if◌then◌else◌
+  unfolding when◌then◌else◌
   begun_first p k f =
       by_test (ssen_client s)
       (λ client.

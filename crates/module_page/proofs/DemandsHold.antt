@@ -4,7 +4,6 @@
 use mathlib.Core.Path.{sym, ◌∙◌}
 use Rattle.module_rules.specs.Lives.{life}
 use Rattle.module_rules.specs.Demands.{OneModule}
-use Rattle.module_rules.specs.Examples.{paper_examples}
 use Rattle.module_rules.proofs.ExamplesHold.{examples_hold, further_examples_hold, frame_examples_hold, mark_examples_hold, step_examples_hold, depth_examples_hold, figures_hold}
 use Rattle.module_rules.proofs.ClockSteps.{clock_steps_lem}
 use Rattle.module_invariant.proofs.PowersUp.{powers_up_lem}

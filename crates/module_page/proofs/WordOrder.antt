@@ -1,7 +1,8 @@
 -- Word order as the page has it: the law's, with the mark and what it stops.
 --     word_order_lem   of an enabled module, after any calls
 -- Assumes nothing.
-use Rattle.laws.proofs.Common.{true, not, ◌≡◌, ap, ◌∙◌, if◌then◌else◌, if_true, if_false}
+use Rattle.std.specs.Prelude.{◌≡◌}
+use Rattle.laws.proofs.Common.{true, not, ap, ◌∙◌, when◌then◌else◌, if_true, if_false}
 use Rattle.module_rules.proofs.Types.{Module, Outcome, Overflowed, Read}
 use Rattle.module_rules.specs.Refusals.{number_of, said_of}
 use Rattle.module_rules.specs.Calls.{refuse, read_buf, read_of, perform_of}
@@ -13,7 +14,7 @@ use Rattle.module_order.proofs.Dropped.{dropped}
 -- A BUF read of a marked buffer is refused.
 stale_read : (m : Module) → m.settings.spien ≡ true → m.engine.receive.marked ≡ true →
     perform_of m (Read 3) ≡ refuse m Overflowed
-unfolding perform_of read_of read_buf if◌then◌else◌
+unfolding perform_of read_of read_buf when◌then◌else◌
 stale_read m on marked =
     if_false (not m.settings.spien) _ _ (ap not on) ∙ if_true m.engine.receive.marked _ _ marked
 

@@ -7,8 +7,9 @@
 --     first_word, first_word_lem the same, value by value
 --     start_begins          a host with its own clock and a word to send is such a module, whatever the select level
 -- Assumes nothing.
-use Rattle.laws.proofs.Common.{ℕ, ◌+◌, ◌*◌, ◌-◌, ◌/◌, ◌%◌, ◌^◌, ◌<◌, Bool, true, false, not, ◌&&◌, ◌||◌, Bool·beq, ◌≡◌, refl}
-use Rattle.laws.proofs.Common.{ap, ap₂, ◌∙◌, mod-lt, arith, not-true, lt-ltb, eqb, ltb, if◌then◌else◌, if_keeps, if_true}
+use Rattle.std.specs.Prelude.{◌+◌, ◌*◌, ◌-◌, ◌/◌, ◌%◌, ◌^◌, ◌<◌, ◌&&◌, ◌||◌, ◌≡◌}
+use Rattle.laws.proofs.Common.{ℕ, Bool, true, false, not, Bool·beq, refl}
+use Rattle.laws.proofs.Common.{ap, ap₂, ◌∙◌, mod-lt, arith, not-true, lt-ltb, eqb, ltb, when◌then◌else◌, if_keeps, if_true}
 use Rattle.laws.proofs.Common.{if_false, clash, and_left, and_right, and-false, and_both}
 use mir.Val.{bool_byte}
 use lib.Pow.{pow_mono}
@@ -50,10 +51,10 @@ all_left s k none = ap (bits_left s) none ∙ left_is s 0 ∙ ap (λ (x : ℕ). 
 
 -- The levels of SDO.
 from_first : (cke sdo : Bool) (w word : ℕ) →
-    (if Bool·beq cke (eqb ((0 + 1) % 2) 1) then 0 * 2 + bool_byte sdo else 0) * 2 ^ (w - (if cke then (0 + 1 + 1) / 2 else (0 + 1) / 2))
-    + word % 2 ^ (w - (if cke then (0 + 1 + 1) / 2 else (0 + 1) / 2))
-    ≡ (if cke then word % 2 ^ (w - 1) + bool_byte sdo * 2 ^ (w - 1) else word % 2 ^ w)
-unfolding if◌then◌else◌
+    (when Bool·beq cke (eqb ((0 + 1) % 2) 1) then 0 * 2 + bool_byte sdo else 0) * 2 ^ (w - (when cke then (0 + 1 + 1) / 2 else (0 + 1) / 2))
+    + word % 2 ^ (w - (when cke then (0 + 1 + 1) / 2 else (0 + 1) / 2))
+    ≡ (when cke then word % 2 ^ (w - 1) + bool_byte sdo * 2 ^ (w - 1) else word % 2 ^ w)
+unfolding when◌then◌else◌
 from_first true true w word = omega arith
 from_first true false w word = omega arith
 from_first false sdo w word =
@@ -92,7 +93,7 @@ pub record Begins (s : Settings) (n : Engine) (ss : Bool) : Type 0 where
   pub plain : framed s ≡ false
   pub loud : (silent s && is_free n.shift) ≡ false
   pub chosen : deselected s ss ≡ false
-  pub heard : (if own_clock s then n.pins.ss else ss) ≡ n.pins.ss
+  pub heard : (when own_clock s then n.pins.ss else ss) ≡ n.pins.ss
   pub rests : between (at s n) ≡ true
 
 -- Its word call.

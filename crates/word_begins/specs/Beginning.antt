@@ -2,7 +2,7 @@
 use Rattle.std.specs.Prelude.{ℕ, ◌+◌, ◌*◌, ◌-◌, ◌%◌, ◌^◌, Bool, not, ◌&&◌}
 use Rattle.std.specs.Bool.{beq}
 use mir.Val.{bool_byte}
-use Rattle.laws.specs.Choice.{if◌then◌else◌}
+use Rattle.laws.specs.Choice.{when◌then◌else◌}
 use Rattle.module_types.specs.declared.Settings.{Settings}
 use Rattle.module_types.specs.declared.Module.{Module}
 use Rattle.module_rules.specs.Settings.{width_of, cke_of, unframed_host}
@@ -20,4 +20,4 @@ at_start m = (m.settings.spien && unframed_host m.settings) && (not (is_free m.e
 -- The levels of SDO where the edges of a word sample, from its beginning: its bits, but that with CKE 1 the first level stands before the first edge.
 unfoldable pub levels_first : Settings → ℕ → Bool → ℕ
 levels_first s word sdo =
-    if cke_of s then word % 2 ^ (width_of s - 1) + bool_byte sdo * 2 ^ (width_of s - 1) else low_bits s word
+    when cke_of s then word % 2 ^ (width_of s - 1) + bool_byte sdo * 2 ^ (width_of s - 1) else low_bits s word

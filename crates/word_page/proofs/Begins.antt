@@ -1,10 +1,11 @@
 -- What the ledger enters of a word call that begins its word (demand 3): one word goes out and one comes in, at the last edge, and none
 -- is begun behind it; an edge to the idle level before it enters nothing.
---     word_begins_entered   what goes out is what the call tells, and what comes in is the bits that it brought
+--     word_begins_whole, word_begins_entered   what goes out is what the call tells, and what comes in is the bits that it brought
 -- Assumes nothing.
-use Rattle.laws.proofs.Common.{ℕ, suc, ◌+◌, ◌*◌, ◌-◌, ◌%◌, ◌^◌, ◌<◌, Bool, true, false, not, ◌&&◌, ◌||◌, Bool·beq, List, []}
-use Rattle.laws.proofs.Common.{◌∷◌, ◌++◌, ◌≡◌, refl, sym, ap, ap₂, subst, subst₂, ◌∙◌, arith, not-true, not-false, ltb, lit<}
-use Rattle.laws.proofs.Common.{if◌then◌else◌, if_keeps, if_both, if_true, if_false, by_test, clash, and_both, and_right}
+use Rattle.std.specs.Prelude.{◌+◌, ◌*◌, ◌-◌, ◌%◌, ◌^◌, ◌<◌, ◌&&◌, ◌||◌, ◌∷◌, ◌++◌, ◌≡◌}
+use Rattle.laws.proofs.Common.{ℕ, suc, Bool, true, false, not, Bool·beq, List, []}
+use Rattle.laws.proofs.Common.{refl, sym, ap, ap₂, subst, subst₂, ◌∙◌, arith, not-true, not-false, ltb, lit<}
+use Rattle.laws.proofs.Common.{when◌then◌else◌, if_keeps, if_both, if_true, if_false, by_test, clash, and_both, and_right}
 use Rattle.laws.proofs.Common.{and_rest, and_first, like}
 use Rattle.word_order.specs.Ledger.{Terms, begins, clocks, OnWire, Wire, quiet, busy, is_quiet, fresh, Ledger, with_wire, counted, given, noted_all, loses, left_to_send, first_on_wire}
 use Rattle.word_order.specs.Port.{is_under}
@@ -25,6 +26,7 @@ use Rattle.word_rules.specs.Word.{in_progress, current, has_word, idle_first, sd
 use Rattle.word_rules.specs.declared.Worded.{Worded}
 use Rattle.word_rules.proofs.WordHolds.{begun_pins, own_silent, remembered_once, other_level, Started, started, idle_edge, same_word}
 use Rattle.word_rules.proofs.Closed.{behind, remembered}
+use Rattle.module_rules.proofs.LivesReach.{watched_reaches}
 use Rattle.word_page.proofs.Entered.{Entered}
 use Rattle.word_rules.proofs.WordMade.{at, step_edge}
 use Rattle.module_order.proofs.Order.{Lives, lives_on}
@@ -60,8 +62,8 @@ begins_so t sdo sdi l =
     (λ e. if_keeps so t.silent _ _ (λ _. stays_quiet t sdo sdi l) (λ _. with-one true (sym (ap not e))))
 
 quiet_noted : (t : Terms) (b sdo sdi : Bool) (l : Ledger) → l.wire ≡ quiet → b ≡ true →
-    noted_all t ((if b then begins ∷ [] else []) ++ (clocks sdo sdi ∷ [])) l ≡ given t sdo sdi (first_on_wire t l) (with_wire (first_on_wire t l) l)
-unfolding if◌then◌else◌
+    noted_all t ((when b then begins ∷ [] else []) ++ (clocks sdo sdi ∷ [])) l ≡ given t sdo sdi (first_on_wire t l) (with_wire (first_on_wire t l) l)
+unfolding when◌then◌else◌
 quiet_noted t true sdo sdi l e is = rw e refl
 quiet_noted t false sdo sdi l e is = clash false is refl
 
@@ -193,7 +195,7 @@ module _ (s : Settings) (on : s.spien ≡ true) (plain : framed s ≡ false) (ss
   unfolding remembered
   there =
       ap (λ (m : Module). (perform_of m c).after) here
-      ∙ edge_short s on plain ss chosen word (word_edges s - 2) n (if own_clock s then n.pins.ss else ss) p (advances sdi) two_edges
+      ∙ edge_short s on plain ss chosen word (word_edges s - 2) n (when own_clock s then n.pins.ss else ss) p (advances sdi) two_edges
 
   under-way : not (is_quiet y.ledger.wire) ≡ true
   unfolding shifted
@@ -211,7 +213,7 @@ module _ (s : Settings) (on : s.spien ≡ true) (plain : framed s ≡ false) (ss
       (taken_by s 0 (suc (word_edges s - 1)) word 0)
   unfolding remembered
   closed-so =
-      closes s on plain ss chosen word (word_edges s - 1) x n (if own_clock s then n.pins.ss else ss) p (fresh begins-it.filler) here h begins-it.to_it refl
+      closes s on plain ss chosen word (word_edges s - 1) x n (when own_clock s then n.pins.ss else ss) p (fresh begins-it.filler) here h begins-it.to_it refl
       (advances sdi)
       (remembered_once (own_clock s) n.pins.ss ss)
       all_edges
@@ -247,8 +249,8 @@ module _ (s : Settings) (on : s.spien ≡ true) (plain : framed s ≡ false) (ss
 
 -- An edge to the idle level with nothing begun: the module's clock moves, and the ledger enters nothing.
 idle_noted : (t : Terms) (b sdo sdi : Bool) (l : Ledger) → l.wire ≡ quiet → b ≡ false →
-    noted_all t ((if b then begins ∷ [] else []) ++ (clocks sdo sdi ∷ [])) l ≡ l
-unfolding if◌then◌else◌ given
+    noted_all t ((when b then begins ∷ [] else []) ++ (clocks sdo sdi ∷ [])) l ≡ l
+unfolding when◌then◌else◌ given
 idle_noted t true sdo sdi l e is = clash true refl is
 idle_noted t false sdo sdi l e is = ap (λ (q : Wire). given t sdo sdi q l) e
 
@@ -309,14 +311,14 @@ module _ (x : Watched) (ss : Bool) (word : ℕ) (h : Lives x) (has : has_word x.
   whole = if_true (has_word x.now ss) _ _ has
 
   -- The edges of the word but the last, from a module that has SCK at the idle level.
-  abbrev pub almostFrom : Module → List Call
-  almostFrom m = edges_from s ss m.engine.pins.sck 0 (word_edges s - 1) word
+  abbrev pub almost_from : Module → List Call
+  almost_from m = edges_from s ss m.engine.pins.sck 0 (word_edges s - 1) word
 
   -- What the ledger enters of the steps, by the module that they find.
   abbrev Enters : Watched → Module → ℕ → Type 0
   Enters z m k =
       (edges_of m ss word ≡ edges_from s ss m.engine.pins.sck 0 (suc (word_edges s - 1)) word)
-      × Whole (terms s) x.ledger (watched_calls z (almostFrom m)).ledger (watched_calls z (edges_of m ss word)).ledger
+      × Whole (terms s) x.ledger (watched_calls z (almost_from m)).ledger (watched_calls z (edges_of m ss word)).ledger
       (levels_of m ss word) (behind s word k 0)
 
   abbrev EntersAfter : List Call → Type 0
@@ -356,14 +358,31 @@ module _ (x : Watched) (ss : Bool) (word : ℕ) (h : Lives x) (has : has_word x.
   edges_now = enters-all.0
 
   -- What goes out is what the call tells, and what comes in is what it brought.
-  pub word_begins_entered :
+  pub word_begins_whole :
       let first = idled x.now ss word in let there = after_calls x.now first in
-      Whole (terms s) x.ledger (watched_calls (watched_calls x first) (almostFrom there)).ledger
+      Whole (terms s) x.ledger (watched_calls (watched_calls x first) (almost_from there)).ledger
       (watched_calls (watched_calls x first) (edges_of there ss word)).ledger (word_of x.now ss word).levels
       (word % 2 ^ (word_of x.now ss word).count)
   unfolding whole_word behind
-  word_begins_entered =
+  word_begins_whole =
       let only : (k : ℕ) → 0 * 2 ^ k + word % 2 ^ k ≡ word % 2 ^ k = λ k. omega arith in
       subst₂ (Whole (terms s) x.ledger _ _) (sym (ap (λ (r : Worded). r.levels) whole))
       (only _ ∙ ap (λ (r : Worded). word % 2 ^ r.count) (sym whole))
       enters-all.1
+
+  -- The same, by the ledger's entries.
+  abbrev pub ready : Watched
+  ready = watched_calls x (idled x.now ss word)
+
+  pub word_begins_entered : Entered x.ledger (watched_calls ready (almost_from (after_calls x.now (idled x.now ss word)))).ledger
+      (watched_calls ready (edges_of ready.now ss word)).ledger
+      (record { word = (word_of x.now ss word).levels; marked = not (left_to_send x.ledger) })
+      (record { word = word % 2 ^ (word_of x.now ss word).count; marked = loses (terms s) x.ledger })
+  word_begins_entered =
+      subst
+      (λ (m : Module). Entered x.ledger (watched_calls ready (almost_from (after_calls x.now (idled x.now ss word)))).ledger
+      (watched_calls ready (edges_of m ss word)).ledger
+      (record { word = (word_of x.now ss word).levels; marked = not (left_to_send x.ledger) })
+      (record { word = word % 2 ^ (word_of x.now ss word).count; marked = loses (terms s) x.ledger }))
+      (sym (watched_reaches (idled x.now ss word) x))
+      word_begins_whole

@@ -1,10 +1,11 @@
 -- The edges that a host is looked up to owe are those that it owes by its history, after which it falls idle (demand 3).
 --     edges_owed_lem   of every module that calls reach
 -- Assumes nothing.
-use Rattle.laws.proofs.Common.{ℕ, ◌+◌, ◌*◌, ◌-◌, Bool, true, false, not, ◌&&◌, ◌||◌, ◌≡◌, refl, sym, ap, ◌∙◌, length}
-use Rattle.laws.proofs.Common.{if◌then◌else◌, if_true, if_false, by_test, and_both, and_left}
+use Rattle.std.specs.Prelude.{◌&&◌, ◌≡◌}
+use Rattle.laws.proofs.Common.{Bool, true, false, not, refl, ap, ◌∙◌, length}
+use Rattle.laws.proofs.Common.{when◌then◌else◌, if_true, by_test, and_both, and_left}
 use Rattle.module_rules.proofs.Types.{Settings, Shift, Free, Loaded, Begun}
-use Rattle.module_rules.specs.Settings.{width_of, own_clock, unframed_host}
+use Rattle.module_rules.specs.Settings.{own_clock, unframed_host}
 use Rattle.module_rules.specs.InBits.{heeds_select}
 use Rattle.module_rules.specs.Words.{unfinished}
 use Rattle.module_rules.specs.Watch.{Watched}
@@ -22,7 +23,7 @@ host_heeds_none s host =
 
 -- The word in its shift register, and the edges given to it.
 same_words : (s : Settings) (x : Shift) → heeds_select s ≡ false → length (unfinished s x) ≡ words_in x
-unfolding if◌then◌else◌
+unfolding when◌then◌else◌
 same_words s Free none = refl
 same_words s (Loaded word) none = refl
 same_words s (Begun p) none =

@@ -4,13 +4,14 @@
 --     word_entered   a word call on a module with a word under way is those edges; what goes out ends in the levels that it tells, and
 --                    what comes in ends in the bits that it brought
 -- Assumes nothing.
-use Rattle.laws.proofs.Common.{ℕ, zero, suc, ◌+◌, ◌*◌, ◌-◌, ◌%◌, ◌^◌, ◌<◌, Bool, true, false, not, ◌&&◌, ◌||◌, Bool·beq, List}
-use Rattle.laws.proofs.Common.{[], ◌∷◌, ◌++◌, ◌≡◌, refl, sym, ap, ap₂, subst, subst₂, ◌∙◌, pow-succ', arith, lt-ltb, le-ltb}
-use Rattle.laws.proofs.Common.{ltb, if◌then◌else◌, so_lt, if_keeps, if_true, if_false, if_ap, by_test, and_left, and_both}
+use Rattle.std.specs.Prelude.{◌+◌, ◌*◌, ◌-◌, ◌%◌, ◌^◌, ◌<◌, ◌&&◌, ◌||◌, ◌∷◌, ◌++◌, ◌≡◌}
+use Rattle.laws.proofs.Common.{ℕ, zero, suc, Bool, true, false, not, Bool·beq, List}
+use Rattle.laws.proofs.Common.{[], refl, sym, ap, ap₂, subst, subst₂, ◌∙◌, pow-succ', arith, lt-ltb, le-ltb}
+use Rattle.laws.proofs.Common.{ltb, when◌then◌else◌, so_lt, if_keeps, if_true, if_false, if_ap, by_test, and_left, and_both}
 use Rattle.laws.proofs.Common.{and_first, and-false}
 use mir.Val.{bool_byte}
 use Rattle.word_order.specs.Bits.{spelled}
-use Rattle.word_order.specs.Ledger.{Terms, Policy, dropsNew, replacesOld, Passed, with_passed, landed, Op, begins, clocks, OnWire, Wire, quiet, busy, Ledger, with_wire, counted, closed, given, noted_all, loses}
+use Rattle.word_order.specs.Ledger.{Terms, Policy, drops_new, replaces_old, Passed, with_passed, landed, Op, begins, clocks, OnWire, Wire, quiet, busy, Ledger, with_wire, counted, closed, given, noted_all, loses}
 use Rattle.word_order.specs.Machine.{Entry, entered}
 use Rattle.word_order.proofs.WordBits.{spelled_last}
 use Rattle.word_order.proofs.Tied.{SameWord, Carries}
@@ -42,8 +43,8 @@ use Rattle.module_order.proofs.Order.{Lives, lives_on}
 
 -- With a word on the wire nothing else begins.
 under_noted : (t : Terms) (b sdo sdi : Bool) (w : OnWire) (l : Ledger) → l.wire ≡ busy w →
-    noted_all t ((if b then begins ∷ [] else []) ++ (clocks sdo sdi ∷ [])) l ≡ given t sdo sdi (busy w) l
-unfolding if◌then◌else◌ given closed loses
+    noted_all t ((when b then begins ∷ [] else []) ++ (clocks sdo sdi ∷ [])) l ≡ given t sdo sdi (busy w) l
+unfolding when◌then◌else◌ given closed loses
 under_noted t true sdo sdi w l e = rw e refl
 under_noted t false sdo sdi w l e = ap (λ (q : Wire). given t sdo sdi q l) e
 
@@ -60,8 +61,8 @@ edge_last t sdo sdi w l e = if_false (ltb (w.edges + 1) t.last) _ _ (le-ltb (w.e
 
 -- What is on the wire when it closes does not count for what is entered.
 landed_over : (o : Policy) (lost : Bool) (word : ℕ) (q : Wire) (l : Ledger) → landed o lost word (with_wire q l) ≡ landed o lost word l
-landed_over (dropsNew e) lost word q l = refl
-landed_over replacesOld lost word q l = refl
+landed_over (drops_new e) lost word q l = refl
+landed_over replaces_old lost word q l = refl
 
 pub closed_over : (t : Terms) (u : OnWire) (q : Wire) (l : Ledger) → closed t u (with_wire q l) ≡ closed t u l
 unfolding closed loses
@@ -71,8 +72,8 @@ closed_over t u q l =
 
 -- The number that the levels so far spell grows as a word call's does.
 spelled_on : (b : Bool) (bits : List Bool) (level : Bool) →
-    spelled 0 (if b then bits ++ (level ∷ []) else bits) ≡ (if b then spelled 0 bits * 2 + bool_byte level else spelled 0 bits)
-unfolding if◌then◌else◌
+    spelled 0 (when b then bits ++ (level ∷ []) else bits) ≡ (when b then spelled 0 bits * 2 + bool_byte level else spelled 0 bits)
+unfolding when◌then◌else◌
 spelled_on true bits level = spelled_last bits 0 level
 spelled_on false bits level = refl
 
@@ -111,7 +112,7 @@ module _ (s : Settings) (on : s.spien ≡ true) (plain : framed s ≡ false) (ss
       (λ pin. ap (λ (o : Outcome). is_done o.answer) (step_pin (at s n) (not n.pins.sck) sdi ss on pin))
 
   -- Its select does not deafen it.
-  hears : (level : Bool) → deaf s (if own_clock s then level else ss) ≡ false
+  hears : (level : Bool) → deaf s (when own_clock s then level else ss) ≡ false
   hears level =
       by_test (own_clock s)
       (λ own. and_first _ _ (and_first _ _ (ap not (and_left s.con1.msten _ own))))
@@ -200,7 +201,7 @@ module _ (s : Settings) (on : s.spien ≡ true) (plain : framed s ≡ false) (ss
       (λ a. if_keeps (λ (x : Shift). x ≡ Begun p) (awaits_pulse s r) _ _ (λ w. e) (λ w. ap (begun s r) e)))
 
   pub closes : (i : ℕ) (x : Watched) (n : Engine) (level : Bool) (p : Progress) (w : OnWire) → x.now ≡ at s n → Lives x →
-      GivenTo x n p.edges w → w.edges ≡ p.edges → Advances n level p → (if own_clock s then level else ss) ≡ level →
+      GivenTo x n p.edges w → w.edges ≡ p.edges → Advances n level p → (when own_clock s then level else ss) ≡ level →
       p.edges + suc i ≡ word_edges s →
       Closes (terms s) x.ledger (watched_calls x (edges_from s ss n.pins.sck p.edges i word)).ledger
       (watched_calls x (edges_from s ss n.pins.sck p.edges (suc i) word)).ledger w
@@ -265,7 +266,7 @@ taken_behind s (suc i) k word x e =
 -- The levels behind a number are the number's and then theirs.
 pub levels_behind : (s : Settings) (ss : Bool) (word i : ℕ) (sck : Bool) (k x : ℕ) (m : Module) → k + i ≡ word_edges s →
     levels_by s ss sck k i word x m ≡ x * 2 ^ bits_left s k + levels_by s ss sck k i word 0 m
-unfolding level_on if◌then◌else◌
+unfolding level_on when◌then◌else◌
 levels_behind s ss word zero sck k x m e =
     let all = sampled_all (cke_of s) k (width_of s) (omega arith) in
     let none : bits_left s k ≡ 0 = omega (arith, left_is s k) in
@@ -370,7 +371,7 @@ module _ (x : Watched) (ss : Bool) (word : ℕ) (w : OnWire) (h : Lives x) (on :
       (taken_by s p.edges (suc (word_edges s - p.edges - 1)) word (spelled 0 w.seen))
   unfolding remembered
   closed-so =
-      closes s on plain ss chosen word (word_edges s - p.edges - 1) x n (if own_clock s then n.pins.ss else ss) p w refl h
+      closes s on plain ss chosen word (word_edges s - p.edges - 1) x n (when own_clock s then n.pins.ss else ss) p w refl h
       (step-ledger s on plain ss chosen x n w _ refl (recalled s on plain ss chosen word x n refl h) wire (and-false (own_clock s) _ (ap is_free under.is)))
       under.same.edges
       (goes_on s on plain ss chosen word n p _ under.is)

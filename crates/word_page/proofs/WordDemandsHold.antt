@@ -3,9 +3,10 @@
 --     made                     every word that the page asks for
 --     word_calls_hold          the page, whole
 -- Assumes nothing.
-use Rattle.laws.proofs.Common.{ℕ, zero, suc, ◌+◌, ◌*◌, ◌-◌, ◌%◌, ◌^◌, ◌<◌, Bool, true, false, not, ◌&&◌, ◌||◌, List, [], ◌∷◌}
-use Rattle.laws.proofs.Common.{◌++◌, append_assoc, ◌≡◌, refl, sym, ap, subst, subst₂, ◌∙◌, arith, lt-ltb, le-ltb, lit<}
-use Rattle.laws.proofs.Common.{length, length-append, if◌then◌else◌, if_keeps, if_true, if_false, by_test, clash, and_both}
+use Rattle.std.specs.Prelude.{◌+◌, ◌*◌, ◌-◌, ◌%◌, ◌^◌, ◌<◌, ◌&&◌, ◌||◌, ◌∷◌, ◌++◌, ◌≡◌}
+use Rattle.laws.proofs.Common.{ℕ, zero, suc, Bool, true, false, not, List, []}
+use Rattle.laws.proofs.Common.{append_assoc, refl, sym, ap, subst, subst₂, ◌∙◌, arith, lt-ltb, le-ltb, lit<}
+use Rattle.laws.proofs.Common.{length, length-append, when◌then◌else◌, if_keeps, if_true, if_false, by_test, clash, and_both}
 use Rattle.laws.proofs.Common.{and-false, and_first}
 use Rattle.word_order.specs.Ledger.{OnWire, Wire, quiet, busy, is_quiet, carries_filler, Passed, Ledger, left_to_send, loses, sent}
 use Rattle.module_rules.proofs.Types.{Settings, Engine, Module, Outcome, Shift, Free, Loaded, Begun, Done, Call, ClockStep}
@@ -84,7 +85,7 @@ module _ (x : Watched) (ss : Bool) (word : ℕ) (has : has_word x.now ss ≡ tru
   -- What the ledger enters, by what is on the wire before.
   abbrev EnteredBy : Ledger → Ledger → Wire → Type 0
   EnteredBy almost after q =
-      Entered x.ledger almost after (out (shown_so q) (if is_quiet q then not (left_to_send x.ledger) else carries_filler q))
+      Entered x.ledger almost after (out (shown_so q) (when is_quiet q then not (left_to_send x.ledger) else carries_filler q))
       (into (seen_so q))
 
   made_of : (steps all : List Call) → Ended steps all → AllSteps ss all → r.after ≡ (watched_calls x all).now → (q : Wire) →
@@ -110,7 +111,7 @@ module _ (x : Watched) (ss : Bool) (word : ℕ) (has : has_word x.now ss ≡ tru
 -- A word under way.
 made_under : (x : Watched) (ss : Bool) (word : ℕ) (w : OnWire) → Lives x → x.now.settings.spien ≡ true → framed x.now.settings ≡ false →
     deselected x.now.settings ss ≡ false → x.ledger.wire ≡ busy w → WordMade x ss word
-unfolding if◌then◌else◌
+unfolding when◌then◌else◌
 made_under x ss word w h on plain chosen wire =
     let s = x.now.settings in
     let sck = x.now.engine.pins.sck in
@@ -152,10 +153,10 @@ first_entered x ss word h has wire =
     (after _) (after _)
     (subst₂ (begins.Whole (terms x.now.settings) x.ledger _ _) (behind_none k (word_of x.now ss word).levels)
     (behind_none k (word % 2 ^ k))
-    (begins.word_begins_entered x ss word h has wire))
+    (begins.word_begins_whole x ss word h has wire))
 
 made_first : (x : Watched) (ss : Bool) (word : ℕ) → Lives x → has_word x.now ss ≡ true → x.ledger.wire ≡ quiet → WordMade x ss word
-unfolding whole_word if◌then◌else◌
+unfolding whole_word when◌then◌else◌
 made_first x ss word h has wire =
     let s = x.now.settings in
     let first = idled x.now ss word in
@@ -245,7 +246,7 @@ module _ (x : Watched) (ss : Bool) (word : ℕ) (h : Lives x) (on : x.now.settin
 
 -- ---- refusals
 
-refused_so : (m : Module) (ss : Bool) (word : ℕ) → (said_of (word_of m ss word).answer).number ≡ (if m.settings.spien then 0 else 2)
+refused_so : (m : Module) (ss : Bool) (word : ℕ) → (said_of (word_of m ss word).answer).number ≡ (when m.settings.spien then 0 else 2)
 unfolding one_step whole_word word_of
 refused_so m ss word =
     by_test (has_word m ss)

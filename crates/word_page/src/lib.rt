@@ -1,1 +1,2 @@
 // The edges that a look tells are those of the page: a theorem alone, in proofs/.
+#![tactic(auto)]

@@ -1,5 +1,6 @@
 -- A word at a time in closed form: what its edges leave, with no list of them.
-use Rattle.laws.proofs.Common.{ℕ, ◌+◌, ◌*◌, ◌%◌, ◌^◌, Bool, not, Bool·beq, eqb, ltb, if◌then◌else◌}
+use Rattle.std.specs.Prelude.{◌+◌, ◌*◌, ◌%◌, ◌^◌}
+use Rattle.laws.proofs.Common.{ℕ, Bool, not, Bool·beq, eqb, ltb, when◌then◌else◌}
 use mir.Val.{bool_byte}
 use Rattle.word_order.specs.Bits.{bit_of}
 use Rattle.module_rules.proofs.Types.{Settings, Engine, Progress}
@@ -20,7 +21,7 @@ last_sck k sck = Bool·beq (eqb (k % 2) 0) sck
 
 -- SDO goes to the lowest bit of the word that is sent, if an edge is left that changes it.
 unfoldable pub last_sdo : Settings → ℕ → ℕ → Bool → Bool
-last_sdo s sent k sdo = if ltb (k + 1 + bool_byte (cke_of s)) (word_edges s) then bit_of sent 0 else sdo
+last_sdo s sent k sdo = when ltb (k + 1 + bool_byte (cke_of s)) (word_edges s) then bit_of sent 0 else sdo
 
 -- All edges of a word, and its finish.
 unfoldable pub word_made : Settings → ℕ → Progress → Engine → Engine
@@ -34,8 +35,8 @@ all_levels s p sdo = behind s p.word (p.edges + 1) (level_on s p.edges sdo 0)
 
 -- The select level that a module remembers of a step: a host with its own clock keeps the one that it has.
 unfoldable pub remembered : Settings → Bool → Engine → Engine
-remembered s ss n = with_ss (if own_clock s then n.pins.ss else ss) n
+remembered s ss n = with_ss (when own_clock s then n.pins.ss else ss) n
 
 -- The module where its word goes on or begins: with SCK at the idle level if nothing is begun.
 unfoldable pub readied : Settings → Bool → Engine → Engine
-readied s ss n = if idle_first s n then clocked (not n.pins.sck) (remembered s ss n) else remembered s ss n
+readied s ss n = when idle_first s n then clocked (not n.pins.sck) (remembered s ss n) else remembered s ss n

@@ -2,8 +2,9 @@
 --     few_levels   SDO is told at 16 edges at the most
 --     levels_fit   so its levels are a number below 65,536, if the bits received so far are one, as in every memory
 -- Assumes nothing.
-use Rattle.laws.proofs.Common.{ℕ, suc, ◌+◌, ◌*◌, ◌%◌, ◌^◌, ◌<◌, ◌≤◌, Bool, ◌&&◌, pow-succ', mod-lt, arith, lit≤}
-use Rattle.laws.proofs.Common.{if◌then◌else◌, if_keeps, by_test}
+use Rattle.std.specs.Prelude.{◌+◌, ◌*◌, ◌%◌, ◌^◌, ◌<◌, ◌≤◌, ◌&&◌}
+use Rattle.laws.proofs.Common.{ℕ, suc, Bool, pow-succ', mod-lt, arith, lit≤}
+use Rattle.laws.proofs.Common.{when◌then◌else◌, if_keeps, by_test}
 use native.Mathlib.Nat.{mul-le-mul_right}
 use lib.Pow.{pow_mono}
 use Rattle.module_rules.proofs.Types.{Settings, Module, Progress}
@@ -38,7 +39,7 @@ only : (n v : ℕ) → n ≤ 16 → 0 * 2 ^ n + v % 2 ^ n < 65536
 only n v few = omega (arith, mod-lt v (power_least n), pow_mono {i = n} {j = 16} few)
 
 all_fit : (s : Settings) (p : Progress) (sdo : Bool) → p.edges < word_edges s → all_levels s p sdo < 65536
-unfolding all_levels behind level_on if◌then◌else◌
+unfolding all_levels behind level_on when◌then◌else◌
 all_fit s p sdo short =
     by_test (samples (cke_of s) (p.edges + 1))
     (λ e.

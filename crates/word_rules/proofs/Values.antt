@@ -8,7 +8,8 @@
 --     levels_on, Shows, shows_on   the levels of SDO where it is sampled, while SDO is at the bit that the next such edge samples
 --     sck_on, sck_end, sdo_on, sdo_end   the clock and SDO at the end
 -- Assumes nothing.
-use Rattle.laws.proofs.Common.{ℕ, suc, ◌+◌, ◌*◌, ◌-◌, ◌/◌, ◌%◌, ◌^◌, ◌<◌, Bool, true, false, not, Bool·beq, ◌≡◌, refl, sym}
+use Rattle.std.specs.Prelude.{◌+◌, ◌*◌, ◌-◌, ◌/◌, ◌%◌, ◌^◌, ◌<◌, ◌≡◌}
+use Rattle.laws.proofs.Common.{ℕ, suc, Bool, true, false, not, Bool·beq, refl, sym}
 use Rattle.laws.proofs.Common.{ap, ◌∙◌, pow-succ', add-mul, mul_assoc, arith, eqb-true, eqb-false, eq-eqb, ltb-true}
 use Rattle.laws.proofs.Common.{ltb-false, not-true, not-false, eqb, ltb, if_keeps, if_false, by_test, clash, like, unlike}
 use Rattle.laws.proofs.Common.{so_lt, not_so_lt}

@@ -7,8 +7,9 @@
 --     single_step  that of any other module
 --     steps_leave  it leaves what its clock steps leave
 -- Assumes nothing.
-use Rattle.laws.proofs.Common.{ℕ, suc, ◌+◌, ◌-◌, ◌<◌, Bool, true, false, not, ◌&&◌, ◌||◌, Bool·beq, List, ◌≡◌, refl, sym, ap}
-use Rattle.laws.proofs.Common.{◌∙◌, subst, subst₂, arith, ltb-true, not-true, not-false, if◌then◌else◌, if_keeps, if_both}
+use Rattle.std.specs.Prelude.{◌+◌, ◌-◌, ◌<◌, ◌&&◌, ◌||◌, ◌≡◌}
+use Rattle.laws.proofs.Common.{ℕ, suc, Bool, true, false, not, Bool·beq, List, refl, sym, ap}
+use Rattle.laws.proofs.Common.{◌∙◌, subst, subst₂, arith, ltb-true, not-true, not-false, when◌then◌else◌, if_keeps, if_both}
 use Rattle.laws.proofs.Common.{if_true, if_false, by_test, clash, and_left, and_right, and_first, and-false, or_left}
 use Rattle.laws.proofs.Common.{or_right, like}
 use Rattle.module_rules.proofs.Types.{Settings, Engine, Module, Progress, Shift, Free, Loaded, Begun, Done, Call, ClockStep}
@@ -84,8 +85,8 @@ started m ss has =
     }
 
 -- The level that is remembered stays so.
-pub remembered_once : (own a b : Bool) → (if own then (if own then a else b) else b) ≡ (if own then a else b)
-unfolding if◌then◌else◌
+pub remembered_once : (own a b : Bool) → (when own then (when own then a else b) else b) ≡ (when own then a else b)
+unfolding when◌then◌else◌
 remembered_once true a b = refl
 remembered_once false a b = refl
 

@@ -1,5 +1,5 @@
--- All edges of a word, one behind the other, leave the closed form. Each edge is one of the same kind whatever clocks the module (`step-edge`), and
--- the closed form is the same told before an edge and after it (`told-on`), so that the last edge (`told-end`) says what all of them leave.
+-- All edges of a word, one behind the other, leave the closed form. Each edge is one of the same kind whatever clocks the module (`step_edge`), and
+-- the closed form is the same told before an edge and after it (`told_on`), so that the last edge (`told_end`) says what all of them leave.
 --     seen_edge        levels with another SCK that are seen are an edge to it
 --     step_edge        a clock step of an enabled unframed module that does not rest is an edge to the other level
 --     finish_forgets   a finish does not look at the shift register
@@ -7,8 +7,9 @@
 --     edges_made_lem       all edges of a word, from one that is under way on
 --     edges_levels     and the levels of SDO where they sample
 -- Assumes nothing.
-use Rattle.laws.proofs.Common.{ℕ, zero, suc, ◌+◌, ◌<◌, Bool, true, false, not, ◌&&◌, Bool·beq, ◌≡◌, refl, sym, ap, ◌∙◌, arith}
-use Rattle.laws.proofs.Common.{if◌then◌else◌, if_keeps, if_true, if_false, by_test, and_left, and-false, and_first, so_lt}
+use Rattle.std.specs.Prelude.{◌+◌, ◌<◌, ◌&&◌, ◌≡◌}
+use Rattle.laws.proofs.Common.{ℕ, zero, suc, Bool, true, false, not, Bool·beq, refl, sym, ap, ◌∙◌, arith}
+use Rattle.laws.proofs.Common.{when◌then◌else◌, if_keeps, if_true, if_false, by_test, and_left, and-false, and_first, so_lt}
 use Rattle.laws.proofs.Common.{not_so_lt}
 use Rattle.module_rules.proofs.Types.{Settings, Engine, Module, Outcome, Progress, Shift, Begun, ClockStep}
 use Rattle.module_rules.specs.Changes.{with_sck, with_ss, with_sdo, with_shift}
@@ -71,12 +72,12 @@ module _ (s : Settings) (on : s.spien ≡ true) (plain : framed s ≡ false) (ss
 -- A finish frees the shift register, and nothing before that looks at it.
 forgets : (s : Settings) (lost drops : Bool) (word : ℕ) (x : Shift) (n : Engine) →
     freed s
-    (if drops then word_leaves s (if lost then overflowed s (with_shift x n) else word_appended s word (with_shift x n))
-    else if lost then overflowed s (with_shift x n) else word_appended s word (with_shift x n))
+    (when drops then word_leaves s (when lost then overflowed s (with_shift x n) else word_appended s word (with_shift x n))
+    else when lost then overflowed s (with_shift x n) else word_appended s word (with_shift x n))
     ≡ freed s
-    (if drops then word_leaves s (if lost then overflowed s n else word_appended s word n)
-    else if lost then overflowed s n else word_appended s word n)
-unfolding if◌then◌else◌ freed word_leaves overflowed word_appended noted
+    (when drops then word_leaves s (when lost then overflowed s n else word_appended s word n)
+    else when lost then overflowed s n else word_appended s word n)
+unfolding when◌then◌else◌ freed word_leaves overflowed word_appended noted
 forgets s true true word x n = refl
 forgets s true false word x n = refl
 forgets s false true word x n = refl
@@ -119,7 +120,7 @@ module _ (s : Settings) (word : ℕ) where
 module _ (s : Settings) (on : s.spien ≡ true) (plain : framed s ≡ false) (ss : Bool) (kept : deselected s ss ≡ false) (word : ℕ) where
   -- The select level of these steps is remembered already.
   abbrev pub Heard : Engine → Type 0
-  Heard n = (if own_clock s then n.pins.ss else ss) ≡ n.pins.ss
+  Heard n = (when own_clock s then n.pins.ss else ss) ≡ n.pins.ss
 
   -- An edge at which a word is under way.
   pub step_under : (n : Engine) (p : Progress) (sdi : Bool) → (own_clock s && is_free n.shift) ≡ false → Heard n →

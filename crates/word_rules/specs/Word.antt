@@ -3,7 +3,7 @@
 use Rattle.std.specs.Prelude.{ℕ, zero, suc, ◌+◌, ◌*◌, ◌-◌, ◌/◌, Bool, false, not, ◌&&◌, ◌||◌, List, [], ◌∷◌, ◌++◌, ltb}
 use Rattle.std.specs.Bool.{beq}
 use mir.Val.{bool_byte}
-use Rattle.laws.specs.Choice.{if◌then◌else◌}
+use Rattle.laws.specs.Choice.{when◌then◌else◌}
 use Rattle.word_order.specs.Bits.{bit_of}
 use Rattle.module_types.specs.declared.Settings.{Settings}
 use Rattle.module_types.specs.declared.Engine.{Engine}
@@ -49,7 +49,7 @@ idle_first s n = not (is_begun n.shift) && not (beq n.pins.sck s.con1.ckp)
 
 -- The bits of a word that k edges have sampled: with CKE 1 the odd edges do, else the even ones.
 unfoldable pub bits_sampled : Bool → ℕ → ℕ
-bits_sampled cke k = if cke then (k + 1) / 2 else k / 2
+bits_sampled cke k = when cke then (k + 1) / 2 else k / 2
 
 -- The bits of a word that are not sampled after k edges, and the level that SDI has at the next one: of the caller's word the low bits,
 -- highest first.
@@ -66,7 +66,7 @@ edges_from s ss sck k (suc i) word = ClockStep (not sck) (sdi_at s k word) ss �
 
 -- The levels of SDO at those of them that sample, behind `levels`: each as it stands before the edge.
 unfoldable pub level_on : Settings → ℕ → Bool → ℕ → ℕ
-level_on s k sdo levels = if samples (cke_of s) (k + 1) then levels * 2 + bool_byte sdo else levels
+level_on s k sdo levels = when samples (cke_of s) (k + 1) then levels * 2 + bool_byte sdo else levels
 
 abbrev pub levels_by : Settings → Bool → Bool → ℕ → ℕ → ℕ → ℕ → Module → ℕ
 levels_by s ss sck k zero word levels m = levels
@@ -77,7 +77,7 @@ levels_by s ss sck k (suc i) word levels m =
 -- The edge to the idle level.
 abbrev pub idled : Module → Bool → ℕ → List Call
 idled m ss word =
-    if idle_first m.settings m.engine then ClockStep (not m.engine.pins.sck) (sdi_at m.settings 0 word) ss ∷ [] else []
+    when idle_first m.settings m.engine then ClockStep (not m.engine.pins.sck) (sdi_at m.settings 0 word) ss ∷ [] else []
 
 -- The edges that the word still takes, and all of them.
 abbrev pub edges_left : Module → ℕ
@@ -106,7 +106,7 @@ whole_word m ss word =
 -- one that is disabled is refused.
 unfoldable pub step_level : Module → Bool → Bool
 step_level m ss =
-    if not (framed m.settings) && resting m.settings ss m.engine then m.engine.pins.sck else not m.engine.pins.sck
+    when not (framed m.settings) && resting m.settings ss m.engine then m.engine.pins.sck else not m.engine.pins.sck
 
 unfoldable pub one_step : Module → Bool → ℕ → Worded
 one_step m ss word =
@@ -119,12 +119,12 @@ one_step m ss word =
     }
 
 unfoldable pub word_of : Module → Bool → ℕ → Worded
-word_of m ss word = if has_word m ss then whole_word m ss word else one_step m ss word
+word_of m ss word = when has_word m ss then whole_word m ss word else one_step m ss word
 
 -- The clock steps that the call stands for, as one list.
 unfoldable pub steps_of : Module → Bool → ℕ → List Call
 steps_of m ss word =
-    if has_word m ss then idled m ss word ++ edges_of (after_calls m (idled m ss word)) ss word
+    when has_word m ss then idled m ss word ++ edges_of (after_calls m (idled m ss word)) ss word
     else ClockStep (step_level m ss) (bit_of word 0) ss ∷ []
 
 -- A look: whether an accepted word would go out next, and which. It is the one begun, the one loaded, or the next to be sent by an SSEN client.
@@ -138,7 +138,7 @@ sends_next m =
 abbrev pub words_in : Shift → ℕ
 words_in Free = 0
 words_in (Loaded word) = 1
-words_in (Begun p) = if p.filler then 0 else 1
+words_in (Begun p) = when p.filler then 0 else 1
 
 abbrev pub edges_in : Shift → ℕ
 edges_in Free = 0
@@ -147,6 +147,6 @@ edges_in (Begun p) = p.edges
 
 unfoldable pub edges_owed : Module → ℕ
 edges_owed m =
-    if m.settings.spien && unframed_host m.settings
+    when m.settings.spien && unframed_host m.settings
     then word_edges m.settings * (words_in m.engine.shift + m.engine.transmit.count) - edges_in m.engine.shift
     else 0

@@ -1,7 +1,7 @@
 -- The demands on a word at a time: what the call refuses, and what it comes to by the history of words (demand 3), for every module that
 -- calls reach. It is judged by what a watcher sees of the clock steps that it stands for.
 use Rattle.std.specs.Prelude.{ℕ, ◌+◌, ◌*◌, ◌%◌, ◌^◌, Bool, true, false, not, ◌&&◌, List, [], ◌∷◌, ◌++◌, ◌≡◌}
-use Rattle.laws.specs.Choice.{if◌then◌else◌}
+use Rattle.laws.specs.Choice.{when◌then◌else◌}
 use Rattle.word_order.specs.Bits.{spelled}
 use Rattle.word_order.specs.Ledger.{Wire, quiet, busy, is_quiet, carries_filler, Ledger, left_to_send, loses}
 use Rattle.module_types.specs.declared.Module.{Module}
@@ -40,7 +40,7 @@ seen_so (busy w) = spelled 0 w.seen
 
 -- What goes out is a filler: the one on the wire, or with none there, if no accepted word is left to send.
 abbrev pub fills_in : Ledger → Bool
-fills_in l = if is_quiet l.wire then not (left_to_send l) else carries_filler l.wire
+fills_in l = when is_quiet l.wire then not (left_to_send l) else carries_filler l.wire
 
 -- The call is done by clock steps. None of them but the last finishes a word. The last one does: what goes out is what SDO showed of it before and
 -- then the levels that the call tells; what comes in is what SDI was before and then the low bits of the caller's word, as many. No word is begun
@@ -79,7 +79,7 @@ pub record WordMade (x : Watched) (ss : Bool) (word : ℕ) : Type 0 where
 -- module makes a word if it is enabled and unframed, no client with SSEN under a high SS, and no host without a word to send. What a host is told
 -- to owe is what it owes by its history.
 pub record WordCalls : Type 0 where
-  pub refused_exactly : (m : Module) (ss : Bool) (word : ℕ) → (said_of (word_of m ss word).answer).number ≡ (if m.settings.spien then 0 else 2)
+  pub refused_exactly : (m : Module) (ss : Bool) (word : ℕ) → (said_of (word_of m ss word).answer).number ≡ (when m.settings.spien then 0 else 2)
   pub refused_unchanged : (m : Module) (ss : Bool) (word : ℕ) → m.settings.spien ≡ false → (word_of m ss word).after ≡ m
   pub stands : (m : Module) (ss : Bool) (word : ℕ) →
       AllSteps ss (steps_of m ss word) × ((word_of m ss word).after ≡ after_calls m (steps_of m ss word))

@@ -5,7 +5,7 @@ use Rattle.module_types.specs.declared.Output.TheVariants.{Low, High}
 use Rattle.module_types.specs.declared.Said.{Said}
 use Rattle.module_rules.specs.Refusals.{said_of}
 use Rattle.module_rules.specs.Calls.{powered_up}
-use Rattle.module_rules.specs.Examples.{ExampleStep, says, shows, flagged, clockAt, ok, value, no_edge, edge, refused, same_said, all_hold, after_steps, set_up, tick_edges}
+use Rattle.module_rules.specs.Examples.{ExampleStep, says, shows, flagged, clock_at, ok, value, no_edge, edge, refused, same_said, all_hold, after_steps, set_up, tick_edges}
 use Rattle.word_rules.specs.declared.Worded.{Worded}
 use Rattle.word_rules.specs.Word.{word_of}
 
@@ -19,7 +19,7 @@ word_tells before ss word said count levels after =
 abbrev pub host_word : Bool
 host_word =
     word_tells (set_up 0x0020 0 ++ (says (Write 3 0xA5) ok ∷ [])) false 0x003C ok 8 0xA5
-    (flagged true ∷ shows High ∷ clockAt false ∷ says (Read 3) (value 0x3C) ∷ says (Tick true false) no_edge ∷ [])
+    (flagged true ∷ shows High ∷ clock_at false ∷ says (Read 3) (value 0x3C) ∷ says (Tick true false) no_edge ∷ [])
 
 -- After three edges, the second of which took a 1, the low seven bits are taken and told. The next word is loaded, and its first edge shows its top bit.
 abbrev pub mid_word : Bool
@@ -31,32 +31,32 @@ mid_word =
 abbrev pub early_word : Bool
 early_word =
     word_tells (set_up 0x0560 0 ++ (says (Write 3 0x8001) ok ∷ [])) true 0x1234 ok 16 0x8001
-    (clockAt true ∷ says (Read 3) (value 0x1234) ∷ says (Tick true false) no_edge ∷ [])
+    (clock_at true ∷ says (Read 3) (value 0x1234) ∷ says (Tick true false) no_edge ∷ [])
 
 -- A client with nothing to send sends zeros; one with SSEN sends its word while it is selected, and nothing happens while it is not.
 abbrev pub client_words : Bool
 client_words =
     word_tells (set_up 0x0000 0) true 0x5A ok 8 0 (says (Read 3) (value 0x5A) ∷ [])
     && (word_tells (set_up 0x0080 0 ++ (says (Write 3 0xC3) ok ∷ [])) false 0x5A ok 8 0xC3 (says (Read 3) (value 0x5A) ∷ [])
-    && word_tells (set_up 0x0080 0 ++ (says (Write 3 0xC3) ok ∷ [])) true 0x5A ok 0 0 (clockAt false ∷ says (Read 3) (refused 6) ∷ []))
+    && word_tells (set_up 0x0080 0 ++ (says (Write 3 0xC3) ok ∷ [])) true 0x5A ok 0 0 (clock_at false ∷ says (Read 3) (refused 6) ∷ []))
 
 -- SCK was left at the active level while the client was not selected: an edge to the idle level comes first.
 abbrev pub late_word : Bool
 late_word =
     word_tells (set_up 0x0080 0 ++ (says (Write 3 0xC3) ok ∷ says (Pin true true true) ok ∷ [])) false 0x5A ok 8 0xC3
-    (clockAt false ∷ says (Read 3) (value 0x5A) ∷ [])
+    (clock_at false ∷ says (Read 3) (value 0x5A) ∷ [])
 
 -- A host with DISSCK: one that has nothing to send sees its clock as it was.
 abbrev pub pinned_words : Bool
 pinned_words =
-    word_tells (set_up 0x1020 0) true 0x5A ok 0 0 (clockAt false ∷ says (Read 3) (refused 6) ∷ [])
+    word_tells (set_up 0x1020 0) true 0x5A ok 0 0 (clock_at false ∷ says (Read 3) (refused 6) ∷ [])
     && word_tells (set_up 0x1020 0 ++ (says (Write 3 0x81) ok ∷ [])) true 0x5A ok 8 0x81 (says (Read 3) (value 0x5A) ∷ [])
 
 -- An idle host, a disabled module, and one edge of a framed host, whose clock runs on.
 abbrev pub other_words : Bool
 other_words =
     word_tells (set_up 0x0020 0) false 0x5A no_edge 0 0 (says (Read 3) (refused 6) ∷ [])
-    && (word_tells [] false 0x5A (refused 2) 0 0 [] && word_tells (set_up 0x0020 0x8000) false 0x5A ok 1 0 (clockAt true ∷ []))
+    && (word_tells [] false 0x5A (refused 2) 0 0 [] && word_tells (set_up 0x0020 0x8000) false 0x5A ok 1 0 (clock_at true ∷ []))
 
 abbrev pub word_examples : Bool
 word_examples = host_word && (mid_word && (early_word && (client_words && (late_word && (pinned_words && other_words)))))
