@@ -1,4 +1,6 @@
 // The prescalers for a wanted rate.
+#![tactic(auto)]
+
 ghost use Rattle.std.specs.Prelude.{◌≡◌};
 ghost use Rattle.clock_rate_rules.specs.Rate.{divider_at, fits, to_beat, better, in_con1, prescalers_for};
 

@@ -1,4 +1,6 @@
 // The clock report: from the prescalers and the instruction rate to the two floats of a host's own clock.
+#![tactic(auto)]
+
 ghost use Rattle.std.specs.Prelude.{◌≡◌};
 ghost use Rattle.clock_rules.specs.Clock.{quartered, primary_of, secondary_of, divider_of, rates_of, clock_of, report_by, report_of, said_clock};
 

@@ -1,7 +1,8 @@
 -- What a linked run comes to at both ends.
 --     kept, changed   a run that is refused, and one that is not
 -- Assumes nothing.
-use Rattle.laws.proofs.Common.{ℕ, false, List, ◌≡◌, refl, clash}
+use Rattle.std.specs.Prelude.{◌≡◌}
+use Rattle.laws.proofs.Common.{ℕ, false, List, refl, clash}
 use Rattle.link_rules.specs.declared.LinkAnswer.{LinkAnswer}
 use Rattle.link_rules.specs.declared.Linked.{Linked}
 use Rattle.link_calls.specs.Wire.{linked_in, is_refused, Links}

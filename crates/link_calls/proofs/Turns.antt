@@ -4,8 +4,9 @@
 --     ends, stops, hands_over   the host's turn: none left, no word, or an edge
 --     word_first                a word at both ends before it
 -- Assumes nothing.
-use Rattle.laws.proofs.Common.{ℕ, zero, suc, ◌-◌, ◌≤◌, Bool, true, false, not, ◌&&◌, ◌≡◌, refl, sym, ap, ap₂, subst, ◌∙◌}
-use Rattle.laws.proofs.Common.{arith, if◌then◌else◌, and-false, and_both, by_case}
+use Rattle.std.specs.Prelude.{◌-◌, ◌≤◌, ◌&&◌, ◌≡◌}
+use Rattle.laws.proofs.Common.{ℕ, zero, suc, Bool, true, false, not, refl, sym, ap, ap₂, subst, ◌∙◌}
+use Rattle.laws.proofs.Common.{arith, when◌then◌else◌, and-false, and_both, by_case}
 use native.Mathlib.Numerals.{unary_clauses}
 use Rattle.module_rules.proofs.Types.{Settings, Engine, Module, Outcome, NoEdge, Edge}
 use Rattle.module_rules.specs.Settings.{clock_stops, ssen_client, own_clock}
@@ -92,7 +93,7 @@ goes host client (suc left) some o e h =
 module _ (host client : Module) {left : ℕ} {z : Run} (some : left ≡ 0 → ⊥) where
   pub stops : Matched host.settings client.settings → is_free host.engine.shift ≡ true → z ≡ run_stops host client →
       z ≡ host_turn left host client
-  unfolding host_ticked handed_over made_edge if◌then◌else◌
+  unfolding host_ticked handed_over made_edge when◌then◌else◌
   stops l free h =
       goes host client left some (record { answer = NoEdge; after = host })
       (tick_stands host _ false l.host_on l.own (and_both (clock_stops host.settings) _ (ap not l.unframed) free))
@@ -101,7 +102,7 @@ module _ (host client : Module) {left : ℕ} {z : Run} (some : left ≡ 0 → �
   pub hands_over : {to : Module} → Running host client → is_free host.engine.shift ≡ false →
       to ≡ on (λ s. turned s (open_level client)) host → z ≡ client_turn (host_turn (left - 1)) to client →
       z ≡ host_turn left host client
-  unfolding host_ticked perform_of answering handed_over made_edge if◌then◌else◌
+  unfolding host_ticked perform_of answering handed_over made_edge when◌then◌else◌
   hands_over {to} w busy e h =
       let l : Matched host.settings client.settings = w.matched in
       let s : Settings = host.settings in

@@ -1,6 +1,8 @@
 // Two modules in memory on one wire: a linked run of a host with its own clock and a client, both unframed. It goes turn by turn, but for
 // words that are made whole while both ends are at a word's beginning. Any numbers and any limit are answered, and a refused run leaves every
 // number as it was.
+#![tactic(auto)]
+
 ghost use Rattle.std.specs.Prelude.{◌-◌, ◌≤◌, true, false, ◌≡◌};
 ghost use Rattle.word_rules.specs.Word.{word_of};
 ghost use Rattle.link_rules.specs.Link.{client_sees, host_turn, client_turn, either_disabled, wrong_roles, different_modes, linked_of, link_said_of};

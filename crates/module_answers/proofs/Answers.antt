@@ -5,7 +5,8 @@
 --     answered        the outcome of a step of the engine
 --     set, then-set   the outcome of other settings, and of a step and then other settings
 -- Assumes nothing.
-use Rattle.laws.proofs.Common.{ℕ, true, false, List, ◌≡◌, refl, sym, ap, ◌∙◌, clash}
+use Rattle.std.specs.Prelude.{◌≡◌}
+use Rattle.laws.proofs.Common.{ℕ, true, false, List, refl, sym, ap, ◌∙◌, clash}
 use Rattle.module_rules.proofs.Types.{Settings, Engine, Outcome, Answer, Refused, Done, Value, NoEdge, Edge}
 use Rattle.module_rules.specs.Calls.{answering, edge_for, edge_told}
 use Rattle.module_memory.specs.Memory.{settings_in, engine_in, module_in, Steps, Sets}

@@ -15,7 +15,8 @@
 --     plain_turn, told_turn
 --                        the same for a tick that carries a select level, of an unframed module and of any
 -- Assumes nothing.
-use Rattle.laws.proofs.Common.{ℕ, ◌+◌, Bool, true, false, not, ◌&&◌, ◌||◌, Bool·beq, ◌≡◌, refl, sym, ap, ◌∙◌, if◌then◌else◌}
+use Rattle.std.specs.Prelude.{◌+◌, ◌&&◌, ◌||◌, ◌≡◌}
+use Rattle.laws.proofs.Common.{ℕ, Bool, true, false, not, Bool·beq, refl, sym, ap, ◌∙◌, when◌then◌else◌}
 use Rattle.laws.proofs.Common.{if_keeps, if_ap, if_true, if_false, and_first, or_left, or_right, or_rest, clash, like, so}
 use Rattle.laws.proofs.Common.{not_so, by_case}
 use Rattle.module_rules.proofs.Types.{Settings, Progress, Shift, Free, Loaded, Begun, Engine, Module}
@@ -169,7 +170,7 @@ plain_turn m sdi ss own plain =
     (told_elsewhere m ss (unframed_told m.settings plain)))
 
 pub told_turn : (m : Module) (sdi ss : Bool) → own_clock m.settings ≡ true →
-    turned m.settings sdi (if frame_client m.settings then select_remembered ss m.engine else m.engine)
+    turned m.settings sdi (when frame_client m.settings then select_remembered ss m.engine else m.engine)
     ≡ stepped m.settings (levels (not m.engine.pins.sck) sdi (told_select m ss)) m.engine
 unfolding turned edge_advanced edge_counted select_remembered
 told_turn m sdi ss own =

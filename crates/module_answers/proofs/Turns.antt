@@ -4,7 +4,8 @@
 --     own_answers, pin_answers   a clock step of a host with its own clock, and of any other module
 --     tick_answers, pins_answer  a tick and a pin call
 -- Assumes nothing.
-use Rattle.laws.proofs.Common.{ℕ, Bool, true, false, not, ◌&&◌, List, ◌≡◌, refl, sym, ap, ◌∙◌, not-true, not-false, if_false}
+use Rattle.std.specs.Prelude.{◌&&◌, ◌≡◌}
+use Rattle.laws.proofs.Common.{ℕ, Bool, true, false, not, List, refl, sym, ap, ◌∙◌, not-true, not-false, if_false}
 use Rattle.laws.proofs.Common.{and_left, and_right, and-false, clash}
 use Rattle.module_rules.proofs.Types.{Settings, Outcome, Answer, Done, Edge}
 use Rattle.module_rules.specs.Settings.{framed, frame_client, clock_stops, own_clock}

@@ -1,4 +1,6 @@
 // Bits of words and of registers, over the width. Nothing here asks whether the width is 8 or 16.
+#![tactic(auto)]
+
 ghost use Rattle.std.specs.Prelude.{◌≡◌, ◌+◌, ◌-◌, ltb};
 ghost use Rattle.word_order.specs.Bits.{bit_of};
 ghost use Rattle.module_rules.specs.Settings.{width_of};

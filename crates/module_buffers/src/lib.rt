@@ -1,4 +1,6 @@
 // What the two buffers share: rings whose positions go round the depth, and with nothing in them.
+#![tactic(auto)]
+
 ghost use Rattle.std.specs.Prelude.{◌≡◌};
 ghost use Rattle.ring.specs.Ring.{next};
 ghost use Rattle.module_rules.specs.Buffers.{empty_transmit, empty_receive};

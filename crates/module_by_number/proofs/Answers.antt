@@ -4,7 +4,8 @@
 --     link-told   a linked run
 --     clock-refused, clock-told   a clock report
 -- Assumes nothing.
-use Rattle.laws.proofs.Common.{ℕ, ◌+◌, ◌*◌, List, [], ◌∷◌, ◌≡◌, refl, sym, ◌∙◌, ap, zero-add, so_eq, not_so_eq}
+use Rattle.std.specs.Prelude.{◌+◌, ◌*◌, ◌∷◌, ◌≡◌}
+use Rattle.laws.proofs.Common.{ℕ, List, [], refl, sym, ◌∙◌, ap, zero-add, so_eq, not_so_eq}
 use lib.Ieee.{Float}
 use Rattle.module_rules.proofs.Types.{Answer, Outcome}
 use Rattle.link_rules.specs.declared.LinkAnswer.{LinkAnswer}

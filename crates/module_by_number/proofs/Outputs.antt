@@ -2,7 +2,8 @@
 --     sdo_off, sdo_kept, sdo_away, sdo_on   SDO: disabled, under DISSDO, deselected, and driven
 --     ss_off, ss_none, ss_on                SS: disabled, of no frame host, and driven
 -- Assumes nothing.
-use Rattle.laws.proofs.Common.{ℕ, ◌+◌, Bool, true, false, not, ◌&&◌, ◌||◌, Bool·beq, ◌≡◌, refl, if◌then◌else◌, clash}
+use Rattle.std.specs.Prelude.{◌+◌, ◌&&◌, ◌||◌, ◌≡◌}
+use Rattle.laws.proofs.Common.{ℕ, Bool, true, false, not, Bool·beq, refl, when◌then◌else◌, clash}
 use Rattle.module_rules.proofs.Types.{Module, Low, High, Undriven}
 use Rattle.module_rules.specs.Settings.{frame_host}
 use Rattle.module_rules.specs.Select.{deselected}
@@ -10,14 +11,14 @@ use Rattle.module_rules.specs.Calls.{undriven_by, undriven, sdo_of, ss_of}
 use Rattle.module_by_number.specs.Told.{output_bits}
 
 -- A pin by whether it is undriven, and by its level.
-undriven_bits : (off level : Bool) → off ≡ true → 0 ≡ output_bits (if off then Undriven else if level then High else Low)
-unfolding if◌then◌else◌ output_bits
+undriven_bits : (off level : Bool) → off ≡ true → 0 ≡ output_bits (when off then Undriven else when level then High else Low)
+unfolding when◌then◌else◌ output_bits
 undriven_bits true level e = refl
 undriven_bits false level e = clash false e refl
 
-driven_bits : (off level : Bool) {bit : ℕ} → off ≡ false → bit ≡ (if level then 1 else 0) →
-    2 + bit ≡ output_bits (if off then Undriven else if level then High else Low)
-unfolding if◌then◌else◌ output_bits
+driven_bits : (off level : Bool) {bit : ℕ} → off ≡ false → bit ≡ (when level then 1 else 0) →
+    2 + bit ≡ output_bits (when off then Undriven else when level then High else Low)
+unfolding when◌then◌else◌ output_bits
 driven_bits true level e f = clash true refl e
 driven_bits false true e f = rw f
 driven_bits false false e f = rw f
@@ -69,7 +70,7 @@ module _ (m : Module) where
       (third (not m.settings.spien) m.settings.con1.dissdo (deselected m.settings m.engine.pins.ss) e f g)
 
   pub sdo_on : not m.settings.spien ≡ false → m.settings.con1.dissdo ≡ false →
-      deselected m.settings m.engine.pins.ss ≡ false → {bit : ℕ} → bit ≡ (if m.engine.pins.sdo then 1 else 0) →
+      deselected m.settings m.engine.pins.ss ≡ false → {bit : ℕ} → bit ≡ (when m.engine.pins.sdo then 1 else 0) →
       2 + bit ≡ output_bits (sdo_of m)
   unfolding sdo_of undriven
   sdo_on e f g b =
@@ -93,7 +94,7 @@ module _ (m : Module) where
       (no_host m.settings.spien (frame_host m.settings) e f)
 
   pub ss_on : not m.settings.spien ≡ false → not (frame_host m.settings) ≡ false → {bit : ℕ} →
-      bit ≡ (if high then 1 else 0) → 2 + bit ≡ output_bits (ss_of m)
+      bit ≡ (when high then 1 else 0) → 2 + bit ≡ output_bits (ss_of m)
   unfolding ss_of
   ss_on e f b =
       driven_bits (not (m.settings.spien && frame_host m.settings)) high

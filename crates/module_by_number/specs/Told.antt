@@ -1,6 +1,6 @@
 -- What a caller is told of modules in memory: each answer as one number, levels as numbers, and the memory after a call.
 use Rattle.std.specs.Prelude.{ℕ, ◌+◌, ◌*◌, Bool, true, not, List, [], ◌∷◌, ◌≡◌, eqb, Float}
-use Rattle.laws.specs.Choice.{if◌then◌else◌}
+use Rattle.laws.specs.Choice.{when◌then◌else◌}
 use Rattle.module_types.specs.declared.Module.{Module}
 use Rattle.module_types.specs.declared.Answer.{Answer}
 use Rattle.module_types.specs.declared.Answer.TheVariants.{Refused, Done, Value, NoEdge, Edge}
@@ -41,7 +41,7 @@ output_bits Undriven = 0
 
 -- The levels that are seen: bit 0 is the interrupt flag, bit 1 SCK, bits 2 and 3 are SDO, bits 4 and 5 SS.
 unfoldable pub seen_number : Bool → Bool → Output → Output → ℕ
-seen_number interrupt sck sdo ss = (if interrupt then 1 else 0) + (if sck then 2 else 0) + output_bits sdo * 4 + output_bits ss * 16
+seen_number interrupt sck sdo ss = (when interrupt then 1 else 0) + (when sck then 2 else 0) + output_bits sdo * 4 + output_bits ss * 16
 
 unfoldable pub levels_number : Module → ℕ
 levels_number m = seen_number (interrupt_of m) (sck_of m) (sdo_of m) (ss_of m)
@@ -63,7 +63,7 @@ pub record StepTells (o : Outcome) (r : ℕ) (before after : List ℕ) : Type 0 
 
 -- A clock report: 1 is internal, 2 external, 0 none.
 unfoldable pub kind_number : Bool → Bool → ℕ
-kind_number internal external = if internal then 1 else if external then 2 else 0
+kind_number internal external = when internal then 1 else when external then 2 else 0
 
 -- Its answer: the upper 16 bits are the refusal number, 0 if it was not refused, the lower 16 bits the kind.
 unfoldable pub clock_number : ClockSaid → ℕ
@@ -71,7 +71,7 @@ clock_number s = s.number * 65536 + kind_number s.internal s.external
 
 -- Its floats, in memory that the caller lends. A refused report leaves that as it was.
 unfoldable pub clock_floats : ClockSaid → List Float → List Float
-clock_floats s before = if eqb s.number 0 then s.rate ∷ s.bittime ∷ s.below ∷ [] else before
+clock_floats s before = when eqb s.number 0 then s.rate ∷ s.bittime ∷ s.below ∷ [] else before
 
 -- A clock report returns its number, and its floats stand in the lent memory.
 pub record ClockTells (s : ClockSaid) (r : ℕ) (before after : List Float) : Type 0 where

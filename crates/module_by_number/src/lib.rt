@@ -1,6 +1,8 @@
 // The calls of modules in memory, each answered by one number.
+#![tactic(auto)]
+
 ghost use Rattle.std.specs.Prelude.{◌≤◌, ◌≡◌};
-ghost use Rattle.laws.specs.Choice.{if◌then◌else◌};
+ghost use Rattle.laws.specs.Choice.{when◌then◌else◌};
 ghost use Rattle.module_rules.specs.Calls.{power_up_of, read_of, write_of, tick_of, pins_of, clock_step_of, clear_of, sdo_of, ss_of};
 ghost use Rattle.link_rules.specs.Link.{linked_of};
 ghost use Rattle.clock_rules.specs.Clock.{report_of, said_clock};
@@ -87,7 +89,7 @@ pub fn clear(w: &mut [u16; 96]) -> u32
 
 // A bit of a number, if it is set.
 fn weight(bit: bool, w: u32) -> u32
-    ensures { (result ≡ (if bit then w else 0)) × (result ≤ w) }
+    ensures { (result ≡ (when bit then w else 0)) × (result ≤ w) }
 {
     if bit {
         return w;

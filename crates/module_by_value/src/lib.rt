@@ -1,5 +1,7 @@
 // The calls by value: each takes any module and any value, always answers, and returns the answer with the module after the
 // call. The module is put into memory, the call is made there, and the module is read back.
+#![tactic(auto)]
+
 ghost use Rattle.std.specs.Prelude.{◌≡◌};
 ghost use Rattle.module_rules.specs.Calls.{powered_up, read_of, write_of, tick_of, pins_of, clock_step_of, clear_of, perform_of};
 ghost use Rattle.link_rules.specs.Link.{linked_of};

@@ -1,5 +1,7 @@
 // One SPI module in memory: tick and pin call over the clock step, any call by its name, and what a caller sees. Any numbers are answered. A
 // refused call, and a tick that makes no edge, leave every number as it was.
+#![tactic(auto)]
+
 ghost use Rattle.std.specs.Prelude.{true, false, ◌≡◌};
 ghost use Rattle.module_types.specs.declared.Answer.TheVariants.{Done, Edge};
 ghost use Rattle.module_rules.specs.Edge.{levels, stepped};

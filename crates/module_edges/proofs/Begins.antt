@@ -2,13 +2,14 @@
 --     begins_sampled, begins_shown   with CKE 1 it samples SDI, and else it shows the word's top bit
 --     plain_first                    what it is handed in an unframed module, which awaits no pulse
 -- Assumes nothing.
-use Rattle.laws.proofs.Common.{ℕ, ◌-◌, Bool, true, false, ◌||◌, Bool·beq, List, ◌≡◌, refl, sym, ◌∙◌, ap, arith, so, not_so}
+use Rattle.std.specs.Prelude.{◌-◌, ◌||◌, ◌≡◌}
+use Rattle.laws.proofs.Common.{ℕ, Bool, true, false, Bool·beq, List, refl, sym, ◌∙◌, ap, arith, so, not_so}
 use Rattle.laws.proofs.Common.{and_first}
 use Rattle.word_order.specs.Bits.{bit_of}
 use Rattle.module_rules.proofs.Types.{Settings, Begun, Engine}
 use Rattle.module_rules.specs.Changes.{with_shift, with_sdo}
 use Rattle.module_rules.specs.Settings.{width_of, framed, cke_of}
-use Rattle.module_rules.specs.Bits.{samples, shifted_in, received_after, shown_bit, sdo_after, progressed}
+use Rattle.module_rules.specs.Bits.{shifted_in, received_after, shown_bit, sdo_after, progressed}
 use Rattle.module_rules.specs.Edge.{fresh, awaits_pulse, shifted}
 use Rattle.module_memory.specs.Memory.{settings_in}
 use Rattle.module_answers.specs.Answered.{First}

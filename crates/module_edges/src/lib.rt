@@ -1,6 +1,8 @@
 // The edges of one module in memory, by what each finds in the shift register, and the clock step over them. Any numbers are answered.
+#![tactic(auto)]
+
 ghost use Rattle.std.specs.Prelude.{true, false, ◌≡◌};
-ghost use Rattle.laws.specs.Choice.{if◌then◌else◌};
+ghost use Rattle.laws.specs.Choice.{when◌then◌else◌};
 ghost use Rattle.module_types.specs.declared.Shift.TheVariants.{Free, Loaded};
 ghost use Rattle.module_types.specs.declared.Answer.TheVariants.{Done, Edge};
 ghost use Rattle.module_rules.specs.Changes.{with_pulse};
@@ -284,7 +286,7 @@ pub fn see_any(w: &mut [u16; 96], sck: bool, sdi: bool, ss: bool)
 
 // The select level that a host with its own clock is told is remembered by a frame client alone.
 fn hear_select(w: &mut [u16; 96], ss: bool)
-    ensures { Steps (λ s n. if frame_client s then select_remembered ss n else n) w.old w.new }
+    ensures { Steps (λ s n. when frame_client s then select_remembered ss n else n) w.old w.new }
 {
     let s = module_memory_looks::settings_in(w);
     if module_settings::is_frame_client(s) {

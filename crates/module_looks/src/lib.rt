@@ -1,5 +1,7 @@
 // What a caller sees without changing anything: the interrupt flag, the levels of SCK, SDO and SS, and answers in the
 // paper's numbers.
+#![tactic(auto)]
+
 ghost use Rattle.std.specs.Prelude.{◌≡◌};
 ghost use Rattle.module_rules.specs.Refusals.{number_of, said_of};
 ghost use Rattle.module_rules.specs.Calls.{interrupt_of, sck_of, undriven_by, sdo_by, sdo_of, ss_by};

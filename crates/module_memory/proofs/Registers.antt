@@ -1,7 +1,8 @@
 -- A register's value has the bits that it was made of.
 --     stat_back, con1_back, con2_back   SPIEN and SPISIDL, the flags of CON1, CON2
 -- Assumes nothing.
-use Rattle.laws.proofs.Common.{ℕ, ◌+◌, ◌*◌, ◌%◌, ◌^◌, ◌≤◌, ◌<◌, Bool, true, false, ◌≡◌, ◌∙◌, ap, arith, eqb, if◌then◌else◌}
+use Rattle.std.specs.Prelude.{◌+◌, ◌*◌, ◌%◌, ◌^◌, ◌≤◌, ◌<◌, ◌≡◌}
+use Rattle.laws.proofs.Common.{ℕ, Bool, true, false, ◌∙◌, ap, arith, eqb, when◌then◌else◌}
 use native.Mathlib.Nat.{div-eq_of_lt-le}
 use mir.Val.{bool_byte}
 use lib.Arith.{digits_mod}
@@ -12,7 +13,7 @@ use Rattle.word_order.proofs.WordBits.{bit_most}
 
 -- A bit adds its weight once or not at all.
 weight : (b : Bool) (w : ℕ) → (weighed b w ≡ bool_byte b * w) × (bool_byte b ≤ 1)
-unfolding weighed if◌then◌else◌
+unfolding weighed when◌then◌else◌
 weight true w = (omega arith, omega arith)
 weight false w = (omega arith, omega arith)
 

@@ -6,16 +6,16 @@
 --     kept             what stands elsewhere then
 --     transmit_pushed, receive_arrived   a word put into either buffer
 -- Assumes nothing.
-use Rattle.laws.proofs.Common.{ℕ, zero, suc, ◌+◌, ◌%◌, ◌<◌, ◌≤◌, Bool, true, false, ◌||◌, List, [], ◌∷◌, ◌≡◌, refl, ◌∙◌, ap}
+use Rattle.std.specs.Prelude.{◌+◌, ◌<◌, ◌≤◌, ◌||◌, ◌∷◌, ◌≡◌}
+use Rattle.laws.proofs.Common.{ℕ, zero, suc, Bool, true, false, List, [], refl, ◌∙◌, ap}
 use Rattle.laws.proofs.Common.{arith, lt-ltb, eq-eqb, ne_eqb, eqb-true, eqb-false, ltb-true, eqb, ltb, length, set, get_or}
-use Rattle.laws.proofs.Common.{if◌then◌else◌, if_keeps, if_false, and_both, or_rest, by_test}
+use Rattle.laws.proofs.Common.{when◌then◌else◌, if_keeps, if_false, and_both, or_rest, by_test}
 use lib.Dec.{eqb-suc-zero, eqb-zero-suc, eqb-suc-suc}
 use Rattle.laws.specs.Writes.{Write, at, writes}
 use Rattle.laws.proofs.Stored.{after, within}
-use Rattle.module_rules.proofs.Types.{Transmit, Receive, Engine}
 use Rattle.module_rules.specs.Buffers.{capacity, cell}
 use Rattle.module_rules.specs.Changes.{with_transmit, with_receive}
-use Rattle.module_memory.specs.Memory.{bit_in, byte_in, place_in, from, cells_at, words_at, settings_at, transmit_at, receive_at, shift_at, pins_at, settings_in, engine_in, pushed, arrived, Steps}
+use Rattle.module_memory.specs.Memory.{bit_in, byte_in, place_in, from, cells_at, settings_at, transmit_at, receive_at, shift_at, pins_at, settings_in, engine_in, pushed, arrived, Steps}
 use Rattle.module_memory.proofs.Stored.{engine_step_lem}
 
 -- A list of cells.
@@ -37,15 +37,15 @@ cells_same (suc n) f g h =
     λ j. h 0 (omega arith) j ∷ rest j
 
 cell_written : (n : ℕ) (place : ℕ → ℕ) (i v : ℕ) → i < n →
-    cells_at n (λ k. if eqb k i then v else place k) ≡ set (cells_at n place) i v
-unfolding if◌then◌else◌
+    cells_at n (λ k. when eqb k i then v else place k) ≡ set (cells_at n place) i v
+unfolding when◌then◌else◌
 cell_written zero place i v h = absurd (omega arith)
 cell_written (suc n) place zero v h =
-    λ j. v ∷ cells_at n (λ k. ap (λ (b : Bool). if b then v else place (suc k)) (eqb-suc-zero k) j)
+    λ j. v ∷ cells_at n (λ k. ap (λ (b : Bool). when b then v else place (suc k)) (eqb-suc-zero k) j)
 cell_written (suc n) place (suc i) v h =
     (λ j.
-    ap (λ (b : Bool). if b then v else place 0) (eqb-zero-suc i) j
-    ∷ cells_at n (λ k. ap (λ (b : Bool). if b then v else place (suc k)) (eqb-suc-suc k i) j))
+    ap (λ (b : Bool). when b then v else place 0) (eqb-zero-suc i) j
+    ∷ cells_at n (λ k. ap (λ (b : Bool). when b then v else place (suc k)) (eqb-suc-suc k i) j))
     ∙ ap (λ (l : List ℕ). place 0 ∷ l) (cell_written n (λ k. place (suc k)) i v (omega arith))
 
 -- A word, the write position and the count of a ring that stands from a place on.
@@ -82,7 +82,7 @@ module _ (place : ℕ → ℕ) (base n i v x y : ℕ) (named : i < n) (room : n 
       let h = ltb-true (base + 18) k (or_rest (eqb k (base + 17)) _ rest not_read) in
       unwritten k (λ f. omega arith) (λ f. omega arith) (λ f. omega arith)))
 
-  pub kept : (k : ℕ) → (if elsewhere k then now k else place k) ≡ place k
+  pub kept : (k : ℕ) → (when elsewhere k then now k else place k) ≡ place k
   kept k = if_keeps (λ (z : ℕ). z ≡ place k) (elsewhere k) _ _ (stands k) (λ _. refl)
 
   -- A cell of the ring.
@@ -93,11 +93,11 @@ module _ (place : ℕ → ℕ) (base n i v x y : ℕ) (named : i < n) (room : n 
       go true e = let there = eqb-true k i e in eq-eqb (base + k) (base + i) (omega arith)
       go false e = let apart = eqb-false k i e in ne_eqb (base + k) (base + i) (λ f. apart (omega arith))
 
-  in_cell : (k : ℕ) → k < n → now (base + k) ≡ (if eqb k i then v else place (base + k))
+  in_cell : (k : ℕ) → k < n → now (base + k) ≡ (when eqb k i then v else place (base + k))
   in_cell k h =
       if_false (eqb (base + k) (base + 18)) _ _ (ne_eqb (base + k) (base + 18) (λ e. omega arith))
       ∙ if_false (eqb (base + k) (base + 16)) _ _ (ne_eqb (base + k) (base + 16) (λ e. omega arith))
-      ∙ ap (λ (b : Bool). if b then v else place (base + k)) (same-cell k)
+      ∙ ap (λ (b : Bool). when b then v else place (base + k)) (same-cell k)
 
   pub words_now : cells_at n (from base now) ≡ set (cells_at n (from base place)) i v
   words_now = cells_same n _ _ in_cell ∙ cell_written n (from base place) i v named
@@ -112,7 +112,7 @@ module _ (w : List ℕ) (whole : length w ≡ 96) (i v x y on count : ℕ) (e : 
 
   pub transmit_pushed : i < capacity → i ≡ cell (engine_in w).transmit.write.0 →
       Steps (λ _ n. with_transmit (pushed v on count n.transmit) n) w (writes w (ring_writes 24 i v x y))
-  unfolding if◌then◌else◌ settings_in engine_in
+  unfolding when◌then◌else◌ settings_in engine_in
   transmit_pushed named there =
       let still = kept (place_in w) 24 capacity i v x y named (omega arith) in
       let words = words_now (place_in w) 24 capacity i v x y named (omega arith) in
@@ -136,7 +136,7 @@ module _ (w : List ℕ) (whole : length w ≡ 96) (i v x y on count : ℕ) (e : 
 
   pub receive_arrived : i < capacity → i ≡ cell (engine_in w).receive.write.0 →
       Steps (λ _ n. with_receive (arrived v on count n.receive) n) w (writes w (ring_writes 44 i v x y))
-  unfolding if◌then◌else◌ settings_in engine_in
+  unfolding when◌then◌else◌ settings_in engine_in
   receive_arrived named there =
       let still = kept (place_in w) 44 capacity i v x y named (omega arith) in
       let words = words_now (place_in w) 44 capacity i v x y named (omega arith) in

@@ -2,7 +2,8 @@
 --     engine_step_lem   writes that leave the settings are a step of the engine
 --     settings_set  writes that leave the engine are a change of settings
 -- Assumes nothing.
-use Rattle.laws.proofs.Common.{ℕ, true, List, ◌≡◌, ◌∙◌, length}
+use Rattle.std.specs.Prelude.{◌≡◌}
+use Rattle.laws.proofs.Common.{ℕ, true, List, ◌∙◌, length}
 use Rattle.laws.specs.Writes.{Write, writes}
 use Rattle.laws.proofs.Stored.{after, within, in_memory, reads_after}
 use Rattle.module_rules.proofs.Types.{Settings, Engine}

@@ -5,7 +5,8 @@
 --     made     settings and then an engine make a module
 --     module_after   the module after a step
 -- Assumes nothing.
-use Rattle.laws.proofs.Common.{ℕ, List, ◌≡◌, refl, ◌∙◌, ap}
+use Rattle.std.specs.Prelude.{◌≡◌}
+use Rattle.laws.proofs.Common.{ℕ, List, refl, ◌∙◌, ap}
 use Rattle.module_rules.proofs.Types.{Settings, Engine, Module}
 use Rattle.module_memory.specs.Memory.{settings_in, engine_in, module_in, Steps, Sets}
 

@@ -1,7 +1,7 @@
 -- A module in memory: which of 96 numbers of 16 bits holds what. Any numbers hold a module: a flag or a level is a number's
 -- lowest bit, a byte its low 8 bits. Numbers that nothing here names are spare.
-use Rattle.std.specs.Prelude.{ℕ, zero, suc, ◌+◌, ◌%◌, Bool, true, List, [], ◌∷◌, ◌≡◌, eqb, get_or, set}
-use Rattle.laws.specs.Choice.{if◌then◌else◌}
+use Rattle.std.specs.Prelude.{ℕ, zero, suc, ◌+◌, ◌%◌, Bool, List, [], ◌∷◌, ◌≡◌, eqb, get_or, set}
+use Rattle.laws.specs.Choice.{when◌then◌else◌}
 use Rattle.word_order.specs.Bits.{bit_of}
 use Rattle.module_types.specs.declared.Con1.{Con1}
 use Rattle.module_types.specs.declared.Depth.{Depth}
@@ -46,7 +46,7 @@ con1_at place =
 -- The depth (document 02, Twelve): 4 and 16 are those, and any other number is 8. So zeros are a module at power-up, and memory from before
 -- there were depths holds the same module as then.
 unfoldable pub depth_in : ℕ → Depth
-depth_in x = if eqb x 4 then Four else if eqb x 16 then Sixteen else Eight
+depth_in x = when eqb x 4 then Four else when eqb x 16 then Sixteen else Eight
 
 -- The registers as last written: STAT at place 0, CON1 at place 2, CON2 at place 5; and the depth at place 6.
 abbrev pub settings_at : (ℕ → ℕ) → Settings
@@ -100,8 +100,8 @@ progress_at place =
 -- The shift register: 0 is free, 1 is loaded, anything else is begun.
 abbrev pub shift_at : (ℕ → ℕ) → Shift
 shift_at place =
-    if eqb (place 64) 0 then Free
-    else if eqb (place 64) 1 then Loaded (place 66)
+    when eqb (place 64) 0 then Free
+    else when eqb (place 64) 1 then Loaded (place 66)
     else Begun (progress_at place)
 
 abbrev pub pins_at : (ℕ → ℕ) → Pins

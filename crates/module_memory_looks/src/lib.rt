@@ -1,4 +1,6 @@
 // A module in memory: 96 numbers of 16 bits that a caller holds. Any numbers are read as some module, and a look reads a part of it.
+#![tactic(auto)]
+
 ghost use Rattle.std.specs.Prelude.{◌+◌, ◌≤◌, ◌≡◌};
 ghost use Rattle.module_types.specs.declared.Shift.TheVariants.{Free, Loaded, Begun};
 ghost use Rattle.module_rules.specs.Settings.{depth_of};

@@ -1,4 +1,6 @@
 // Stores to a module in memory: each puts a part into it and leaves all else. Power-up, and the memory of a module, are made of them.
+#![tactic(auto)]
+
 ghost use Rattle.std.specs.Prelude.{◌+◌, ◌≤◌, true, ◌≡◌, length};
 ghost use Rattle.module_types.specs.declared.Shift.TheVariants.{Free, Loaded, Begun};
 ghost use Rattle.module_rules.specs.Changes.{with_transmit, with_receive, with_shift, with_sck, with_ss, with_sdo, with_pulse, with_spirov, with_interrupt};

@@ -10,8 +10,9 @@
 --     ticks_within, tick_shortly, pins_shortly
 --                        what a tick and a pin call answer there
 -- Assumes nothing.
-use Rattle.laws.proofs.Common.{ℕ, ◌+◌, ◌<◌, Bool, true, false, not, ◌&&◌, Bool·beq, List, ◌≡◌, refl, sym, ap, subst, ◌∙◌}
-use Rattle.laws.proofs.Common.{arith, ne_eqb, not-true, if◌then◌else◌, if_keeps, if_false, and_left, and_right, and-false}
+use Rattle.std.specs.Prelude.{◌+◌, ◌<◌, ◌&&◌, ◌≡◌}
+use Rattle.laws.proofs.Common.{ℕ, Bool, true, false, not, Bool·beq, List, refl, sym, ap, subst, ◌∙◌}
+use Rattle.laws.proofs.Common.{arith, ne_eqb, not-true, when◌then◌else◌, if_keeps, if_false, and_left, and_right, and-false}
 use Rattle.laws.proofs.Common.{and_first, clash, so_lt}
 use Rattle.module_rules.proofs.Types.{Settings, Progress, Shift, Free, Loaded, Begun, Engine, Outcome, Answer, Done, Edge}
 use Rattle.module_rules.specs.Changes.{with_pulse}
@@ -105,24 +106,24 @@ module _ (s : Settings) (sck sdi : Bool) (p : Progress) (n : Engine) (host : s.c
       if_keeps (λ (b : Bool). b ≡ false) s.con2.frmdly _ _ (λ _. ne_eqb (p.edges + 1) 1 (λ e. omega arith))
       (λ _. and_first _ _ (ne_eqb (p.edges + 1 + 1) (word_edges s) (λ e. omega arith)))
 
-  pulse-ends : pulse_after s sck (shifted s sdi p n) ≡ (if Bool·beq sck s.con1.ckp then n.pins.pulse else false)
+  pulse-ends : pulse_after s sck (shifted s sdi p n) ≡ (when Bool·beq sck s.con1.ckp then n.pins.pulse else false)
   unfolding pulse_after shifted
   pulse-ends =
       let kept = if_false s.con2.spifsd (active s n.pins.ss && false) n.pins.pulse host in
       let over = and-false (not s.con2.spifsd) _ (none_due n.transmit.count) in
-      λ j. if Bool·beq sck s.con1.ckp then kept j else over j
+      λ j. when Bool·beq sck s.con1.ckp then kept j else over j
 
 pub host_ends : (w : List ℕ) (sck sdi : Bool) → Midword w → frame_host (settings_in w) ≡ true →
     0 < (progress_at (place_in w)).edges → (progress_at (place_in w)).edges + 2 < word_edges (settings_in w) →
-    with_pulse (if Bool·beq sck (settings_in w).con1.ckp then (edge_advanced (settings_in w) sck sdi (engine_in w)).pins.pulse else false) (edge_advanced (settings_in w) sck sdi (engine_in w))
+    with_pulse (when Bool·beq sck (settings_in w).con1.ckp then (edge_advanced (settings_in w) sck sdi (engine_in w)).pins.pulse else false) (edge_advanced (settings_in w) sck sdi (engine_in w))
     ≡ edge_counted (settings_in w) sck sdi (engine_in w)
 unfolding shifted
 host_ends w sck sdi mid host some few =
     let s = settings_in w in
     let x = edge_advanced s sck sdi (engine_in w) in
     let alone = not-true _ (and_right s.con2.frmen _ host) in
-    let ends : pulse_after s sck x ≡ (if Bool·beq sck s.con1.ckp then x.pins.pulse else false) =
-    subst (λ (y : Engine). pulse_after s sck y ≡ (if Bool·beq sck s.con1.ckp then y.pins.pulse else false)) (mid_edge w sck sdi mid)
+    let ends : pulse_after s sck x ≡ (when Bool·beq sck s.con1.ckp then x.pins.pulse else false) =
+    subst (λ (y : Engine). pulse_after s sck y ≡ (when Bool·beq sck s.con1.ckp then y.pins.pulse else false)) (mid_edge w sck sdi mid)
     (pulse-ends s sck sdi (progress_at (place_in w)) (clocked sck (engine_in w)) alone some few) in
     ap (λ (b : Bool). with_pulse b x) (sym ends) ∙ ends_framed s sck sdi (engine_in w) refl (and_left s.con2.frmen _ host)
 
@@ -140,9 +141,9 @@ ticks_within {a} on sdi ss own deaf begun step = tick_answers on sdi ss own deaf
 -- The short way of either kind is a clock step's.
 module _ {a b : List ℕ} {made : Bool} (on : (settings_in a).spien ≡ true) (sck sdi ss : Bool) where
   pub own_shortly : own_clock (settings_in a) ≡ true →
-      Shortens (λ s n. if true then turned s sdi n else stepped s (levels sck sdi ss) n) made a b →
+      Shortens (λ s n. when true then turned s sdi n else stepped s (levels sck sdi ss) n) made a b →
       Shortly (clock_step_of (module_in a) sck sdi ss) Done made a b
-  unfolding if◌then◌else◌
+  unfolding when◌then◌else◌
   own_shortly own h =
       record {
         taken = λ e. own_answers on sck sdi ss own (and_first _ _ (h.plain e)) (begun_busy (engine_in a).shift (h.begun e)) (h.steps e);
@@ -151,9 +152,9 @@ module _ {a b : List ℕ} {made : Bool} (on : (settings_in a).spien ≡ true) (s
       }
 
   pub pin_shortly : own_clock (settings_in a) ≡ false →
-      Shortens (λ s n. if false then turned s sdi n else stepped s (levels sck sdi ss) n) made a b →
+      Shortens (λ s n. when false then turned s sdi n else stepped s (levels sck sdi ss) n) made a b →
       Shortly (clock_step_of (module_in a) sck sdi ss) Done made a b
-  unfolding if◌then◌else◌
+  unfolding when◌then◌else◌
   pin_shortly pin h =
       record { taken = λ e. pin_answers on sck sdi ss pin (h.steps e); goes = h.goes; left = h.left }
 

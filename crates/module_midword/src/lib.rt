@@ -1,8 +1,10 @@
 // The short way: an edge within a begun word, which it does not finish. It samples SDI or changes SDO, and no buffer is looked at. Each call
 // here tells whether it was made; if not, memory is as it was.
+#![tactic(auto)]
+
 ghost use Rattle.std.specs.Prelude.{true, false, ◌≡◌};
 ghost use Rattle.std.specs.Bool.{beq};
-ghost use Rattle.laws.specs.Choice.{if◌then◌else◌};
+ghost use Rattle.laws.specs.Choice.{when◌then◌else◌};
 ghost use Rattle.module_types.specs.declared.Answer.TheVariants.{Done, Edge};
 ghost use Rattle.module_rules.specs.Changes.{with_pulse};
 ghost use Rattle.module_rules.specs.Settings.{own_clock};
@@ -51,7 +53,7 @@ fn go_within(w: &mut [u16; 96], sck: bool, sdi: bool)
 // The levels SCK, SDI and SS are given to an unframed module, as a tick if it has its own clock and else as a pin call: if they
 // make an edge within a word and no select acts, it is made. Whether it was.
 pub fn within(w: &mut [u16; 96], own: bool, sck: bool, sdi: bool, ss: bool) -> bool
-    ensures { Shortens (λ s n. if own then turned s sdi n else stepped s (levels sck sdi ss) n) result w.old w.new }
+    ensures { Shortens (λ s n. when own then turned s sdi n else stepped s (levels sck sdi ss) n) result w.old w.new }
 {
     let s = module_memory_looks::settings_in(w);
     let pins = module_memory_looks::pins_in(w);
@@ -150,7 +152,7 @@ pub fn tick_within(w: &mut [u16; 96], sdi: bool, ss: bool) -> bool
 
 // A frame host's pulse after an edge to the level `sck` at which it gives none: at the active level it ends.
 fn end_pulse(w: &mut [u16; 96], sck: bool)
-    ensures { Steps (λ s n. with_pulse (if beq sck s.con1.ckp then n.pins.pulse else false) n) w.old w.new }
+    ensures { Steps (λ s n. with_pulse (when beq sck s.con1.ckp then n.pins.pulse else false) n) w.old w.new }
 {
     let s = module_memory_looks::settings_in(w);
     if sck == s.con1.ckp {

@@ -1,5 +1,7 @@
 // Reads and writes of the registers of one module in memory, the clear call and power-up at a depth. Any numbers are answered, and a refused
 // call leaves every number as it was.
+#![tactic(auto)]
+
 ghost use Rattle.std.specs.Prelude.{true, false, ◌≡◌};
 ghost use Rattle.module_types.specs.declared.Answer.TheVariants.{Done};
 ghost use Rattle.module_rules.specs.Registers.{con1_from, con2_from, stat_value};

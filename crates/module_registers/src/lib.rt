@@ -1,6 +1,8 @@
 // The registers by their bits: what CON1 and CON2 take from a value, and what STAT, CON1 and CON2 show.
+#![tactic(auto)]
+
 ghost use Rattle.std.specs.Prelude.{◌≡◌, ◌≤◌};
-ghost use Rattle.laws.specs.Choice.{if◌then◌else◌};
+ghost use Rattle.laws.specs.Choice.{when◌then◌else◌};
 ghost use Rattle.module_types.specs.declared.Module.{Module};
 ghost use Rattle.module_rules.specs.Registers.{weighed, con1_from, con1_value, con2_from, con2_value, at_most7, stat_value};
 ghost use Rattle.module_registers.specs.Shown.{enhanced_shown, Shows};
@@ -83,7 +85,7 @@ fn at_most_7(count: u8) -> u8
 
 // SPIBEC in enhanced operation: the words that wait (host) or are unread (client).
 fn spibec_value(s: Settings, waiting: u8, unread: u8) -> u8
-    ensures value { result ≡ at_most7 (if s.con1.msten then waiting else unread) }
+    ensures value { result ≡ at_most7 (when s.con1.msten then waiting else unread) }
     ensures bound { result ≤ 7 }
 {
     if s.con1.msten {

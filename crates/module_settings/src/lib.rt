@@ -1,4 +1,6 @@
 // What the settings decide by themselves: width, depth, role, and why it cannot be enabled.
+#![tactic(auto)]
+
 ghost use Rattle.std.specs.Prelude.{◌≡◌};
 ghost use Rattle.module_rules.specs.Settings.{width_of, words_of, depth_of, framed, frame_host, frame_client, cke_of, silent, ssen_client, own_clock};
 ghost use Rattle.module_rules.specs.Select.{deselected};

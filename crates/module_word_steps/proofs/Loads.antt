@@ -2,7 +2,8 @@
 --     busy_waits, none_waits_lem, kept_back, loads    the first waiting word
 --     early_stays, begun_stays, rests             the level of SDO
 -- Assumes nothing.
-use Rattle.laws.proofs.Common.{ℕ, Bool, true, false, not, ◌&&◌, ◌≡◌, refl, ap, ne_eqb, eqb, so, not_so, and_both, and-false}
+use Rattle.std.specs.Prelude.{◌≡◌}
+use Rattle.laws.proofs.Common.{ℕ, Bool, true, false, not, refl, ap, ne_eqb, eqb, so, not_so, and_both, and-false}
 use Rattle.laws.proofs.Common.{and_first}
 use Rattle.module_rules.proofs.Types.{Settings, Engine}
 use Rattle.module_rules.specs.Settings.{ssen_client, cke_of}

@@ -4,7 +4,8 @@
 --     noting                a flag that is raised by what the event raises
 --     stands, still         the settings and the depth that a step is handed, behind another step: no step changes them
 -- Assumes nothing.
-use Rattle.laws.proofs.Common.{ℕ, Bool, true, false, ◌||◌, List, ◌≡◌, refl, sym, ◌∙◌, ap, so, not_so}
+use Rattle.std.specs.Prelude.{◌||◌, ◌≡◌}
+use Rattle.laws.proofs.Common.{ℕ, Bool, true, false, List, refl, sym, ◌∙◌, ap, so, not_so}
 use Rattle.module_rules.proofs.Types.{Settings, Engine, Event}
 use Rattle.module_rules.specs.Changes.{with_interrupt}
 use Rattle.module_rules.specs.Settings.{depth_of}

@@ -3,7 +3,8 @@
 --     arrived_appended, fetched_taken    the receive buffer
 --     full_stays, none_departs, full_keeps, none_taken   buffers that stay as they are
 -- Assumes nothing.
-use Rattle.laws.proofs.Common.{ℕ, ◌+◌, ◌-◌, ◌<◌, ◌≤◌, ◌≡◌, refl, arith, so_le, not_so_le, so_eq, not_so_eq}
+use Rattle.std.specs.Prelude.{◌+◌, ◌-◌, ◌<◌, ◌≤◌, ◌≡◌}
+use Rattle.laws.proofs.Common.{ℕ, refl, arith, so_le, not_so_le, so_eq, not_so_eq}
 use Rattle.module_rules.proofs.Types.{Transmit, Receive}
 use Rattle.ring.specs.Ring.{next}
 use Rattle.module_rules.specs.Buffers.{written, departed, appended, taken}

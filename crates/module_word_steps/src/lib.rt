@@ -1,5 +1,7 @@
 // A word between the edges, in memory: it is written, loads, is finished, is read, and what SDO shows meanwhile. Only the
 // parts that a step changes are stored.
+#![tactic(auto)]
+
 ghost use Rattle.std.specs.Prelude.{◌||◌, ◌≡◌};
 ghost use Rattle.module_types.specs.declared.Event.TheVariants.{Taken, Appended, Left, Finished, Written};
 ghost use Rattle.module_rules.specs.Changes.{with_transmit, with_receive, with_interrupt};

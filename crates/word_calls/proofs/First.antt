@@ -3,7 +3,8 @@
 --     levels_late, levels_early   the levels with CKE 0, and with CKE 1
 --     first_told   what is stored and told is what the definition has
 -- Assumes nothing.
-use Rattle.laws.proofs.Common.{ℕ, ◌+◌, ◌*◌, ◌-◌, ◌%◌, ◌^◌, ◌<◌, ◌≤◌, Bool, true, false, List, ◌≡◌, refl, sym, ◌∙◌, mod-lt}
+use Rattle.std.specs.Prelude.{◌+◌, ◌*◌, ◌-◌, ◌%◌, ◌^◌, ◌<◌, ◌≤◌, ◌≡◌}
+use Rattle.laws.proofs.Common.{ℕ, Bool, true, false, List, refl, sym, ◌∙◌, mod-lt}
 use Rattle.laws.proofs.Common.{arith, clash, so, not_so}
 use mir.Val.{bool_byte}
 use lib.Pow.{pow_mono}

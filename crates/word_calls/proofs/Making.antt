@@ -10,8 +10,9 @@
 --     next_is                   the word that would go out next
 --     owes_some, owed_fits      the edges owed
 -- Assumes nothing.
-use Rattle.laws.proofs.Common.{ℕ, ◌+◌, ◌*◌, ◌-◌, ◌/◌, ◌%◌, ◌^◌, ◌<◌, ◌≤◌, Bool, true, false, not, ◌&&◌, List, ◌≡◌, refl, sym}
-use Rattle.laws.proofs.Common.{ap, ◌∙◌, mul-le-mul, arith, ltb, if◌then◌else◌, if_keeps, if_true, if_false, if_not, so}
+use Rattle.std.specs.Prelude.{◌+◌, ◌*◌, ◌-◌, ◌/◌, ◌%◌, ◌^◌, ◌<◌, ◌≤◌, ◌&&◌, ◌≡◌}
+use Rattle.laws.proofs.Common.{ℕ, Bool, true, false, not, List, refl, sym}
+use Rattle.laws.proofs.Common.{ap, ◌∙◌, mul-le-mul, arith, ltb, when◌then◌else◌, if_keeps, if_true, if_false, if_not, so}
 use mir.Val.{bool_byte}
 use Rattle.laws.proofs.Keeps.{if_and}
 use Rattle.module_rules.proofs.Types.{Settings, Engine, Module, Progress, Answer, Done, Outcome}
@@ -50,7 +51,7 @@ module _ (s : Settings) (p : Progress) (left : ℕ) (is : left ≡ bits_left s p
 
 -- How many bits are sampled, without a choice.
 pub sampled_sum : (cke : Bool) (k : ℕ) → (k + bool_byte cke) / 2 ≡ bits_sampled cke k
-unfolding bits_sampled if◌then◌else◌
+unfolding bits_sampled when◌then◌else◌
 sampled_sum true k = refl
 sampled_sum false k = omega arith
 
@@ -96,9 +97,9 @@ pub speaks : {o : Worded} {a : Answer} {n v : ℕ} {m : Module} {before after : 
 speaks e holds untouched = speaks_as e (record { answer = refl; count = refl; levels = refl; holds = holds; untouched = untouched })
 
 one_by_one : (on frames rests short : Bool) →
-    (if not on then false else if frames then false else if rests then false else short)
+    (when not on then false else when frames then false else when rests then false else short)
     ≡ ((on && not frames) && (not rests && short))
-unfolding if◌then◌else◌
+unfolding when◌then◌else◌
 one_by_one true true rests short = refl
 one_by_one true false true short = refl
 one_by_one true false false short = refl
@@ -108,9 +109,9 @@ one_by_one false frames rests short = refl
 module _ (m : Module) (ss : Bool) where
   pub has_word_is : {r : Bool} →
       r
-      ≡ (if not m.settings.spien then false
-      else if framed m.settings then false
-      else if resting m.settings ss m.engine then false
+      ≡ (when not m.settings.spien then false
+      else when framed m.settings then false
+      else when resting m.settings ss m.engine then false
       else ltb (current m.settings m.engine).edges (word_edges m.settings)) →
       r ≡ has_word m ss
   unfolding has_word
@@ -124,8 +125,8 @@ module _ (m : Module) (ss : Bool) where
 -- One step, and the level of SCK in it.
 pub step_level_is : (m : Module) (ss : Bool) {r : Bool} →
     r
-    ≡ (if framed m.settings then not m.engine.pins.sck
-    else if resting m.settings ss m.engine then m.engine.pins.sck
+    ≡ (when framed m.settings then not m.engine.pins.sck
+    else when resting m.settings ss m.engine then m.engine.pins.sck
     else not m.engine.pins.sck) →
     r ≡ step_level m ss
 unfolding step_level
@@ -158,14 +159,14 @@ told_so h e =
 
 -- The word that would go out next, test by test.
 one_of_three : (on rests filler : Bool) (x y : ℕ) →
-    (if not on then y else if rests then y else if filler then y else x) ≡ (if on && (not rests && not filler) then x else y)
+    (when not on then y else when rests then y else when filler then y else x) ≡ (when on && (not rests && not filler) then x else y)
 one_of_three on rests filler x y = sym (simp (if_and, if_not))
 
 pub next_is : (m : Module) {r : ℕ} →
     r
-    ≡ (if not m.settings.spien then 0
-    else if silent m.settings && is_free m.engine.shift then 0
-    else if (current m.settings m.engine).filler then 0
+    ≡ (when not m.settings.spien then 0
+    else when silent m.settings && is_free m.engine.shift then 0
+    else when (current m.settings m.engine).filler then 0
     else 65536 + (current m.settings m.engine).word) →
     r ≡ next_number m
 unfolding next_number sends_next

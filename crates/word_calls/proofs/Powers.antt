@@ -2,7 +2,8 @@
 --     unit_least, unit-most          1 shifted by up to 16 places
 --     product_fits, sum_fits         a number of 16 bits times it, and the low bits of another behind that
 -- Assumes nothing.
-use Rattle.laws.proofs.Common.{ℕ, ◌+◌, ◌*◌, ◌%◌, ◌^◌, ◌<◌, ◌≤◌, ◌≡◌, ap, mul-le-mul, mod-lt, arith}
+use Rattle.std.specs.Prelude.{◌+◌, ◌*◌, ◌%◌, ◌^◌, ◌<◌, ◌≤◌, ◌≡◌}
+use Rattle.laws.proofs.Common.{ℕ, ap, mul-le-mul, mod-lt, arith}
 use lib.Pow.{pow_pos, pow_mono}
 use Rattle.module_rules.proofs.Sizes.{one_shifted}
 

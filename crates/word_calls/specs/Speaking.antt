@@ -1,6 +1,6 @@
 -- What a word call on a module in memory comes to.
 use Rattle.std.specs.Prelude.{ℕ, ◌+◌, ◌*◌, ◌%◌, true, List, ◌≡◌}
-use Rattle.laws.specs.Choice.{if◌then◌else◌}
+use Rattle.laws.specs.Choice.{when◌then◌else◌}
 use Rattle.module_types.specs.declared.Module.{Module}
 use Rattle.module_types.specs.declared.Answer.{Answer}
 use Rattle.module_types.specs.declared.Answer.TheVariants.{Refused, Done, Value, NoEdge, Edge}
@@ -35,4 +35,4 @@ pub record WordTells (o : Worded) (r : ℕ) (before after : List ℕ) : Type 0 w
 
 -- The word that would go out next, with bit 16 set; 0 if there is none.
 unfoldable pub next_number : Module → ℕ
-next_number m = if sends_next m then 65536 + (current m.settings m.engine).word else 0
+next_number m = when sends_next m then 65536 + (current m.settings m.engine).word else 0

@@ -1,5 +1,7 @@
 // A word at a time, over a module in memory: all edges of the word under way, or of the next one, are made at once where the definition makes
 // them one by one. Any numbers are answered.
+#![tactic(auto)]
+
 ghost use Rattle.std.specs.Prelude.{◌+◌, ◌*◌, ◌%◌, ◌^◌, ◌<◌, ◌≤◌, true, false, ◌≡◌};
 ghost use Rattle.word_order.specs.Bits.{bit_of};
 ghost use Rattle.module_types.specs.declared.Shift.TheVariants.{Free};
@@ -15,7 +17,7 @@ ghost use Rattle.word_calls.specs.Speaking.{Speaks, word_number, WordTells, next
 use module_types::{Answer, Progress, Settings, Shift};
 
 // What a word call answers: as its first clock step does, how many levels SDO had where it is sampled, and those levels as a number.
-#[derive(Drop)]
+#[derive(Clone, Copy)]
 pub struct Spoken {
     pub answer: Answer,
     pub count: u8,

@@ -1,0 +1,31 @@
+-- The registers are tested in the order of the definition.
+use Rattle.laws.proofs.Common.{refl, so_lt, not_so_lt, so_eq, not_so_eq}
+use Rattle.module_rules.specs.Calls.{refuse, write_of}
+use Rattle.module_answers.proofs.Answers.{kept, likewise}
+use Rattle.module_register_calls.proofs.write.Goals as goal
+
+pub returns-then-register-gt3 : goal.returns-then-register-gt3
+unfolding write_of refuse
+returns-then-register-gt3 c = kept (so_lt _ _ _ _ c.if-register-gt3.true refl)
+
+pub returns-then-register-eq0 : goal.returns-then-register-eq0
+unfolding write_of
+returns-then-register-eq0 c =
+    likewise c.write_stat.ensures (not_so_lt _ _ _ _ c.if-register-gt3.false (so_eq _ _ _ _ c.if-register-eq0.true refl))
+
+pub returns-then-register-eq1 : goal.returns-then-register-eq1
+unfolding write_of
+returns-then-register-eq1 c =
+    likewise c.write_con1.ensures (not_so_lt _ _ _ _ c.if-register-gt3.false (not_so_eq _ _ _ _ c.if-register-eq0.false (so_eq _ _ _ _ c.if-register-eq1.true refl)))
+
+pub returns-then-register-eq2 : goal.returns-then-register-eq2
+unfolding write_of
+returns-then-register-eq2 c =
+    likewise c.write_con2.ensures
+    (not_so_lt _ _ _ _ c.if-register-gt3.false (not_so_eq _ _ _ _ c.if-register-eq0.false (not_so_eq _ _ _ _ c.if-register-eq1.false (so_eq _ _ _ _ c.if-register-eq2.true refl))))
+
+pub returns : goal.returns
+unfolding write_of
+returns c =
+    likewise c.write_buf.ensures
+    (not_so_lt _ _ _ _ c.if-register-gt3.false (not_so_eq _ _ _ _ c.if-register-eq0.false (not_so_eq _ _ _ _ c.if-register-eq1.false (not_so_eq _ _ _ _ c.if-register-eq2.false refl))))

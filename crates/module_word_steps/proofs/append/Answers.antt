@@ -1,0 +1,22 @@
+-- The branch is the choice of the definition.
+use Rattle.std.specs.Prelude.{◌+◌}
+use Rattle.laws.proofs.Common.{ap, arith, ℕ}
+use Rattle.module_types.specs.declared.Receive.{Receive}
+use Rattle.module_rules.specs.Changes.{with_receive}
+use Rattle.module_rules.specs.Settings.{depth_of}
+use Rattle.module_memory.specs.Memory.{settings_in, engine_in}
+use Rattle.module_memory.proofs.Taken.{alike, stays}
+use Rattle.module_word_steps.proofs.Rings.{arrived_appended, full_keeps}
+use Rattle.module_word_steps.proofs.append.Goals as goal
+
+pub returns-then-count-depth : goal.returns-then-count-depth
+returns-then-count-depth c =
+    let n = engine_in c.args.w.now in
+    alike c.store_appended.ensures
+    (ap (λ (b : Receive). with_receive b n)
+    (arrived_appended (depth_of (settings_in c.args.w.now)) n.receive c.args.word _ _ (omega arith) (rw (c.requires, c.spi_write_in-at.ensures) at c.next_position-on.ensures) (ap (λ (x : ℕ). x + 1) c.unread_in-count.ensures)))
+
+pub returns-else-count-depth : goal.returns-else-count-depth
+returns-else-count-depth c =
+    let n = engine_in c.args.w.now in
+    stays (ap (λ (b : Receive). with_receive b n) (full_keeps (depth_of (settings_in c.args.w.now)) n.receive c.args.word (omega arith)))
