@@ -1,13 +1,14 @@
 -- The calls on a card in memory, by the numbers that they find and write: each law is one way through a call.
 -- Assumes nothing.
-use Rattle.laws.proofs.Common.{ℕ, ◌+◌, ◌*◌, ◌-◌, ◌/◌, ◌%◌, ◌≤◌, ◌<◌, Bool, true, false, not, ◌&&◌, ◌||◌, List, [], ◌∷◌, ◌≡◌}
-use Rattle.laws.proofs.Common.{refl, sym, ap, subst, ◌∙◌, arith, eqb-true, eqb, ltb, length, get_or, set, if◌then◌else◌}
+use Rattle.std.specs.Prelude.{◌+◌, ◌*◌, ◌-◌, ◌/◌, ◌%◌, ◌≤◌, ◌<◌, ◌&&◌, ◌||◌, ◌∷◌, ◌≡◌}
+use Rattle.laws.proofs.Common.{ℕ, Bool, true, false, not, List, []}
+use Rattle.laws.proofs.Common.{refl, sym, ap, subst, ◌∙◌, arith, eqb-true, eqb, ltb, length, get_or, set, when◌then◌else◌}
 use Rattle.laws.proofs.Common.{if_keeps, and_left, and_right, clash}
 use Rattle.ring.specs.Ring.{contents}
 use Rattle.card_rules.specs.Settings.{Protocol, named, Settings, shape_of}
 use Rattle.card_rules.specs.Card.{Card, with_waiting, with_unread, emptied}
 use Rattle.card_rules.specs.Edge.{is_full}
-use Rattle.card_rules.specs.Calls.{Refusal, isDisabled, isEnabled, transmit_full, receiveEmpty, notNamed, refuse, doing, number_of, resting_pins, set_protocol_of, set_length_of, enable_of, disable_of, sample_of, write_of, read_from, read_of, clear_underrun_of, clear_overflow_of}
+use Rattle.card_rules.specs.Calls.{Refusal, is_disabled, is_enabled, transmit_full, receive_empty, not_named, refuse, doing, number_of, resting_pins, set_protocol_of, set_length_of, enable_of, disable_of, sample_of, write_of, read_from, read_of, clear_underrun_of, clear_overflow_of}
 use Rattle.card.specs.Memory.{bit_in, byte_in, protocol_in, bits_in, frame_in, length_number, settings_from, from, cells_at, count_in, samples_at, engine_at, engine_in, head_at, head_in, place_in, card_in}
 use Rattle.laws.specs.Writes.{at}
 use Rattle.card.specs.Answered.{Tells}
@@ -52,21 +53,21 @@ module _ (w : List ℕ) where
 
   -- The flags.
   pub underrun_cleared : length w ≡ 40 → card_in (set w 11 0) ≡ (clear_underrun_of (card_in w)).after
-  unfolding if◌then◌else◌ bit_in samples_at head_in engine_in clear_underrun_of
+  unfolding when◌then◌else◌ bit_in samples_at head_in engine_in clear_underrun_of
   underrun_cleared n = card_wrote w (at 11 0 ∷ []) n refl
 
   pub overflow_cleared : length w ≡ 40 → card_in (set w 12 0) ≡ (clear_overflow_of (card_in w)).after
-  unfolding if◌then◌else◌ bit_in samples_at head_in engine_in clear_overflow_of
+  unfolding when◌then◌else◌ bit_in samples_at head_in engine_in clear_overflow_of
   overflow_cleared n = card_wrote w (at 12 0 ∷ []) n refl
 
   -- Settings while enabled.
   pub protocol_refused : (p : Protocol) → place_in w 0 % 2 ≡ 1 → Tells (set_protocol_of (card_in w) p) 12884901888 w w
   unfolding set_protocol_of
-  protocol_refused p e = tells_so (head_in w).enabled _ _ (on_if e) (refusing isEnabled w 12884901888 refl)
+  protocol_refused p e = tells_so (head_in w).enabled _ _ (on_if e) (refusing is_enabled w 12884901888 refl)
 
   pub length_refused : (bits frame : ℕ) → place_in w 0 % 2 ≡ 1 → Tells (set_length_of (card_in w) bits frame) 12884901888 w w
   unfolding set_length_of
-  length_refused bits frame e = tells_so (head_in w).enabled _ _ (on_if e) (refusing isEnabled w 12884901888 refl)
+  length_refused bits frame e = tells_so (head_in w).enabled _ _ (on_if e) (refusing is_enabled w 12884901888 refl)
 
   -- Enabling what is enabled, and disabling what is disabled.
   pub enabled_already : place_in w 0 % 2 ≡ 1 → Tells (enable_of (card_in w)) 0 w w
@@ -80,11 +81,11 @@ module _ (w : List ℕ) where
   -- Samples of a disabled card.
   pub write_disabled : (v : ℕ) → place_in w 0 % 2 ≡ 0 → Tells (write_of (card_in w) v) 8589934592 w w
   unfolding write_of
-  write_disabled v e = tells_so (not (head_in w).enabled) _ _ (off_unless e) (refusing isDisabled w 8589934592 refl)
+  write_disabled v e = tells_so (not (head_in w).enabled) _ _ (off_unless e) (refusing is_disabled w 8589934592 refl)
 
   pub read_disabled : place_in w 0 % 2 ≡ 0 → Tells (read_of (card_in w)) 8589934592 w w
   unfolding read_of
-  read_disabled e = tells_so (not (head_in w).enabled) _ _ (off_unless e) (refusing isDisabled w 8589934592 refl)
+  read_disabled e = tells_so (not (head_in w).enabled) _ _ (off_unless e) (refusing is_disabled w 8589934592 refl)
 
   -- A full buffer, and an empty one.
   pub write_full : (v : ℕ) → (place_in w 0 % 2 ≡ 0 → ⊥) → 8 ≤ place_in w 14 → Tells (write_of (card_in w) v) 21474836480 w w
@@ -99,7 +100,7 @@ module _ (w : List ℕ) where
   read_empty on none =
       tells_not (not (head_in w).enabled) _ _ (on_unless on)
       (subst (λ (q : List ℕ). Tells (read_from (card_in w) q) 25769803776 w w)
-      (sym (samples_none (place_in w 15) (place_in w 16) (from 32 (place_in w)) none)) (refusing receiveEmpty w 25769803776 refl))
+      (sym (samples_none (place_in w 15) (place_in w 16) (from 32 (place_in w)) none)) (refusing receive_empty w 25769803776 refl))
 
 -- The settings in a number.
 pub protocol_low : (x y : ℕ) → x % 4 ≡ y % 4 → protocol_in x ≡ protocol_in y
@@ -115,7 +116,7 @@ abbrev set_to : List ℕ → Settings → Card
 set_to w s = record { enabled = (head_in w).enabled; settings = s; engine = engine_in w }
 
 settings_read : (w : List ℕ) → length w ≡ 40 → (x : ℕ) → card_in (set w 1 x) ≡ set_to w (settings_from x)
-unfolding if◌then◌else◌ bit_in samples_at head_in engine_in
+unfolding when◌then◌else◌ bit_in samples_at head_in engine_in
 settings_read w n x = card_wrote w (at 1 x ∷ []) n refl
 
 pub protocol_done : (w : List ℕ) (p : ℕ) → length w ≡ 40 → (place_in w 0 % 2 ≡ 1 → ⊥) →
@@ -147,7 +148,7 @@ no_frame a true g x z = rw (x, z)
 no_frame a false g x z = rw x
 
 length_is : (bits frame : ℕ) → Length bits frame (length_number bits frame)
-unfolding length_number named bits_in frame_in if◌then◌else◌
+unfolding length_number named bits_in frame_in when◌then◌else◌
 length_is bits frame =
     if_keeps (Length bits frame) (eqb bits 16 && eqb frame 32) _ _
     (λ e. is_named bits frame 0 16 32 (omega arith) (and_left (eqb bits 16) _ e) (and_right (eqb bits 16) _ e) refl (λ x h. length_high x 0 h))
@@ -170,7 +171,7 @@ pub length_unnamed : (w : List ℕ) (bits frame : ℕ) → (place_in w 0 % 2 ≡
 unfolding set_length_of
 length_unnamed w bits frame off none =
     tells_not (head_in w).enabled _ _ (off_if w off)
-    (tells_not (named bits frame) _ _ (go (length_is bits frame) none) (refusing notNamed w 98784247808 refl))
+    (tells_not (named bits frame) _ _ (go (length_is bits frame) none) (refusing not_named w 98784247808 refl))
   where
     go : {number : ℕ} → Length bits frame number → number ≡ 4 → named bits frame ≡ false
     go (unnamed e) f = e
@@ -207,7 +208,7 @@ module _ (w : List ℕ) (n : length w ≡ 40) where
   switched_on_lem : (rest : ℕ) →
       card_in (set (set (set (set (set (set (set (set w 0 1) 2 0) 3 0) 8 rest) 9 rest) 10 0) 14 0) 16 0)
       ≡ record { enabled = true; settings = (head_in w).settings; engine = emptied (resting_pins (bit_in rest)) (engine_in w).flags }
-  unfolding if◌then◌else◌ bit_in byte_in count_in contents samples_at head_in engine_in
+  unfolding when◌then◌else◌ bit_in byte_in count_in contents samples_at head_in engine_in
   switched_on_lem rest =
       card_wrote w (at 0 1 ∷ at 2 0 ∷ at 3 0 ∷ at 8 rest ∷ at 9 rest ∷ at 10 0 ∷ at 14 0 ∷ at 16 0 ∷ []) n refl
 
@@ -223,7 +224,7 @@ module _ (w : List ℕ) (n : length w ≡ 40) where
 
   switched-off : card_in (set (set (set (set (set w 0 0) 2 0) 3 0) 14 0) 16 0)
       ≡ record { enabled = false; settings = (head_in w).settings; engine = emptied (engine_in w).pins (engine_in w).flags }
-  unfolding if◌then◌else◌ bit_in byte_in count_in contents samples_at head_in engine_in
+  unfolding when◌then◌else◌ bit_in byte_in count_in contents samples_at head_in engine_in
   switched-off = card_wrote w (at 0 0 ∷ at 2 0 ∷ at 3 0 ∷ at 14 0 ∷ at 16 0 ∷ []) n refl
 
   pub disable_done : (place_in w 0 % 2 ≡ 0 → ⊥) →
@@ -244,7 +245,7 @@ SentWritten place v count i =
     }
 
 sent_written : (place : ℕ → ℕ) (i v count : ℕ) → i < 8 → SentWritten place v count i
-unfolding if◌then◌else◌ samples_at
+unfolding when◌then◌else◌ samples_at
 sent_written place i v count = below_8 (SentWritten place v count) refl refl refl refl refl refl refl refl i
 
 -- The eight cells after one was written are the list with it set.
@@ -278,7 +279,7 @@ unread_read : (w : List ℕ) → length w ≡ 40 → (first count : ℕ) →
       settings = (head_in w).settings;
       engine = with_unread (samples_at first count (from 32 (place_in w))) (engine_in w);
     }
-unfolding if◌then◌else◌ bit_in samples_at head_in engine_in
+unfolding when◌then◌else◌ bit_in samples_at head_in engine_in
 unread_read w n first count = card_wrote w (at 15 first ∷ at 16 count ∷ []) n refl
 
 -- A cell of the receive buffer that is read.

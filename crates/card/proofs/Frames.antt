@@ -2,9 +2,10 @@
 --     sizes, bits_fit   a sample fits half a frame, and a frame is of 32 or 64 clocks
 --     frame_for     the frame of a protocol, by its edges
 -- Assumes nothing.
-use Rattle.laws.proofs.Common.{ℕ, ◌+◌, ◌*◌, ◌-◌, ◌/◌, ◌%◌, ◌≤◌, Bool, true, false, ◌≡◌, refl, sym, arith, eqb-true, ltb-false}
+use Rattle.std.specs.Prelude.{◌+◌, ◌*◌, ◌-◌, ◌/◌, ◌%◌, ◌≤◌, ◌≡◌}
+use Rattle.laws.proofs.Common.{ℕ, Bool, true, false, refl, sym, arith, eqb-true, ltb-false}
 use Rattle.laws.proofs.Common.{eqb, ltb, if_keeps, so_eq, not_so_eq}
-use Rattle.card_rules.specs.Settings.{Protocol, i2s, leftJustified, rightJustified, pcm, shape_for, shape_of}
+use Rattle.card_rules.specs.Settings.{Protocol, i2s, left_justified, right_justified, pcm, shape_for, shape_of}
 use Rattle.card.specs.declared.Frame.{Frame}
 use Rattle.card.specs.Memory.{protocol_in, bits_in, frame_in, settings_from, framed}
 
@@ -56,8 +57,8 @@ same_frame rest p q r s t u = λ i. made (p i) (q i) (r i) (s i) (t i) (u i) res
 -- The frame of a protocol: `half` edges a half, and `sample` edges a sample.
 abbrev pub frame_with : Protocol → ℕ → ℕ → Frame
 frame_with i2s half sample = made 2 (2 + half) 0 sample (2 * half) half true
-frame_with leftJustified half sample = made 0 half 0 sample (2 * half) half false
-frame_with rightJustified half sample = made 0 half (half - sample) half (2 * half) half false
+frame_with left_justified half sample = made 0 half 0 sample (2 * half) half false
+frame_with right_justified half sample = made 0 half (half - sample) half (2 * half) half false
 frame_with pcm half sample = made 2 (2 + sample) 0 sample (2 * half) 2 false
 
 pub frame_for : (code : ℕ) (p : Protocol) {half bits : ℕ} → half ≡ frame_in code → bits ≡ bits_in code → protocol_in code ≡ p →
@@ -68,16 +69,16 @@ frame_for code p f b e = rw (f, b, e) (go p (sizes code))
     go : (q : Protocol) → Fit (bits_in code) (frame_in code) →
         frame_with q (frame_in code) (2 * bits_in code) ≡ framed (shape_for q (bits_in code) (frame_in code))
     go i2s s = same_frame true refl (omega (arith, s.even)) refl (omega arith) refl (omega (arith, s.even))
-    go leftJustified s = same_frame false refl (omega (arith, s.even)) refl (omega arith) refl (omega (arith, s.even))
-    go rightJustified s =
+    go left_justified s = same_frame false refl (omega (arith, s.even)) refl (omega arith) refl (omega (arith, s.even))
+    go right_justified s =
         same_frame false refl (omega (arith, s.even)) (omega (arith, s.even)) (omega (arith, s.even, s.fit)) refl (omega (arith, s.even))
     go pcm s = same_frame false refl (omega arith) refl (omega arith) refl refl
 
 -- The protocol in a number.
 pub protocol_is : (code : ℕ) →
     (code % 4 ≡ 0 → protocol_in code ≡ i2s)
-    × (code % 4 ≡ 1 → protocol_in code ≡ leftJustified)
-    × (code % 4 ≡ 2 → protocol_in code ≡ rightJustified)
+    × (code % 4 ≡ 1 → protocol_in code ≡ left_justified)
+    × (code % 4 ≡ 2 → protocol_in code ≡ right_justified)
     × ((code % 4 ≡ 0 → ⊥) → (code % 4 ≡ 1 → ⊥) → (code % 4 ≡ 2 → ⊥) → protocol_in code ≡ pcm)
 unfolding protocol_in
 protocol_is code = (

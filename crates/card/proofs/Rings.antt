@@ -3,7 +3,8 @@
 --     samples_none, samples_full, samples_room   a ring by its count
 --     samples_push, samples_pop    a sample more, and the first one taken
 -- Assumes nothing.
-use Rattle.laws.proofs.Common.{ℕ, zero, suc, ◌+◌, ◌-◌, ◌%◌, ◌≤◌, ◌<◌, true, false, [], ◌∷◌, ◌++◌, ◌≡◌, refl, sym, ◌∙◌, arith}
+use Rattle.std.specs.Prelude.{◌+◌, ◌-◌, ◌%◌, ◌≤◌, ◌<◌, ◌∷◌, ◌++◌, ◌≡◌}
+use Rattle.laws.proofs.Common.{ℕ, zero, suc, true, false, [], refl, sym, ◌∙◌, arith}
 use Rattle.laws.proofs.Common.{le-leb, lt-leb, ltb-true, ltb-false, ltb, length, get_or, set, so_lt, not_so_lt, if_keeps}
 use Rattle.laws.proofs.Common.{by_test}
 use Rattle.ring.specs.Ring.{next}
@@ -11,8 +12,6 @@ use Rattle.ring.specs.Ring as ring
 use Rattle.ring.proofs.Contents.{contents_length, contents_none, push_appends, pop_takes_first}
 use Rattle.card_rules.specs.Edge.{is_full}
 use Rattle.card.specs.Memory.{cells_at, count_in, samples_at}
-use Rattle.laws.specs.Writes.{at}
-use Rattle.laws.proofs.Stored.{after}
 
 pub below_8 : (P : ℕ → Type 0) → P 0 → P 1 → P 2 → P 3 → P 4 → P 5 → P 6 → P 7 → (i : ℕ) → i < 8 → P i
 below_8 P a b c d e f g h zero small = a

@@ -3,7 +3,8 @@
 --     moved, wrote     writes that leave the head are a step of the engine
 --     bit_on, bit_off  a flag in a number
 -- Assumes nothing.
-use Rattle.laws.proofs.Common.{ℕ, ◌%◌, Bool, true, false, List, ◌≡◌, ◌∙◌, arith, eq-eqb, ne_eqb, length, if◌then◌else◌}
+use Rattle.std.specs.Prelude.{◌%◌, ◌≡◌}
+use Rattle.laws.proofs.Common.{ℕ, Bool, true, false, List, ◌∙◌, arith, eq-eqb, ne_eqb, length, when◌then◌else◌}
 use Rattle.laws.proofs.Common.{if_keeps, clash}
 use Rattle.laws.specs.Writes.{Write, writes}
 use Rattle.laws.proofs.Stored.{after, Within, within, in_memory, reads_after}
@@ -46,8 +47,8 @@ bit_off x h = ne_eqb (x % 2) 1 (λ e. omega arith)
 
 -- A call that goes by tests.
 module _ {r : ℕ} {before later : List ℕ} where
-  pub tells_so : (test : Bool) (x y : Outcome) → test ≡ true → Tells x r before later → Tells (if test then x else y) r before later
+  pub tells_so : (test : Bool) (x y : Outcome) → test ≡ true → Tells x r before later → Tells (when test then x else y) r before later
   tells_so test x y e h = if_keeps (λ (o : Outcome). Tells o r before later) test x y (λ _. h) (λ f. clash test e f)
 
-  pub tells_not : (test : Bool) (x y : Outcome) → test ≡ false → Tells y r before later → Tells (if test then x else y) r before later
+  pub tells_not : (test : Bool) (x y : Outcome) → test ≡ false → Tells y r before later → Tells (when test then x else y) r before later
   tells_not test x y e h = if_keeps (λ (o : Outcome). Tells o r before later) test x y (λ f. clash test f e) (λ _. h)

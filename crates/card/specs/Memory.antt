@@ -1,10 +1,10 @@
 -- A card in memory: which of 40 numbers of 32 bits holds what. Any numbers hold a card: a flag or a level is a number's lowest bit, a count
 -- of edges its low 8 bits. Numbers that nothing here names are spare.
 use Rattle.std.specs.Prelude.{ℕ, ◌+◌, ◌*◌, ◌/◌, ◌%◌, Bool, ◌&&◌, List, [], ◌∷◌, ◌≡◌, eqb, ltb, get_or}
-use Rattle.laws.specs.Choice.{if◌then◌else◌}
+use Rattle.laws.specs.Choice.{when◌then◌else◌}
 use Rattle.ring.specs.Ring.{contents}
 use Rattle.word_order.specs.Port.{Way, idle, sends}
-use Rattle.card_rules.specs.Settings.{Protocol, i2s, leftJustified, rightJustified, pcm, Settings, Shape, shape_of}
+use Rattle.card_rules.specs.Settings.{Protocol, i2s, left_justified, right_justified, pcm, Settings, Shape, shape_of}
 use Rattle.card_rules.specs.Card.{Engine, Card}
 use Rattle.card_rules.specs.Edge.{last_edge}
 use Rattle.card.specs.declared.Frame.{Frame}
@@ -18,22 +18,22 @@ byte_in x = x % 256
 -- The settings in one number: the protocol in its low two bits, and above it 0 for 16 in 32, then 16, 24 and 32 in 64.
 unfoldable pub protocol_in : ℕ → Protocol
 protocol_in x =
-    if eqb (x % 4) 0 then i2s
-    else if eqb (x % 4) 1 then leftJustified
-    else if eqb (x % 4) 2 then rightJustified
+    when eqb (x % 4) 0 then i2s
+    else when eqb (x % 4) 1 then left_justified
+    else when eqb (x % 4) 2 then right_justified
     else pcm
 
 unfoldable pub bits_in : ℕ → ℕ
-bits_in x = if ltb (x / 4 % 4) 2 then 16 else if eqb (x / 4 % 4) 2 then 24 else 32
+bits_in x = when ltb (x / 4 % 4) 2 then 16 else when eqb (x / 4 % 4) 2 then 24 else 32
 
 unfoldable pub frame_in : ℕ → ℕ
-frame_in x = if eqb (x / 4 % 4) 0 then 32 else 64
+frame_in x = when eqb (x / 4 % 4) 0 then 32 else 64
 
 -- The number of a length and frame there, 4 if they are not named.
 unfoldable pub length_number : ℕ → ℕ → ℕ
 length_number bits frame =
-    if eqb bits 16 && eqb frame 32 then 0
-    else if eqb frame 64 then (if eqb bits 16 then 1 else if eqb bits 24 then 2 else if eqb bits 32 then 3 else 4)
+    when eqb bits 16 && eqb frame 32 then 0
+    else when eqb frame 64 then (when eqb bits 16 then 1 else when eqb bits 24 then 2 else when eqb bits 32 then 3 else 4)
     else 4
 
 unfoldable pub settings_from : ℕ → Settings
@@ -48,7 +48,7 @@ cells_at place = place 0 ∷ place 1 ∷ place 2 ∷ place 3 ∷ place 4 ∷ pla
 
 -- A ring's read position goes round its eight cells, and it holds at most eight samples: so any two numbers are a ring.
 unfoldable pub count_in : ℕ → ℕ
-count_in x = if ltb x 8 then x else 8
+count_in x = when ltb x 8 then x else 8
 
 unfoldable pub samples_at : ℕ → ℕ → (ℕ → ℕ) → List ℕ
 samples_at read count place = contents 0 8 (cells_at place) (read % 8) (count_in count)
@@ -56,7 +56,7 @@ samples_at read count place = contents 0 8 (cells_at place) (read % 8) (count_in
 -- The sample under way.
 abbrev pub way_at : (ℕ → ℕ) → Way
 way_at place =
-    if bit_in (place 3)
+    when bit_in (place 3)
     then sends (record { filler = bit_in (place 4); word = place 5; edges = byte_in (place 6); received = place 7 })
     else idle
 

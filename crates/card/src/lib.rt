@@ -1,5 +1,7 @@
 // The audio card in memory: 40 numbers of 32 bits that a caller holds, since a sample has up to 32 bits. Each call changes the numbers that
 // it must, and any numbers are answered.
+#![tactic(auto)]
+
 ghost use Rattle.std.specs.Prelude.{◌+◌, ◌*◌, ◌%◌, ◌<◌, true, false, ◌≡◌, length};
 ghost use Rattle.card_rules.specs.Settings.{shape_of};
 ghost use Rattle.card_rules.specs.Card.{powered_up};
@@ -19,7 +21,7 @@ const RECEIVE_EMPTY: u64 = 25769803776;
 const NOT_NAMED: u64 = 98784247808;
 
 // Where a frame has its samples, in edges.
-#[derive(Drop)]
+#[derive(Clone, Copy)]
 pub struct Frame {
     pub first: u32,
     pub second: u32,

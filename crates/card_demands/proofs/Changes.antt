@@ -4,18 +4,19 @@
 --     call_changes_lem   one call
 --     card_changes   every life from power-up
 -- Assumes nothing.
-use Rattle.laws.proofs.Common.{ℕ, Bool, true, false, not, ◌&&◌, ◌||◌, Bool·beq, or-false, List, [], ◌∷◌, ◌≡◌, refl, sym, ap}
-use Rattle.laws.proofs.Common.{◌∙◌, arith, le-ltb, not-true, ltb, eqb, length, if◌then◌else◌, if_keeps, clash}
+use Rattle.std.specs.Prelude.{◌&&◌, ◌||◌, ◌∷◌, ◌≡◌}
+use Rattle.laws.proofs.Common.{ℕ, Bool, true, false, not, Bool·beq, or-false, List, [], refl, sym, ap}
+use Rattle.laws.proofs.Common.{◌∙◌, arith, le-ltb, not-true, ltb, eqb, length, when◌then◌else◌, if_keeps, clash}
 use Rattle.word_order.specs.Ledger.{Ledger, lost_of, opened}
 use Rattle.word_order.specs.Machine.{Watched, watched_call, entered, notes}
 use Rattle.word_order.proofs.Counts.{flag_grows}
 use Rattle.card_rules.specs.Settings.{named, Settings, Shape, shape_of}
 use Rattle.card_rules.specs.Card.{Engine, emptied}
 use Rattle.card_rules.specs.Edge.{at_first_place, is_full, turned, edged}
-use Rattle.card_rules.specs.Calls.{Call, setProtocol, set_length, enable, disable, write, read, edge, clearUnderrun, clearOverflow, Outcome, set_protocol_of, set_length_of, enable_of, disable_of, sample_of, write_of, read_from, read_of, edge_of, clear_underrun_of, clear_overflow_of, perform_of, said_of}
-use Rattle.card_rules.specs.Figures.{protocol_number, startsChannel, cardTerms}
+use Rattle.card_rules.specs.Calls.{Call, set_protocol, set_length, enable, disable, write, read, edge, clear_underrun, clear_overflow, Outcome, set_protocol_of, set_length_of, enable_of, disable_of, sample_of, write_of, read_from, read_of, edge_of, clear_underrun_of, clear_overflow_of, perform_of, said_of}
+use Rattle.card_rules.specs.Figures.{protocol_number, starts_channel, card_terms}
 use Rattle.card_rules.specs.Watch.{Sight, entry_of, edge_ops, port_of, watching, life}
-use Rattle.card_rules.specs.CardDemands.{asks, is_kind, was_done, takes, waitingExpected, Changes, took}
+use Rattle.card_rules.specs.CardDemands.{asks, is_kind, was_done, takes, waiting_expected, Changes, took}
 use Rattle.card_order.specs.Invariant.{terms_of}
 use Rattle.card_order.proofs.EdgeWords.{edge_step}
 use Rattle.card_order.proofs.FiguresHold.{named_fits, terms_same, frame_is}
@@ -42,14 +43,14 @@ same_level false = refl
 -- A call's changes, by its views; a card that is then disabled holds nothing, and its pins keep their levels.
 changed : {a b : Watched watching} {c : Call} {said : ℕ} → b.now.enabled ≡ (is_kind 2 c || (a.now.enabled && not (is_kind 3 c))) →
     protocol_number b.now.settings.protocol
-    ≡ (if was_done a b c said 0 then (asks c).first else protocol_number a.now.settings.protocol) →
-    b.now.settings.bits ≡ (if was_done a b c said 1 then (asks c).first else a.now.settings.bits) →
-    b.now.settings.frame ≡ (if was_done a b c said 1 then (asks c).second else a.now.settings.frame) →
+    ≡ (when was_done a b c said 0 then (asks c).first else protocol_number a.now.settings.protocol) →
+    b.now.settings.bits ≡ (when was_done a b c said 1 then (asks c).first else a.now.settings.bits) →
+    b.now.settings.frame ≡ (when was_done a b c said 1 then (asks c).second else a.now.settings.frame) →
     b.now.engine.flags.underrun
     ≡ (not (is_kind 7 c) && (a.now.engine.flags.underrun || (takes a b c said && eqb (length a.now.engine.waiting) 0))) →
     b.now.engine.flags.overflow
     ≡ (not (is_kind 8 c) && (a.now.engine.flags.overflow || ltb (lost_of a.ledger) (lost_of b.ledger))) →
-    b.now.engine.waiting ≡ waitingExpected a b c said →
+    b.now.engine.waiting ≡ waiting_expected a b c said →
     (not b.now.enabled ≡ true → (b.now.engine.unread ≡ []) × (b.now.engine.pins ≡ a.now.engine.pins)) → Changes a b c said
 changed enabled protocol bits frame underrun overflow waiting rest =
     record {
@@ -71,7 +72,7 @@ still : (on : Bool) (x : Settings) (n : Engine) (count : ℕ) (l : Ledger) (c : 
     on ≡ (is_kind 2 c || (on && not (is_kind 3 c))) → (is_kind 0 c && eqb said 0) ≡ false → (is_kind 1 c && eqb said 0) ≡ false →
     (is_kind 4 c && eqb said 0) ≡ false → (is_kind 6 c && eqb said 0) ≡ false → is_kind 7 c ≡ false → is_kind 8 c ≡ false →
     Changes (at on x n count l) (at on x n count l) c said
-unfolding if◌then◌else◌
+unfolding when◌then◌else◌
 still on x n count l c said rests up no0 no1 no4 no6 no7 no8 =
     changed up (rw no0) (rw no1) (rw no1) (rw (no7, no6) (sym (or-false n.flags.underrun)))
     (rw no8 (lost_none n.flags.overflow (lost_of l))) (rw (no4, no6, same_level on))
@@ -79,12 +80,12 @@ still on x n count l c said rests up no0 no1 no4 no6 no7 no8 =
 
 -- What is known of the edges of an enabled card: where a channel starts, what they do to the flags, and what they lose.
 record EdgesAre (x : Settings) (n : Engine) (count : ℕ) (l : Ledger) : Type 0 where
-  pub starts : at_first_place (shape_of x) n.place ≡ startsChannel x count
+  pub starts : at_first_place (shape_of x) n.place ≡ starts_channel x count
   pub edges : (sdi : Bool) → EdgeFlags (shape_of x) sdi n
   pub loses : (sdi : Bool) →
       (edged (shape_of x) sdi n).flags.overflow
       ≡ (n.flags.overflow
-      || ltb (lost_of l) (lost_of (entered (cardTerms x) (notes (edge_ops (startsChannel x count) n.pins.sdo sdi)) l)))
+      || ltb (lost_of l) (lost_of (entered (card_terms x) (notes (edge_ops (starts_channel x count) n.pins.sdo sdi)) l)))
 
 module _ (x : Settings) (n : Engine) (count : ℕ) (l : Ledger) where
   abbrev y : Bool → Call → Watched watching
@@ -93,8 +94,8 @@ module _ (x : Settings) (n : Engine) (count : ℕ) (l : Ledger) where
   abbrev said : Bool → Call → ℕ
   said on c = (said_of (perform_of (record { enabled = on; settings = x; engine = n }) c).answer).number
 
-  abbrev sightWith : Outcome → Sight
-  sightWith o = record { enabled = true; settings = x; sdo = n.pins.sdo; answer = o.answer }
+  abbrev sight_with : Outcome → Sight
+  sight_with o = record { enabled = true; settings = x; sdo = n.pins.sdo; answer = o.answer }
 
   -- The flags stay.
   same-underrun : n.flags.underrun ≡ (n.flags.underrun || false)
@@ -105,8 +106,8 @@ module _ (x : Settings) (n : Engine) (count : ℕ) (l : Ledger) where
 
   -- A call on a disabled card.
   off-changes : Rests false n → (c : Call) → Changes (at false x n count l) (y false c) c (said false c)
-  unfolding if◌then◌else◌ set_protocol_of set_length_of enable_of disable_of write_of read_of edge_of clear_underrun_of clear_overflow_of opened
-  off-changes rests (setProtocol p) =
+  unfolding when◌then◌else◌ set_protocol_of set_length_of enable_of disable_of write_of read_of edge_of clear_underrun_of clear_overflow_of opened
+  off-changes rests (set_protocol p) =
       changed refl refl refl refl same-underrun same-overflow refl (λ off. (λ i. (rests refl i).unread, refl))
   off-changes rests (set_length bits frame) =
       if_keeps
@@ -123,13 +124,13 @@ module _ (x : Settings) (n : Engine) (count : ℕ) (l : Ledger) where
   off-changes rests (write v) = still false x n count l (write v) 2 rests refl refl refl refl refl refl refl
   off-changes rests read = still false x n count l read 2 rests refl refl refl refl refl refl refl
   off-changes rests (edge sdi) = still false x n count l (edge sdi) 2 rests refl refl refl refl refl refl refl
-  off-changes rests clearUnderrun = changed refl refl refl refl refl same-overflow refl (λ off. (λ i. (rests refl i).unread, refl))
-  off-changes rests clearOverflow = changed refl refl refl refl same-underrun refl refl (λ off. (λ i. (rests refl i).unread, refl))
+  off-changes rests clear_underrun = changed refl refl refl refl refl same-overflow refl (λ off. (λ i. (rests refl i).unread, refl))
+  off-changes rests clear_overflow = changed refl refl refl refl same-underrun refl refl (λ off. (λ i. (rests refl i).unread, refl))
 
   -- A call on an enabled card.
   on-changes : EdgesAre x n count l → (c : Call) → Changes (at true x n count l) (y true c) c (said true c)
-  unfolding if◌then◌else◌ set_protocol_of set_length_of enable_of disable_of write_of sample_of read_of edge_of clear_underrun_of clear_overflow_of turned
-  on-changes h (setProtocol p) = still true x n count l (setProtocol p) 3 (λ e. clash true refl e) refl refl refl refl refl refl refl
+  unfolding when◌then◌else◌ set_protocol_of set_length_of enable_of disable_of write_of sample_of read_of edge_of clear_underrun_of clear_overflow_of turned
+  on-changes h (set_protocol p) = still true x n count l (set_protocol p) 3 (λ e. clash true refl e) refl refl refl refl refl refl refl
   on-changes h (set_length bits frame) =
       still true x n count l (set_length bits frame) 3 (λ e. clash true refl e) refl refl refl refl refl refl refl
   on-changes h enable = still true x n count l enable 0 (λ e. clash true refl e) refl refl refl refl refl refl refl
@@ -138,7 +139,7 @@ module _ (x : Settings) (n : Engine) (count : ℕ) (l : Ledger) where
       if_keeps
       (λ (o : Outcome).
       Changes (at true x n count l)
-      (record { now = o.after; memory = count; ledger = entered (cardTerms x) (entry_of count (sightWith o) (write v)) l }) (write v)
+      (record { now = o.after; memory = count; ledger = entered (card_terms x) (entry_of count (sight_with o) (write v)) l }) (write v)
       (said_of o.answer).number)
       (is_full n.waiting) _ _
       (λ e. still true x n count l (write v) 5 (λ f. clash true refl f) refl refl refl refl refl refl refl)
@@ -148,15 +149,15 @@ module _ (x : Settings) (n : Engine) (count : ℕ) (l : Ledger) where
       go : (r : List ℕ) →
           let o : Outcome = read_from (record { enabled = true; settings = x; engine = n }) r in
           Changes (at true x n count l)
-          (record { now = o.after; memory = count; ledger = entered (cardTerms x) (entry_of count (sightWith o) read) l }) read
+          (record { now = o.after; memory = count; ledger = entered (card_terms x) (entry_of count (sight_with o) read) l }) read
           (said_of o.answer).number
       go [] = still true x n count l read 6 (λ f. clash true refl f) refl refl refl refl refl refl refl
       go (sample ∷ rest) = changed refl refl refl refl same-underrun same-overflow refl (λ off. clash false off refl)
   on-changes h (edge sdi) =
       changed refl refl refl refl (rw (← h.starts) (h.edges sdi).underrun) (h.loses sdi) (rw (← h.starts) (h.edges sdi).waiting)
       (λ off. clash false off refl)
-  on-changes h clearUnderrun = changed refl refl refl refl refl same-overflow refl (λ off. clash false off refl)
-  on-changes h clearOverflow = changed refl refl refl refl same-underrun refl refl (λ off. clash false off refl)
+  on-changes h clear_underrun = changed refl refl refl refl refl same-overflow refl (λ off. clash false off refl)
+  on-changes h clear_overflow = changed refl refl refl refl same-underrun refl refl (λ off. clash false off refl)
 
 -- A call, whichever.
 call_changes_lem : (on : Bool) (x : Settings) (n : Engine) (count : ℕ) (l : Ledger) → Rests on n → (on ≡ true → EdgesAre x n count l) → (c : Call) →
@@ -178,12 +179,12 @@ module _ (cs : List Call) where
       ≡ (x.now.engine.flags.overflow
       || ltb (lost_of x.ledger)
       (lost_of
-      (entered (cardTerms x.now.settings)
-      (notes (edge_ops (startsChannel x.now.settings x.memory) x.now.engine.pins.sdo sdi)) x.ledger)))
+      (entered (card_terms x.now.settings)
+      (notes (edge_ops (starts_channel x.now.settings x.memory) x.now.engine.pins.sdo sdi)) x.ledger)))
   loses on sdi =
       let h = card_tied cs in
       let n : Engine = x.now.engine in
-      let first : Bool = startsChannel x.now.settings x.memory in
+      let first : Bool = starts_channel x.now.settings x.memory in
       let same : first ≡ at_first_place s n.place =
       (frame_is x.now.settings h.0.names x.memory).starts ∙ ap (at_first_place s) (sym (h.1 on).recalls) in
       let g = edge_step s (named_fits x.now.settings h.0.names) sdi n first same h.0.shows h.0.within in

@@ -1,12 +1,13 @@
 -- The card's page holds.
 --     page_holds   specs/CardDemands.antt of card_rules
 -- Assumes nothing.
-use Rattle.laws.proofs.Common.{ℕ, ◌+◌, ◌*◌, true, false, not, ◌&&◌, List, ◌≡◌, refl, sym, ap, ◌∙◌, arith, le-ltb, ltb, leb}
-use Rattle.laws.proofs.Common.{if◌then◌else◌}
+use Rattle.std.specs.Prelude.{◌+◌, ◌*◌, ◌&&◌, ◌≡◌}
+use Rattle.laws.proofs.Common.{ℕ, true, false, not, List, refl, sym, ap, ◌∙◌, arith, le-ltb, ltb, leb}
+use Rattle.laws.proofs.Common.{when◌then◌else◌}
 use Rattle.word_order.specs.Machine.{Watched}
 use Rattle.card_rules.specs.Settings.{Shape, shape_of}
 use Rattle.card_rules.specs.Card.{Engine, Card, with_engine}
-use Rattle.card_rules.specs.Calls.{Call, refuse, doing, isDisabled, edge_of, sdo_of, right_next}
+use Rattle.card_rules.specs.Calls.{Call, refuse, doing, is_disabled, edge_of, sdo_of, right_next}
 use Rattle.card_rules.specs.Watch.{watching, life}
 use Rattle.card_rules.specs.CardDemands.{took, Shows, output_seen, CardDemands}
 use Rattle.card_order.proofs.FiguresHold.{frame_is}
@@ -57,7 +58,7 @@ page_holds =
           (life_on cs on).stage;
       unheard = λ cs on none.
           let m : Card = (life cs).now in
-          ap (λ (n : Engine). (if not m.enabled then refuse isDisabled m else doing (with_engine n m)).after)
+          ap (λ (n : Engine). (when not m.enabled then refuse is_disabled m else doing (with_engine n m)).after)
           (sdi_unheard m.settings (card_tied cs).0.names m.engine (life cs).memory (took cs) (life_on cs on).stage none);
       word_order = card_order_lem;
     }

@@ -2,8 +2,9 @@
 --     edge_flags       the underrun flag is set where a sample is taken and none waits; the first one waiting leaves there
 --     edged_overflow   the overflow flag is set where a received sample is lost
 -- Assumes nothing.
-use Rattle.laws.proofs.Common.{ℕ, ◌+◌, Bool, true, false, not, ◌&&◌, ◌||◌, or-false, or-true, List, [], ◌∷◌, ◌≡◌, refl, sym}
-use Rattle.laws.proofs.Common.{ap, ◌∙◌, arith, ne_eqb, ltb, leb, eqb, length, drop, if◌then◌else◌, if_keeps, if_both}
+use Rattle.std.specs.Prelude.{◌+◌, ◌&&◌, ◌||◌, ◌∷◌, ◌≡◌}
+use Rattle.laws.proofs.Common.{ℕ, Bool, true, false, not, or-false, or-true, List, [], refl, sym}
+use Rattle.laws.proofs.Common.{ap, ◌∙◌, arith, ne_eqb, ltb, leb, eqb, length, drop, when◌then◌else◌, if_keeps, if_both}
 use mir.Val.{bool_byte}
 use Rattle.word_order.specs.Ledger.{Op}
 use Rattle.word_order.specs.Port.{Way, idle, sends, loses_at, ends_at, losses_in}
@@ -73,18 +74,18 @@ begun_overflow (sends u) waiting n = refl
 pub record EdgeFlags (s : Shape) (sdi : Bool) (n : Engine) : Type 0 where
   pub underrun : (edged s sdi n).flags.underrun
       ≡ (n.flags.underrun || (at_first_place s n.place && eqb (length n.waiting) 0))
-  pub waiting : (edged s sdi n).waiting ≡ (if at_first_place s n.place then drop 1 n.waiting else n.waiting)
+  pub waiting : (edged s sdi n).waiting ≡ (when at_first_place s n.place then drop 1 n.waiting else n.waiting)
 
 pub edge_flags : (s : Shape) (sdi : Bool) (n : Engine) → (at_first_place s n.place ≡ true → n.way ≡ idle) → EdgeFlags s sdi n
-unfolding turned clocked begun if◌then◌else◌
+unfolding turned clocked begun when◌then◌else◌
 edge_flags s sdi n rests =
     let first : Bool = at_first_place s n.place in
     let r : ((edged s sdi n).flags.underrun ≡ (n.flags.underrun || (first && eqb (length n.waiting) 0)))
-    × ((edged s sdi n).waiting ≡ (if first then drop 1 n.waiting else n.waiting)) =
+    × ((edged s sdi n).waiting ≡ (when first then drop 1 n.waiting else n.waiting)) =
     if_keeps
     (λ (x : Engine).
     ((clocked_as s sdi x.way x).flags.underrun ≡ (n.flags.underrun || (first && eqb (length n.waiting) 0)))
-    × ((clocked_as s sdi x.way x).waiting ≡ (if first then drop 1 n.waiting else n.waiting)))
+    × ((clocked_as s sdi x.way x).waiting ≡ (when first then drop 1 n.waiting else n.waiting)))
     first _ _
     (λ e.
     let x : Engine = begun_from n.way n in

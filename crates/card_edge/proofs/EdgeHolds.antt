@@ -1,16 +1,17 @@
 -- An edge of a card in memory, by the numbers that it finds and writes: each law is one way through a function.
 -- Assumes nothing.
-use Rattle.laws.proofs.Common.{ℕ, ◌+◌, ◌*◌, ◌-◌, ◌/◌, ◌%◌, ◌^◌, ◌≤◌, ◌<◌, Bool, true, false, not, ◌&&◌, ◌||◌, Bool·beq, List}
-use Rattle.laws.proofs.Common.{[], ◌∷◌, ◌≡◌, refl, sym, ap, ◌∙◌, mod-eq_of_lt, arith, eqb-true, eqb-false, eq-eqb, ne_eqb}
+use Rattle.std.specs.Prelude.{◌+◌, ◌*◌, ◌-◌, ◌/◌, ◌%◌, ◌^◌, ◌≤◌, ◌<◌, ◌&&◌, ◌||◌, ◌∷◌, ◌≡◌}
+use Rattle.laws.proofs.Common.{ℕ, Bool, true, false, not, Bool·beq, List}
+use Rattle.laws.proofs.Common.{[], refl, sym, ap, ◌∙◌, mod-eq_of_lt, arith, eqb-true, eqb-false, eq-eqb, ne_eqb}
 use Rattle.laws.proofs.Common.{lt-ltb, le-ltb, ltb-true, ltb-false, le-leb, lt-leb, eqb, ltb, length, get_or, set}
-use Rattle.laws.proofs.Common.{if◌then◌else◌, if_keeps, if_true, if_false, and_both, and_first, and-false, clash, by_test}
+use Rattle.laws.proofs.Common.{when◌then◌else◌, if_keeps, if_true, if_false, and_both, and_first, and-false, clash, by_test}
 use Rattle.ring.specs.Ring.{next}
 use Rattle.word_order.specs.Bits.{bit_of}
 use Rattle.word_order.specs.Port.{Under, Way, idle, sends}
-use Rattle.card_rules.specs.Settings.{Protocol, i2s, leftJustified, rightJustified, pcm, Shape, shape_for, shape_of}
+use Rattle.card_rules.specs.Settings.{Protocol, i2s, left_justified, right_justified, pcm, Shape, shape_for, shape_of}
 use Rattle.card_rules.specs.Card.{Engine, with_waiting, with_way, with_unread, with_overflow, with_sdo}
 use Rattle.card_rules.specs.Edge.{at_first_place, fresh, taken, begun_from, begun, samples, last_edge, shifted_in, received_after, channel_bit, shifted, is_full, finished, opened, clocked_as, clocked, lrck_at, turned, edged}
-use Rattle.card_rules.specs.Calls.{isDisabled, edge_of}
+use Rattle.card_rules.specs.Calls.{is_disabled, edge_of}
 use Rattle.card.specs.declared.Frame.{Frame}
 use Rattle.card.specs.Memory.{bit_in, byte_in, bits_in, frame_in, settings_from, from, cells_at, count_in, samples_at, engine_at, engine_in, Head, head_at, head_in, place_in, shape_in, card_in, framed, Moves}
 use Rattle.laws.specs.Writes.{at}
@@ -37,7 +38,7 @@ module _ (w : List ℕ) (n : length w ≡ 40) where
 
   -- Zeros begin.
   none_taken : Moves (λ s e. taken [] e) w (set (set (set (set (set (set w 3 1) 4 1) 5 0) 6 0) 7 0) 11 1)
-  unfolding if◌then◌else◌ bit_in byte_in samples_at
+  unfolding when◌then◌else◌ bit_in byte_in samples_at
   none_taken = wrote w (at 3 1 ∷ at 4 1 ∷ at 5 0 ∷ at 6 0 ∷ at 7 0 ∷ at 11 1 ∷ []) n refl refl refl
 
   pub take_none : count_in (p 14) ≡ 0 →
@@ -49,7 +50,7 @@ module _ (w : List ℕ) (n : length w ≡ 40) where
   some-taken : (sample first count : ℕ) →
       Moves (λ s e. with_way (fresh false sample) (with_waiting (samples_at first count (from 24 p)) e)) w
       (set (set (set (set (set (set (set w 3 1) 4 0) 5 sample) 6 0) 7 0) 13 first) 14 count)
-  unfolding if◌then◌else◌ bit_in byte_in samples_at
+  unfolding when◌then◌else◌ bit_in byte_in samples_at
   some-taken sample first count =
       wrote w (at 3 1 ∷ at 4 0 ∷ at 5 sample ∷ at 6 0 ∷ at 7 0 ∷ at 13 first ∷ at 14 count ∷ []) n refl refl refl
 
@@ -109,7 +110,7 @@ Received place v count i =
     ≡ with_way idle (with_unread (samples_at (place 15) count (λ k. get_or (set (cells_at (from 32 place)) i v) k 0)) (engine_at place)))
 
 received_there : (place : ℕ → ℕ) (v count i : ℕ) → i < 8 → Received place v count i
-unfolding if◌then◌else◌ bit_in samples_at
+unfolding when◌then◌else◌ bit_in samples_at
 received_there place v count =
     below_8 (Received place v count) (refl, refl) (refl, refl) (refl, refl) (refl, refl)
     (refl, refl) (refl, refl) (refl, refl) (refl, refl)
@@ -117,7 +118,7 @@ received_there place v count =
 -- The finish.
 module _ (w : List ℕ) (n : length w ≡ 40) (received : ℕ) where
   dropped : Moves (λ s e. with_way idle (with_overflow true e)) w (set (set w 3 0) 12 1)
-  unfolding if◌then◌else◌ bit_in samples_at
+  unfolding when◌then◌else◌ bit_in samples_at
   dropped = wrote w (at 3 0 ∷ at 12 1 ∷ []) n refl refl refl
 
   pub finish_full : 8 ≤ place_in w 16 → Moves (λ s. finished received) w (set (set w 3 0) 12 1)
@@ -162,8 +163,8 @@ frame_small w f is = rw is (go (head_in w).settings.protocol (sizes (place_in w 
         let s : Shape = shape_for q (bits_in (place_in w 1)) (frame_in (place_in w 1)) in
         (last_edge s ≤ 64) × (2 * s.frame ≤ 128) × (2 * s.lead + 2 * s.bits ≡ last_edge s)
     go i2s z = (omega (arith, z.most), omega (arith, z.short), omega arith)
-    go leftJustified z = (omega (arith, z.most), omega (arith, z.short), omega arith)
-    go rightJustified z = (omega (arith, z.short, z.fit), omega (arith, z.short), omega arith)
+    go left_justified z = (omega (arith, z.most), omega (arith, z.short), omega arith)
+    go right_justified z = (omega (arith, z.short, z.fit), omega (arith, z.short), omega arith)
     go pcm z = (omega (arith, z.most), omega (arith, z.short), omega arith)
 
 -- What a frame has of its shape.
@@ -187,7 +188,7 @@ bit_of_bit word i = ap (λ (k : ℕ). eqb k 1) (let same : word / 2 ^ i % 2 % 2 
 -- The bit that SDO shows.
 pub shown_same : (w : List ℕ) (f : Frame) → f ≡ framed (shape_in w) → (word edges : ℕ) → edges % 2 ≡ 0 → edges + 1 < f.last →
     shown_bit f word edges ≡ channel_bit (shape_in w) word (edges / 2)
-unfolding shown_bit channel_bit if◌then◌else◌
+unfolding shown_bit channel_bit when◌then◌else◌
 shown_same w f is word edges even short =
     let s : Shape = shape_in w in
     let g : Numbers s f = numbers is in
@@ -209,7 +210,7 @@ module _ (w : List ℕ) (sdi : Bool) (none : place_in w 3 % 2 ≡ 0) where
   parity = omega arith
 
   low : length w ≡ 40 → Moves (λ s e. with_sdo false e) w (set w 10 0)
-  unfolding if◌then◌else◌ bit_in samples_at
+  unfolding when◌then◌else◌ bit_in samples_at
   low n = wrote w (at 10 0 ∷ []) n refl refl refl
 
   pub clock_open : length w ≡ 40 → place_in w 2 % 2 ≡ 0 → Moves (λ s. clocked s sdi) w (set w 10 0)
@@ -239,7 +240,7 @@ module _ (w : List ℕ) (f : Frame) (is : f ≡ framed (shape_in w)) (sdi : Bool
   g = numbers is
 
   goes_on : clocked s sdi (engine_in w)
-      ≡ (if ltb (e + 1) (last_edge s) then shifted s sdi u (engine_in w) else finished (received_after s sdi u) (engine_in w))
+      ≡ (when ltb (e + 1) (last_edge s) then shifted s sdi u (engine_in w) else finished (received_after s sdi u) (engine_in w))
   unfolding clocked byte_in
   goes_on = λ i. clocked_as s sdi (way_sends w some i) (engine_in w)
 
@@ -248,17 +249,17 @@ module _ (w : List ℕ) (f : Frame) (is : f ≡ framed (shape_in w)) (sdi : Bool
   sampled = eqb ((e + 1) % 2) 0 && ltb f.lead (e + 1)
 
   pub takes : (received : ℕ) → sampled ≡ true → received ≡ shifted_in (place_in w 7) sdi → received ≡ received_after s sdi u
-  unfolding received_after samples byte_in if◌then◌else◌
+  unfolding received_after samples byte_in when◌then◌else◌
   takes received test same = rw (← g.lead, test) same
 
   pub skips : sampled ≡ false → place_in w 7 ≡ received_after s sdi u
-  unfolding received_after samples byte_in if◌then◌else◌
+  unfolding received_after samples byte_in when◌then◌else◌
   skips test = rw (← g.lead, test)
 
   -- The edges counted, with SDO or with the received bits.
   abbrev onward : ℕ → ℕ → Way
   onward edges received =
-      if bit_in (place_in w 3)
+      when bit_in (place_in w 3)
       then sends (record { filler = u.filler; word = u.word; edges = byte_in edges; received = received })
       else idle
 
@@ -271,16 +272,16 @@ module _ (w : List ℕ) (f : Frame) (is : f ≡ framed (shape_in w)) (sdi : Bool
 
   wrote-sdo : length w ≡ 40 → (edges sdo : ℕ) →
       Moves (λ _ n. with_way (onward edges (place_in w 7)) (with_sdo (bit_in sdo) n)) w (set (set w 6 edges) 10 sdo)
-  unfolding if◌then◌else◌ samples_at
+  unfolding when◌then◌else◌ samples_at
   wrote-sdo n edges sdo = wrote w (at 6 edges ∷ at 10 sdo ∷ []) n refl refl refl
 
   wrote-received : length w ≡ 40 → (edges received : ℕ) →
       Moves (λ _ n. with_way (onward edges received) n) w (set (set w 6 edges) 7 received)
-  unfolding if◌then◌else◌ samples_at
+  unfolding when◌then◌else◌ samples_at
   wrote-received n edges received = wrote w (at 6 edges ∷ at 7 received ∷ []) n refl refl refl
 
   wrote-edges : length w ≡ 40 → (edges : ℕ) → Moves (λ _ n. with_way (onward edges (place_in w 7)) n) w (set w 6 edges)
-  unfolding if◌then◌else◌ samples_at
+  unfolding when◌then◌else◌ samples_at
   wrote-edges n edges = wrote w (at 6 edges ∷ []) n refl refl refl
 
   small : e + 1 < f.last → e + 1 < 256
@@ -304,7 +305,7 @@ module _ (w : List ℕ) (f : Frame) (is : f ≡ framed (shape_in w)) (sdi : Bool
       ))
 
   -- SDO stays at a clock's second edge.
-  sdo-stays : e % 2 ≡ 1 → (if eqb (e % 2) 0 then channel_bit s u.word (e / 2) else (engine_in w).pins.sdo) ≡ (engine_in w).pins.sdo
+  sdo-stays : e % 2 ≡ 1 → (when eqb (e % 2) 0 then channel_bit s u.word (e / 2) else (engine_in w).pins.sdo) ≡ (engine_in w).pins.sdo
   sdo-stays odd = if_false (eqb (e % 2) 0) _ _ (ne_eqb (e % 2) 0 (λ h. omega arith))
 
   second-edge : e % 2 ≡ 1 → (received : ℕ) → received ≡ received_after s sdi u → e + 1 < f.last →
@@ -347,7 +348,7 @@ module _ (w : List ℕ) (n : length w ≡ 40) (f : Frame) (is : f ≡ framed (sh
         flags = e.flags;
       })
       w (set (set (set w 2 place) 8 sck) 9 lrck)
-  unfolding if◌then◌else◌ samples_at
+  unfolding when◌then◌else◌ samples_at
   wrote_turn place = wrote w (at 2 place ∷ at 8 sck ∷ at 9 lrck ∷ []) n refl refl refl
 
   turned_sck : bit_in sck ≡ not (engine_in w).pins.sck
@@ -359,11 +360,11 @@ module _ (w : List ℕ) (n : length w ≡ 40) (f : Frame) (is : f ≡ framed (sh
       (λ g. let odd : place_in w 8 % 2 ≡ 0 → ⊥ = eqb-false (place_in w 8 % 2) 0 g in rw (g, eq-eqb (place_in w 8 % 2) 1 (omega arith)))
 
   turned-lrck : bit_in lrck ≡ lrck_at (shape_in w) (engine_in w).place
-  unfolding engine_in byte_in lrck_at if◌then◌else◌
+  unfolding engine_in byte_in lrck_at when◌then◌else◌
   turned-lrck =
       rw (lrck-is, (numbers is).active, (numbers is).rest) (chosen (ltb (place_in w 2 % 256) (2 * (shape_in w).active)) (shape_in w).rest)
     where
-      chosen : (t r : Bool) → Bool·beq t (not r) ≡ (if t then not r else r)
+      chosen : (t r : Bool) → Bool·beq t (not r) ≡ (when t then not r else r)
       chosen true true = refl
       chosen true false = refl
       chosen false true = refl
@@ -376,21 +377,21 @@ module _ (w : List ℕ) (n : length w ≡ 40) (f : Frame) (is : f ≡ framed (sh
       alike (wrote_turn place) (cc (turned_sck, turned-lrck))
 
   pub turn_on : place_in w 2 % 256 + 1 < f.edges → Moves turned w (set (set (set w 2 (place_in w 2 % 256 + 1)) 8 sck) 9 lrck)
-  unfolding next engine_in byte_in if◌then◌else◌
+  unfolding next engine_in byte_in when◌then◌else◌
   turn_on short =
       turn-to (place_in w 2 % 256 + 1)
       (rw (lt-ltb (place_in w 2 % 256 + 1) (2 * (shape_in w).frame) (omega (arith, (numbers is).edges)))
       (mod-eq_of_lt (omega (arith, (frame_small w f is).1))))
 
   pub turn_round : f.edges ≤ place_in w 2 % 256 + 1 → Moves turned w (set (set (set w 2 0) 8 sck) 9 lrck)
-  unfolding next engine_in byte_in if◌then◌else◌
+  unfolding next engine_in byte_in when◌then◌else◌
   turn_round last =
       turn-to 0 (rw (le-ltb (place_in w 2 % 256 + 1) (2 * (shape_in w).frame) (omega (arith, (numbers is).edges))))
 
 -- A whole edge.
 pub edge_disabled : (w : List ℕ) (sdi : Bool) → place_in w 0 % 2 ≡ 0 → Tells (edge_of (card_in w) sdi) 8589934592 w w
 unfolding edge_of
-edge_disabled w sdi e = tells_so (not (head_in w).enabled) _ _ (off_unless w e) (refusing isDisabled w 8589934592 refl)
+edge_disabled w sdi e = tells_so (not (head_in w).enabled) _ _ (off_unless w e) (refusing is_disabled w 8589934592 refl)
 
 -- A frame is that of the memory after a step too.
 pub frame_still : {g : Shape → Engine → Engine} (a b : List ℕ) (f : Frame) → f ≡ framed (shape_in a) → Moves g a b → f ≡ framed (shape_in b)

@@ -1,4 +1,6 @@
 // One edge of an audio card in memory, on the numbers that it changes.
+#![tactic(auto)]
+
 ghost use Rattle.std.specs.Prelude.{◌+◌, ◌≤◌, true, false, ◌≡◌};
 ghost use Rattle.card_rules.specs.Edge.{taken, begun, shifted_in, finished, clocked, turned};
 ghost use Rattle.card_rules.specs.Calls.{edge_of};

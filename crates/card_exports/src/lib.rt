@@ -1,6 +1,8 @@
 // The audio card for a program in C or Rust to link: its calls over memory that the caller holds, 40 numbers of 32 bits. Only numbers cross
 // the boundary, and any numbers are answered. An answer has the refusal number in its upper 32 bits, and in the lower ones the sample that
 // was read.
+#![tactic(auto)]
+
 ghost use Rattle.std.specs.Prelude.{◌≡◌};
 ghost use Rattle.card_rules.specs.Card.{powered_up};
 ghost use Rattle.card_rules.specs.Calls.{set_protocol_of, set_length_of, enable_of, disable_of, write_of, read_of, edge_of, clear_underrun_of, clear_overflow_of};

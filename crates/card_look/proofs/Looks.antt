@@ -2,10 +2,12 @@
 --     bit_number, protocol_number_lem   a flag and the protocol in a number
 --     output_off, output_high, output_low   SDO
 --     right_same    the next channel, by the frame
+--     right_yes, right_no   the same, for the answers 1 and 0
 --     look_is       the whole number
 -- Assumes nothing.
-use Rattle.laws.proofs.Common.{ℕ, ◌+◌, ◌*◌, ◌%◌, Bool, ◌&&◌, List, ◌≡◌, sym, ap, ◌∙◌, arith, eqb-true, eqb-false, eqb, ltb}
-use Rattle.laws.proofs.Common.{leb, length, if◌then◌else◌, by_test}
+use Rattle.std.specs.Prelude.{◌+◌, ◌*◌, ◌%◌, ◌&&◌, ◌≡◌, true, false}
+use Rattle.laws.proofs.Common.{ℕ, Bool, List, sym, ap, ◌∙◌, arith, eqb-true, eqb-false, eqb, ltb}
+use Rattle.laws.proofs.Common.{leb, length, when◌then◌else◌, by_test}
 use mir.Val.{bool_byte}
 use Rattle.card_rules.specs.Settings.{shape_of}
 use Rattle.card_rules.specs.Calls.{sdo_of, right_next}
@@ -41,15 +43,15 @@ protocol_number_lem x =
 module _ (w : List ℕ) where
   -- SDO.
   pub output_off : place_in w 0 % 2 ≡ 0 → 0 ≡ output_bits (sdo_of (card_in w))
-  unfolding sdo_of head_in if◌then◌else◌
+  unfolding sdo_of head_in when◌then◌else◌
   output_off e = rw (bit_off (place_in w 0) e)
 
   pub output_high : (place_in w 0 % 2 ≡ 0 → ⊥) → place_in w 10 % 2 ≡ 1 → 12 ≡ output_bits (sdo_of (card_in w))
-  unfolding sdo_of head_in engine_in if◌then◌else◌
+  unfolding sdo_of head_in engine_in when◌then◌else◌
   output_high on one = rw (bit_on (place_in w 0) on, bit_on (place_in w 10) (λ z. omega arith))
 
   pub output_low : (place_in w 0 % 2 ≡ 0 → ⊥) → (place_in w 10 % 2 ≡ 1 → ⊥) → 8 ≡ output_bits (sdo_of (card_in w))
-  unfolding sdo_of head_in engine_in if◌then◌else◌
+  unfolding sdo_of head_in engine_in when◌then◌else◌
   output_low on zero' = rw (bit_on (place_in w 0) on, bit_off (place_in w 10) (omega arith))
 
   -- The next channel.
@@ -58,6 +60,14 @@ module _ (w : List ℕ) where
   unfolding right_next framed head_in engine_in byte_in
   right_same f e h =
       ap bool_byte (sym h ∙ (λ i. ltb (e i).first (place_in w 2 % 256) && leb (place_in w 2 % 256) (e i).second))
+
+  pub right_yes : (f : Frame) → f ≡ framed (shape_of (settings_from (place_in w 1))) →
+      (ltb f.first (place_in w 2 % 256) && leb (place_in w 2 % 256) f.second) ≡ true → 1 ≡ bool_byte (right_next (card_in w))
+  right_yes f e h = right_same f e h
+
+  pub right_no : (f : Frame) → f ≡ framed (shape_of (settings_from (place_in w 1))) →
+      (ltb f.first (place_in w 2 % 256) && leb (place_in w 2 % 256) f.second) ≡ false → 0 ≡ bool_byte (right_next (card_in w))
+  right_no f e h = right_same f e h
 
   -- The whole.
   pub look_is : (bits frame waiting unread sdo right : ℕ) → bits ≡ bits_in (place_in w 1) → frame ≡ frame_in (place_in w 1) →

@@ -1,4 +1,6 @@
 // A look at an audio card in memory.
+#![tactic(auto)]
+
 ghost use Rattle.std.specs.Prelude.{◌+◌, ◌*◌, ◌≤◌, ◌≡◌};
 ghost use mir.Val.{bool_byte};
 ghost use Rattle.card_rules.specs.Calls.{sdo_of, right_next};
@@ -19,6 +21,7 @@ fn output(w: &[u32; 40]) -> u32
 }
 
 // Whether the right channel has the next first place.
+#[tactic(auto, using(crate::proofs::Looks::right_yes, crate::proofs::Looks::right_no))]
 fn right_next(w: &[u32; 40]) -> u32
     ensures { (result ≡ bool_byte (right_next (card_in w.now))) × (result ≤ 1) }
 {

@@ -3,8 +3,9 @@
 --     EdgeStep, edge_step        a whole edge: the words, what SDO shows, and what is received
 --     edged_place                the edge of the frame that comes next
 -- Assumes nothing.
-use Rattle.laws.proofs.Common.{ℕ, ◌+◌, ◌*◌, ◌-◌, ◌/◌, ◌%◌, ◌<◌, Bool, true, false, or-false, List, [], ◌∷◌, ◌++◌, ◌≡◌, refl}
-use Rattle.laws.proofs.Common.{ap, subst, ◌∙◌, arith, eq-eqb, ltb-true, ltb, leb, eqb, length, drop, if◌then◌else◌, if_keeps}
+use Rattle.std.specs.Prelude.{◌+◌, ◌*◌, ◌-◌, ◌/◌, ◌%◌, ◌<◌, ◌∷◌, ◌++◌, ◌≡◌}
+use Rattle.laws.proofs.Common.{ℕ, Bool, true, false, or-false, List, [], refl}
+use Rattle.laws.proofs.Common.{ap, subst, ◌∙◌, arith, eq-eqb, ltb-true, ltb, leb, eqb, length, drop, when◌then◌else◌, if_keeps}
 use Rattle.laws.proofs.Common.{if_both, if_true, clash}
 use Rattle.ring.specs.Ring.{next}
 use Rattle.word_order.specs.Bits.{bit_of, sampled_in}
@@ -24,8 +25,8 @@ port_with owed way unread = record { owed = owed; way = way; unread = unread; ma
 
 -- A zero sample is owed no word, and any other is the first of those owed.
 less_owed : (filler : Bool) (word : ℕ) (waiting : List ℕ) →
-    (if filler then (if filler then [] else word ∷ []) ++ waiting else drop 1 ((if filler then [] else word ∷ []) ++ waiting)) ≡ waiting
-unfolding if◌then◌else◌
+    (when filler then (when filler then [] else word ∷ []) ++ waiting else drop 1 ((when filler then [] else word ∷ []) ++ waiting)) ≡ waiting
+unfolding when◌then◌else◌
 less_owed true word waiting = refl
 less_owed false word waiting = refl
 
@@ -33,14 +34,14 @@ less_owed false word waiting = refl
 finish_port : (s : Shape) (filler : Bool) (word edges received : ℕ) (n : Engine) (way : Way) →
     port_of (finished received n)
     ≡ port.finished (terms_of s) (record { filler = filler; word = word; edges = edges; received = received })
-    (port_with ((if filler then [] else word ∷ []) ++ n.waiting) way n.unread)
-unfolding finished is_full port.finished loses_at if◌then◌else◌
+    (port_with ((when filler then [] else word ∷ []) ++ n.waiting) way n.unread)
+unfolding finished is_full port.finished loses_at when◌then◌else◌
 finish_port s filler word edges received n way =
     if_keeps
     (λ (x : Engine).
     port_with x.waiting idle x.unread
     ≡ port.finished (terms_of s) (record { filler = filler; word = word; edges = edges; received = received })
-    (port_with ((if filler then [] else word ∷ []) ++ n.waiting) way n.unread))
+    (port_with ((when filler then [] else word ∷ []) ++ n.waiting) way n.unread))
     (leb 8 (length n.unread)) _ _
     (λ e. rw (less_owed filler word n.waiting, or-false (leb 8 (length n.unread)), e))
     (λ e. rw (less_owed filler word n.waiting, or-false (leb 8 (length n.unread)), e))
@@ -62,7 +63,7 @@ having way waiting n = with_way way (with_waiting waiting n)
 
 pub taken_port : (s : Shape) (way : Way) (waiting : List ℕ) (n : Engine) →
     port_of (begun_from way (having way waiting n)) ≡ played (terms_of s) begins (port_of (having way waiting n))
-unfolding if◌then◌else◌
+unfolding when◌then◌else◌
 taken_port s idle [] n = refl
 taken_port s idle (word ∷ rest) n = refl
 taken_port s (sends u) waiting n = refl

@@ -6,15 +6,16 @@
 --     frame_is, lrck_same   first places, the next channel and LRCK, by the place in the frame
 --     place_next        the card's place in the frame is the count of edges, less whole frames
 -- Assumes nothing.
-use Rattle.laws.proofs.Common.{ℕ, ◌+◌, ◌*◌, ◌-◌, ◌/◌, ◌%◌, ◌≤◌, ◌<◌, Bool, true, false, not, ◌&&◌, ◌||◌, or-true, ◌≡◌, refl}
+use Rattle.std.specs.Prelude.{◌+◌, ◌*◌, ◌-◌, ◌/◌, ◌%◌, ◌≤◌, ◌<◌, ◌&&◌, ◌||◌, ◌≡◌}
+use Rattle.laws.proofs.Common.{ℕ, Bool, true, false, not, or-true, refl}
 use Rattle.laws.proofs.Common.{sym, ap, ◌∙◌, mod-lt, mod-eq_of_lt, arith, eqb-true, eq-eqb, ltb-true, ltb-false, lt-ltb}
-use Rattle.laws.proofs.Common.{leb-true, le-leb, ltb, leb, eqb, if◌then◌else◌, if_keeps, and_left, and_right, and_both}
+use Rattle.laws.proofs.Common.{leb-true, le-leb, ltb, leb, eqb, when◌then◌else◌, if_keeps, and_left, and_right, and_both}
 use native.Mathlib.Nat.{mod_self, suc-mod}
 use native.Mathlib.Numerals.{add-one}
 use Rattle.ring.specs.Ring.{next}
-use Rattle.card_rules.specs.Settings.{Protocol, i2s, leftJustified, rightJustified, pcm, named, Settings, shape_for, shape_of}
+use Rattle.card_rules.specs.Settings.{Protocol, i2s, left_justified, right_justified, pcm, named, Settings, shape_for, shape_of}
 use Rattle.card_rules.specs.Edge.{at_first_place, samples, lrck_at}
-use Rattle.card_rules.specs.Figures.{protocol_number, ahead, apart, zeros, isI2s, pairs, is_pair, startsChannel, rightFollows, lrckExpected, cardTerms}
+use Rattle.card_rules.specs.Figures.{protocol_number, ahead, apart, zeros, is_i2s, pairs, is_pair, starts_channel, right_follows, lrck_expected, card_terms}
 use Rattle.card_order.specs.Invariant.{Fits, terms_of}
 
 -- Two tests that follow from each other agree.
@@ -65,8 +66,8 @@ pairs_same bits frame = go (eqb bits 16) (eqb bits 24) (eqb bits 32) (eqb frame 
 
 fits : (p : Protocol) (bits frame : ℕ) → 1 ≤ bits → bits ≤ 32 → bits ≤ frame / 2 → 16 ≤ frame / 2 → Fits (shape_for p bits frame)
 fits i2s b f x m y z = record { some = x; most = m; left = omega arith; right = omega arith; inside = omega arith }
-fits leftJustified b f x m y z = record { some = x; most = m; left = omega arith; right = omega arith; inside = omega arith }
-fits rightJustified b f x m y z = record { some = x; most = m; left = omega arith; right = omega arith; inside = omega arith }
+fits left_justified b f x m y z = record { some = x; most = m; left = omega arith; right = omega arith; inside = omega arith }
+fits right_justified b f x m y z = record { some = x; most = m; left = omega arith; right = omega arith; inside = omega arith }
 fits pcm b f x m y z = record { some = x; most = m; left = omega arith; right = omega arith; inside = omega arith }
 
 pub named_fits : (x : Settings) → named x.bits x.frame ≡ true → Fits (shape_of x)
@@ -86,26 +87,26 @@ pub record SameFigures (x : Settings) : Type 0 where
   pub bits : x.bits ≡ (shape_of x).bits
   pub frame : x.frame ≡ (shape_of x).frame
   -- LRCK is active for half a frame, or for one clock
-  pub active : (if eqb (protocol_number x.protocol) 3 then 1 else x.frame / 2) ≡ (shape_of x).active
-  pub rest : isI2s x ≡ (shape_of x).rest
+  pub active : (when eqb (protocol_number x.protocol) 3 then 1 else x.frame / 2) ≡ (shape_of x).active
+  pub rest : is_i2s x ≡ (shape_of x).rest
   pub small : (shape_of x).before ≤ 1
 
 pub same_figures : (x : Settings) → SameFigures x
-unfolding shape_of if◌then◌else◌
+unfolding shape_of when◌then◌else◌
 same_figures x = go x.protocol
   where
     go : (p : Protocol) → SameFigures (record { protocol = p; bits = x.bits; frame = x.frame })
     go i2s =
         record { before = refl; step = refl; lead = refl; bits = refl; frame = refl; active = refl; rest = refl; small = omega arith }
-    go leftJustified =
+    go left_justified =
         record { before = refl; step = refl; lead = refl; bits = refl; frame = refl; active = refl; rest = refl; small = omega arith }
-    go rightJustified =
+    go right_justified =
         record { before = refl; step = refl; lead = refl; bits = refl; frame = refl; active = refl; rest = refl; small = omega arith }
     go pcm =
         record { before = refl; step = refl; lead = refl; bits = refl; frame = refl; active = refl; rest = refl; small = omega arith }
 
 -- The law's terms.
-pub terms_same : (x : Settings) → cardTerms x ≡ terms_of (shape_of x)
+pub terms_same : (x : Settings) → card_terms x ≡ terms_of (shape_of x)
 unfolding samples
 terms_same x = let s = same_figures x in rw s.lead (simp s.bits)
 
@@ -192,8 +193,8 @@ module _ (f : ℕ) (q : Halves f) (b k n : ℕ) (small : b ≤ 1) (inside : b + 
 
 -- So much of a card's frame.
 pub record FrameIs (x : Settings) (n : ℕ) : Type 0 where
-  pub starts : startsChannel x n ≡ at_first_place (shape_of x) (n % (2 * x.frame))
-  pub follows : rightFollows x n
+  pub starts : starts_channel x n ≡ at_first_place (shape_of x) (n % (2 * x.frame))
+  pub follows : right_follows x n
       ≡ (ltb (2 * (shape_of x).before) (n % (2 * x.frame)) && leb (n % (2 * x.frame)) (2 * ((shape_of x).before + (shape_of x).step)))
   pub half : n / 2 % x.frame ≡ n % (2 * x.frame) / 2
 
@@ -231,15 +232,15 @@ lrck_half r a =
 
 -- the clock before the last edge lies in LRCK's active part
 pub lrck_same : (x : Settings) → named x.bits x.frame ≡ true → (n : ℕ) →
-    lrck_at (shape_of x) (n % (2 * x.frame)) ≡ lrckExpected x (n + 1)
-unfolding lrck_at if◌then◌else◌
+    lrck_at (shape_of x) (n % (2 * x.frame)) ≡ lrck_expected x (n + 1)
+unfolding lrck_at when◌then◌else◌
 lrck_same x e n =
     let s = same_figures x in
     let same : n + 1 - 1 ≡ n = omega arith in
     rw (s.active, s.rest, le-leb 1 (n + 1) (omega arith), same, (frame_is x e n).half, ← lrck_half)
     (turn (shape_of x).rest (ltb (n % (2 * x.frame)) (2 * (shape_of x).active)))
   where
-    turn : (r t : Bool) → (if t then not r else r) ≡ (if r then not t else t)
+    turn : (r t : Bool) → (when t then not r else r) ≡ (when r then not t else t)
     turn true true = refl
     turn true false = refl
     turn false true = refl

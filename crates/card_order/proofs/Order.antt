@@ -5,8 +5,9 @@
 --     card_tied    a card and its ledger after any calls from power-up
 --     card_order_lem   demand 3's word order
 -- Assumes nothing.
-use Rattle.laws.proofs.Common.{ℕ, ◌*◌, ◌-◌, ◌/◌, ◌%◌, ◌≤◌, Bool, true, false, not, List, [], ◌∷◌, append_assoc, ◌≡◌, refl}
-use Rattle.laws.proofs.Common.{sym, ap, ◌∙◌, mod-lt, arith, not-false, if◌then◌else◌, if_keeps, clash}
+use Rattle.std.specs.Prelude.{◌*◌, ◌-◌, ◌/◌, ◌%◌, ◌≤◌, ◌∷◌, ◌≡◌}
+use Rattle.laws.proofs.Common.{ℕ, Bool, true, false, not, List, [], append_assoc, refl}
+use Rattle.laws.proofs.Common.{sym, ap, ◌∙◌, mod-lt, arith, not-false, when◌then◌else◌, if_keeps, clash}
 use native.Mathlib.Nat.{zero-mod}
 use lib.Pow.{pow_pos}
 use Rattle.word_order.specs.Bits.{sampled_in}
@@ -16,8 +17,8 @@ use Rattle.word_order.proofs.Order.{TiedOn, calls_tied, in_order_lem}
 use Rattle.card_rules.specs.Settings.{named, Settings, Shape, shape_of}
 use Rattle.card_rules.specs.Card.{Pins, Flags, Engine, Card, with_flags, with_unread, with_engine, powered_up}
 use Rattle.card_rules.specs.Edge.{at_first_place, samples, last_edge, is_full}
-use Rattle.card_rules.specs.Calls.{Call, setProtocol, set_length, enable, disable, write, read, edge, clearUnderrun, clearOverflow, Outcome, set_protocol_of, set_length_of, enable_of, disable_of, sample_of, write_of, read_from, read_of, edge_of, clear_underrun_of, clear_overflow_of, perform_of, perform}
-use Rattle.card_rules.specs.Figures.{startsChannel}
+use Rattle.card_rules.specs.Calls.{Call, set_protocol, set_length, enable, disable, write, read, edge, clear_underrun, clear_overflow, Outcome, set_protocol_of, set_length_of, enable_of, disable_of, sample_of, write_of, read_from, read_of, edge_of, clear_underrun_of, clear_overflow_of, perform_of, perform}
+use Rattle.card_rules.specs.Figures.{starts_channel}
 use Rattle.card_rules.specs.Watch.{port_of, Sight, edges_after, edge_ops, entry_of, watching, powered_up_card, life}
 use Rattle.card_order.specs.Invariant.{Fits, terms_of, WithinOn, Holds}
 use Rattle.card_order.proofs.Sampling.{sampled_in_lem}
@@ -26,8 +27,8 @@ use Rattle.card_order.proofs.FiguresHold.{named_fits, same_figures, terms_same, 
 
 -- Three choices by one test have what their values have.
 if_three : {A B C : Type 0} (P : A → B → C → Type 0) (b : Bool) (x y : A) (u v : B) (p q : C) → (b ≡ true → P x u p) →
-    (b ≡ false → P y v q) → P (if b then x else y) (if b then u else v) (if b then p else q)
-unfolding if◌then◌else◌
+    (b ≡ false → P y v q) → P (when b then x else y) (when b then u else v) (when b then p else q)
+unfolding when◌then◌else◌
 if_three P true x y u v p q h k = h refl
 if_three P false x y u v p q h k = k refl
 
@@ -75,7 +76,7 @@ moved m n h on shows within =
 
 pub keeps : (m : Card) (c : Call) → Holds m → Holds (perform m c)
 unfolding set_protocol_of set_length_of enable_of disable_of write_of read_of edge_of clear_underrun_of clear_overflow_of
-keeps m (setProtocol p) h = if_keeps After m.enabled _ _ (λ e. h) (λ off. set_anew m _ h off h.names)
+keeps m (set_protocol p) h = if_keeps After m.enabled _ _ (λ e. h) (λ off. set_anew m _ h off h.names)
 keeps m (set_length bits frame) h =
     if_keeps After m.enabled _ _ (λ e. h)
     (λ off. if_keeps After (named bits frame) _ _ (λ e. set_anew m _ h off e) (λ e. h))
@@ -97,8 +98,8 @@ keeps m (edge sdi) h =
     let s : Shape = shape_of m.settings in
     let g = edge_step s (named_fits m.settings h.names) sdi m.engine (at_first_place s m.engine.place) refl h.shows h.within in
     moved m _ h on g.shows g.within)
-keeps m clearUnderrun h = flagged m _ h
-keeps m clearOverflow h = flagged m _ h
+keeps m clear_underrun h = flagged m _ h
+keeps m clear_overflow h = flagged m _ h
 
 -- A call, by its outcome.
 abbrev pub StepOf : Card → Call → ℕ → Outcome → Type 0
@@ -117,8 +118,8 @@ module _ (m : Card) (n : ℕ) (h : Holds m) (tied : m.enabled ≡ true → m.eng
 
   pub steps : (c : Call) → StepOf m c n (perform_of m c)
   unfolding set_protocol_of set_length_of enable_of disable_of write_of sample_of read_of edge_of clear_underrun_of clear_overflow_of
-  steps (setProtocol p) =
-      if_keeps (StepOf m (setProtocol p) n) m.enabled _ _ (λ e on. (unchanged on, tied on)) (λ off on. clash m.enabled on off)
+  steps (set_protocol p) =
+      if_keeps (StepOf m (set_protocol p) n) m.enabled _ _ (λ e on. (unchanged on, tied on)) (λ off on. clash m.enabled on off)
   steps (set_length bits frame) =
       if_keeps (StepOf m (set_length bits frame) n) m.enabled _ _ (λ e on. (unchanged on, tied on))
       (λ off.
@@ -158,16 +159,16 @@ module _ (m : Card) (n : ℕ) (h : Holds m) (tied : m.enabled ≡ true → m.eng
       (λ e on.
       let x : Settings = m.settings in
       let s : Shape = shape_of x in
-      let same : startsChannel x n ≡ at_first_place s m.engine.place =
+      let same : starts_channel x n ≡ at_first_place s m.engine.place =
       (frame_is x h.names n).starts ∙ ap (at_first_place s) (sym (tied on)) in
-      let g : EdgeStep s sdi (edge_ops (startsChannel x n) m.engine.pins.sdo sdi) m.engine =
-      edge_step s (named_fits x h.names) sdi m.engine (startsChannel x n) same h.shows h.within in (
+      let g : EdgeStep s sdi (edge_ops (starts_channel x n) m.engine.pins.sdo sdi) m.engine =
+      edge_step s (named_fits x h.names) sdi m.engine (starts_channel x n) same h.shows h.within in (
         record { ports = g.ports; legal = g.legal; stays = λ f. (on, refl) },
         rw (edged_place s sdi m.engine, ← (same_figures x).frame)
             (place_next x.frame n m.engine.place (some_frame x h.names) (tied on)),
       ))
-  steps clearUnderrun = λ on. (unchanged on, tied on)
-  steps clearOverflow = λ on. (unchanged on, tied on)
+  steps clear_underrun = λ on. (unchanged on, tied on)
+  steps clear_overflow = λ on. (unchanged on, tied on)
 
 -- What the card owes the law.
 pub whole : (m : Card) → Holds m → Whole (terms_of (shape_of m.settings))

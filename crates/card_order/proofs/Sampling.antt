@@ -4,7 +4,8 @@
 --     channel_bit_lem      what SDO shows in a clock with a bit
 --     received_whole   the shift register loses no bit
 -- Assumes nothing.
-use Rattle.laws.proofs.Common.{ℕ, zero, suc, ◌+◌, ◌*◌, ◌-◌, ◌/◌, ◌%◌, ◌^◌, ◌≤◌, ◌<◌, Bool, true, false, ◌&&◌, ◌≡◌, refl, ap}
+use Rattle.std.specs.Prelude.{◌+◌, ◌*◌, ◌-◌, ◌/◌, ◌%◌, ◌^◌, ◌≤◌, ◌<◌, ◌&&◌, ◌≡◌}
+use Rattle.laws.proofs.Common.{ℕ, zero, suc, Bool, true, false, refl, ap}
 use Rattle.laws.proofs.Common.{mod-eq_of_lt, pow-succ', arith, eqb-true, eqb-false, ne_eqb, ltb-true, ltb-false, lt-ltb}
 use Rattle.laws.proofs.Common.{le-leb, ltb, leb, eqb, if_both, if_true, and_left, and_right, and_rest, by_test}
 use native.Mathlib.Numerals.{add-one}

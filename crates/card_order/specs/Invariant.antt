@@ -1,6 +1,6 @@
 -- What calls keep of a card.
 use Rattle.std.specs.Prelude.{◌+◌, ◌-◌, ◌/◌, ◌^◌, ◌≤◌, ◌<◌, true, false, ◌≡◌}
-use Rattle.word_order.specs.Ledger.{dropsNew, Terms}
+use Rattle.word_order.specs.Ledger.{drops_new, Terms}
 use Rattle.word_order.specs.Port.{Under, Way, idle, sends, ShowsOn}
 use Rattle.card_rules.specs.Settings.{named, Shape, shape_of}
 use Rattle.card_rules.specs.Card.{Card, emptied}
@@ -17,7 +17,7 @@ pub record Fits (s : Shape) : Type 0 where
 -- The law's terms by the card's rules.
 abbrev pub terms_of : Shape → Terms
 terms_of s =
-    record { width = s.bits; depth = 8; policy = dropsNew false; samples = samples s; last = last_edge s; silent = false }
+    record { width = s.bits; depth = 8; policy = drops_new false; samples = samples s; last = last_edge s; silent = false }
 
 -- A sample under way is short of its last edge, and has received no more than its bits so far.
 pub record Within (s : Shape) (u : Under) : Type 0 where

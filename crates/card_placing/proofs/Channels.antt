@@ -5,7 +5,8 @@
 --     spot_next, spot_turn        one edge on within a channel, and into the next one
 --     one_channel    a clock lies in one channel
 -- Assumes nothing.
-use Rattle.laws.proofs.Common.{ℕ, zero, suc, ◌+◌, ◌*◌, ◌-◌, ◌/◌, ◌%◌, ◌≤◌, ◌<◌, true, false, or-true, ◌≡◌, ap, ◌∙◌, add-mul}
+use Rattle.std.specs.Prelude.{◌+◌, ◌*◌, ◌-◌, ◌/◌, ◌%◌, ◌≤◌, ◌<◌, ◌≡◌}
+use Rattle.laws.proofs.Common.{ℕ, zero, suc, true, false, or-true, ap, ◌∙◌, add-mul}
 use Rattle.laws.proofs.Common.{arith, eqb-true, eqb-false, eq-eqb, ne_eqb, ltb-true, ltb-false, lt-ltb, le-ltb, leb-true}
 use Rattle.laws.proofs.Common.{leb-false, le-leb, lt-leb, ltb, leb, eqb, if_true, if_false, by_test}
 use Rattle.ring.specs.Ring.{next}

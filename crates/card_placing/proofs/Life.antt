@@ -3,16 +3,17 @@
 --     call_on    one call keeps it
 --     life_on    every life from power-up
 -- Assumes nothing.
-use Rattle.laws.proofs.Common.{ℕ, ◌+◌, ◌*◌, ◌%◌, Bool, true, false, not, Bool·beq, List, [], ◌∷◌, ◌≡◌, refl, sym, ap, ◌∙◌}
-use Rattle.laws.proofs.Common.{arith, eqb-true, eqb-false, eq-eqb, ne_eqb, eqb, if◌then◌else◌, if_keeps, by_test, clash}
+use Rattle.std.specs.Prelude.{◌+◌, ◌*◌, ◌%◌, ◌∷◌, ◌≡◌}
+use Rattle.laws.proofs.Common.{ℕ, Bool, true, false, not, Bool·beq, List, [], refl, sym, ap, ◌∙◌}
+use Rattle.laws.proofs.Common.{arith, eqb-true, eqb-false, eq-eqb, ne_eqb, eqb, when◌then◌else◌, if_keeps, by_test, clash}
 use Rattle.word_order.specs.Ledger.{Ledger}
 use Rattle.word_order.specs.Machine.{Watched, watched_call, watched_calls}
 use Rattle.word_order.proofs.Order.{TiedOn, call_tied}
 use Rattle.card_rules.specs.Settings.{named, Settings, Shape, shape_of}
 use Rattle.card_rules.specs.Card.{Engine, powered_up}
 use Rattle.card_rules.specs.Edge.{at_first_place, is_full, lrck_at, turned, edged}
-use Rattle.card_rules.specs.Calls.{Call, setProtocol, set_length, enable, disable, write, read, edge, clearUnderrun, clearOverflow, Outcome, set_protocol_of, set_length_of, enable_of, disable_of, write_of, read_from, read_of, edge_of, clear_underrun_of, clear_overflow_of}
-use Rattle.card_rules.specs.Figures.{isI2s, startsChannel, sckExpected, lrckExpected}
+use Rattle.card_rules.specs.Calls.{Call, set_protocol, set_length, enable, disable, write, read, edge, clear_underrun, clear_overflow, Outcome, set_protocol_of, set_length_of, enable_of, disable_of, write_of, read_from, read_of, edge_of, clear_underrun_of, clear_overflow_of}
+use Rattle.card_rules.specs.Figures.{is_i2s, starts_channel, sck_expected, lrck_expected}
 use Rattle.card_rules.specs.Watch.{watching, powered_up_card, life}
 use Rattle.card_rules.specs.CardDemands.{took_after, took_from, took}
 use Rattle.card_order.specs.Invariant.{Holds}
@@ -24,8 +25,8 @@ use Rattle.card_placing.proofs.Stages.{samples_then, edge_stage}
 
 pub record On (x : Settings) (n : Engine) (count : ℕ) (samples : List ℕ) : Type 0 where
   pub stage : Stage (shape_of x) count n.place n.way n.pins.sdo samples
-  pub sck : n.pins.sck ≡ sckExpected x count
-  pub lrck : n.pins.lrck ≡ lrckExpected x count
+  pub sck : n.pins.sck ≡ sck_expected x count
+  pub lrck : n.pins.lrck ≡ lrck_expected x count
 
 -- SCK: an edge more.
 next_even : (count : ℕ) → eqb ((count + 1) % 2) 0 ≡ not (eqb (count % 2) 0)
@@ -44,25 +45,25 @@ turned_sck count b sck e = rw (e, next_even count) (turn (eqb (count % 2) 0) b)
     turn false false = refl
 
 -- Enabling: nothing is held, SCK idles and LRCK is inactive.
-enabled_on : (x : Settings) → ((shape_of x).rest ≡ sckExpected x 0) × ((shape_of x).rest ≡ lrckExpected x 0)
-unfolding if◌then◌else◌
+enabled_on : (x : Settings) → ((shape_of x).rest ≡ sck_expected x 0) × ((shape_of x).rest ≡ lrck_expected x 0)
+unfolding when◌then◌else◌
 enabled_on x = rw (same_figures x).rest (go (shape_of x).rest)
   where
-    go : (r : Bool) → (r ≡ Bool·beq true r) × (r ≡ (if r then true else false))
+    go : (r : Bool) → (r ≡ Bool·beq true r) × (r ≡ (when r then true else false))
     go true = (refl, refl)
     go false = (refl, refl)
 
 -- An edge.
 edge_on : (x : Settings) → named x.bits x.frame ≡ true → (sdi : Bool) (n : Engine) (count : ℕ) (samples : List ℕ) →
     n.place ≡ count % (2 * x.frame) → On x n count samples →
-    On x (edged (shape_of x) sdi n) (count + 1) (samples_then (startsChannel x count) samples n.waiting)
+    On x (edged (shape_of x) sdi n) (count + 1) (samples_then (starts_channel x count) samples n.waiting)
 unfolding turned
 edge_on x e sdi n count samples here was =
     let s : Shape = shape_of x in
-    let first : at_first_place s n.place ≡ startsChannel x count = ap (at_first_place s) here ∙ sym (frame_is x e count).starts in
+    let first : at_first_place s n.place ≡ starts_channel x count = ap (at_first_place s) here ∙ sym (frame_is x e count).starts in
     record {
       stage = rw (← first) (edge_stage s (named_fits x e) sdi n count samples was.stage);
-      sck = ap not (clocked_place s sdi n).1 ∙ turned_sck count (isI2s x) n.pins.sck was.sck;
+      sck = ap not (clocked_place s sdi n).1 ∙ turned_sck count (is_i2s x) n.pins.sck was.sck;
       lrck = ap (lrck_at s) ((clocked_place s sdi n).0 ∙ here) ∙ lrck_same x e count;
     }
 
@@ -75,8 +76,8 @@ call_on : (on : Bool) (x : Settings) (n : Engine) (count : ℕ) (l : Ledger) (sa
     named x.bits x.frame ≡ true → (on ≡ true → n.place ≡ count % (2 * x.frame)) → (on ≡ true → On x n count samples) →
     let y : Watched watching = watched_call watching (at on x n count l) c in
     y.now.enabled ≡ true → On y.now.settings y.now.engine y.memory (took_after (at on x n count l) samples c)
-unfolding if◌then◌else◌ set_protocol_of set_length_of enable_of disable_of write_of read_of edge_of clear_underrun_of clear_overflow_of
-call_on true x n count l samples (setProtocol p) e here was stays = was refl
+unfolding when◌then◌else◌ set_protocol_of set_length_of enable_of disable_of write_of read_of edge_of clear_underrun_of clear_overflow_of
+call_on true x n count l samples (set_protocol p) e here was stays = was refl
 call_on true x n count l samples (set_length bits frame) e here was stays = was refl
 call_on true x n count l samples enable e here was stays = was refl
 call_on true x n count l samples disable e here was stays = clash false stays refl
@@ -91,11 +92,11 @@ call_on true x n count l samples read e here was stays = go n.unread
     go [] = was refl
     go (sample ∷ rest) = let w : On x n count samples = was refl in record { stage = w.stage; sck = w.sck; lrck = w.lrck }
 call_on true x n count l samples (edge sdi) e here was stays = edge_on x e sdi n count samples (here refl) (was refl)
-call_on true x n count l samples clearUnderrun e here was stays =
+call_on true x n count l samples clear_underrun e here was stays =
     let w : On x n count samples = was refl in record { stage = w.stage; sck = w.sck; lrck = w.lrck }
-call_on true x n count l samples clearOverflow e here was stays =
+call_on true x n count l samples clear_overflow e here was stays =
     let w : On x n count samples = was refl in record { stage = w.stage; sck = w.sck; lrck = w.lrck }
-call_on false x n count l samples (setProtocol p) e here was stays = clash false stays refl
+call_on false x n count l samples (set_protocol p) e here was stays = clash false stays refl
 call_on false x n count l samples (set_length bits frame) e here was stays =
     clash false
     (sym (if_keeps (λ (o : Outcome). o.after.enabled ≡ false) (named bits frame) _ _ (λ f. refl) (λ f. refl)) ∙ stays)
@@ -106,8 +107,8 @@ call_on false x n count l samples disable e here was stays = clash false stays r
 call_on false x n count l samples (write v) e here was stays = clash false stays refl
 call_on false x n count l samples read e here was stays = clash false stays refl
 call_on false x n count l samples (edge sdi) e here was stays = clash false stays refl
-call_on false x n count l samples clearUnderrun e here was stays = clash false stays refl
-call_on false x n count l samples clearOverflow e here was stays = clash false stays refl
+call_on false x n count l samples clear_underrun e here was stays = clash false stays refl
+call_on false x n count l samples clear_overflow e here was stays = clash false stays refl
 
 -- Every life from power-up.
 calls_on : (cs : List Call) (x : Watched watching) (samples : List ℕ) → Holds x.now → TiedOn watching owes x →

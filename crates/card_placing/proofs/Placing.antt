@@ -3,17 +3,18 @@
 --     bits_placed    bit i of channel j in its clock, and 0 in every other
 --     sdi_unheard    SDI counts at the second edge of a clock with a bit alone
 -- Assumes nothing.
-use Rattle.laws.proofs.Common.{ℕ, suc, ◌+◌, ◌*◌, ◌-◌, ◌/◌, ◌%◌, ◌≤◌, ◌<◌, Bool, true, false, ◌&&◌, List, [], ◌∷◌, ◌++◌, ◌≡◌}
+use Rattle.std.specs.Prelude.{◌+◌, ◌*◌, ◌-◌, ◌/◌, ◌%◌, ◌≤◌, ◌<◌, ◌&&◌, ◌∷◌, ◌++◌, ◌≡◌}
+use Rattle.laws.proofs.Common.{ℕ, suc, Bool, true, false, List, []}
 use Rattle.laws.proofs.Common.{refl, sym, ap, ◌∙◌, add-zero, mod-eq_of_lt, div-eq_of_lt, mul-add-div_right, arith, eqb-true}
 use Rattle.laws.proofs.Common.{eqb-false, ltb-true, ltb-false, leb-true, le-leb, lt-leb, ltb, leb, eqb, length, get_or}
-use Rattle.laws.proofs.Common.{if◌then◌else◌, if_keeps, if_false, by_test, and_left, and_right, and_first, and-false}
+use Rattle.laws.proofs.Common.{when◌then◌else◌, if_keeps, if_false, by_test, and_left, and_right, and_first, and-false}
 use native.Mathlib.Nat.{mul-add-mod_self_right}
 use Rattle.word_order.specs.Bits.{bit_of}
 use Rattle.word_order.specs.Port.{Under, Way, idle, sends}
 use Rattle.card_rules.specs.Settings.{named, Settings, Shape, shape_of}
 use Rattle.card_rules.specs.Card.{Engine}
 use Rattle.card_rules.specs.Edge.{at_first_place, samples, last_edge, channel_bit, received_after, shifted, clocked_as, clocked, taken, begun, begun_from, turned, edged}
-use Rattle.card_rules.specs.Figures.{bitClock, bitShown, sdoExpected}
+use Rattle.card_rules.specs.Figures.{bit_clock, bit_shown, sdo_expected}
 use Rattle.card_rules.specs.CardDemands.{Placed}
 use Rattle.card_order.specs.Invariant.{Fits}
 use Rattle.card_order.proofs.Sampling.{channel_bit_lem, samples_odd, sampling}
@@ -23,7 +24,7 @@ use Rattle.card_placing.proofs.Channels.{first_next, last_within, first_zero, fi
 use Rattle.card_placing.proofs.Stages.{first_idle}
 
 -- The clock of a bit.
-clock_same : (x : Settings) (j i : ℕ) → bitClock x j i ≡ first_place (shape_of x) j + (shape_of x).lead + i
+clock_same : (x : Settings) (j i : ℕ) → bit_clock x j i ≡ first_place (shape_of x) j + (shape_of x).lead + i
 unfolding first_place
 clock_same x j i = let s = same_figures x in rw (s.lead, s.step, s.before, ← s.frame) (omega arith)
 
@@ -33,10 +34,10 @@ module _ (s : Shape) where
   right k = leb s.step ((k - s.before) % s.frame)
 
   abbrev channel : ℕ → ℕ
-  channel k = 2 * ((k - s.before) / s.frame) + (if right k then 1 else 0)
+  channel k = 2 * ((k - s.before) / s.frame) + (when right k then 1 else 0)
 
   abbrev clock : ℕ → ℕ
-  clock k = (k - s.before) % s.frame - (if right k then s.step else 0)
+  clock k = (k - s.before) % s.frame - (when right k then s.step else 0)
 
   abbrev shown_at : List ℕ → ℕ → Bool
   shown_at took k =
@@ -44,7 +45,7 @@ module _ (s : Shape) where
       && (leb s.lead (clock k)
       && (ltb (clock k) (s.lead + s.bits) && bit_of (get_or took (channel k) 0) (s.bits - 1 - (clock k - s.lead))))
 
-shown_same : (x : Settings) (took : List ℕ) (k : ℕ) → bitShown x took k ≡ shown_at (shape_of x) took k
+shown_same : (x : Settings) (took : List ℕ) (k : ℕ) → bit_shown x took k ≡ shown_at (shape_of x) took k
 shown_same x took k = let s = same_figures x in rw (s.lead, s.step, s.before, ← s.frame, ← s.bits)
 
 -- Clock number c of channel j.
@@ -88,21 +89,21 @@ module _ (s : Shape) (f : Fits s) (j c : ℕ) (short : c < clocks_of s (j % 2)) 
       (λ z h. rw z (le-leb s.step (1 * s.step + c) (omega arith))))
 
   its-channel : channel s k ≡ j
-  unfolding if◌then◌else◌
+  unfolding when◌then◌else◌
   its-channel = rw (is_right, frames) (by_side (λ z h. rw z (omega arith)) (λ z h. rw z (omega arith)))
 
   its-clock : clock s k ≡ c
-  unfolding if◌then◌else◌
+  unfolding when◌then◌else◌
   its-clock = rw (is_right, rest) (by_side (λ z h. rw z (omega arith)) (λ z h. rw z (omega arith)))
 
   shown-in : (took : List ℕ) → shown_at s took k ≡ channel_bit s (get_or took j 0) c
-  unfolding channel_bit if◌then◌else◌
+  unfolding channel_bit when◌then◌else◌
   shown-in took =
       let up : first_place s 0 ≤ first_place s j = first_rises s f 0 j (omega arith) in
       rw (its-channel, its-clock, le-leb s.before k (omega (arith, first_zero s)))
       (chosen (leb s.lead c) (ltb c (s.lead + s.bits)) _)
     where
-      chosen : (a b t : Bool) → (a && (b && t)) ≡ (if a && b then t else false)
+      chosen : (a b t : Bool) → (a && (b && t)) ≡ (when a && b then t else false)
       chosen true true t = refl
       chosen true false t = refl
       chosen false b t = refl
@@ -130,7 +131,7 @@ stage_shown s f count place way sdo took (running j e sample front all size sum 
     rw (le-leb 1 count (omega arith), at, shown-in s f j c short took, its) shows
 
 pub sdo_shown_lem : (x : Settings) → named x.bits x.frame ≡ true → (n : Engine) (count : ℕ) (took : List ℕ) →
-    Stage (shape_of x) count n.place n.way n.pins.sdo took → n.pins.sdo ≡ sdoExpected x took count
+    Stage (shape_of x) count n.place n.way n.pins.sdo took → n.pins.sdo ≡ sdo_expected x took count
 sdo_shown_lem x e n count took stage =
     rw (shown_same x took ((count - 1) / 2))
     (stage_shown (shape_of x) (named_fits x e) count n.place n.way n.pins.sdo took stage)
@@ -191,7 +192,7 @@ bits_placed x e n count took some stage =
 
 -- SDI counts where an edge samples, and nowhere else.
 received_deaf : (s : Shape) (u : Under) → samples s (u.edges + 1) ≡ false → received_after s true u ≡ received_after s false u
-unfolding received_after if◌then◌else◌
+unfolding received_after when◌then◌else◌
 received_deaf s u e = rw e
 
 clocked_deaf : (s : Shape) (way : Way) (n : Engine) → ((u : Under) → way ≡ sends u → samples s (u.edges + 1) ≡ false) →
@@ -248,7 +249,7 @@ begun_deaf s f n count took stage none u =
 
 pub sdi_unheard : (x : Settings) → named x.bits x.frame ≡ true → (n : Engine) (count : ℕ) (took : List ℕ) →
     Stage (shape_of x) count n.place n.way n.pins.sdo took →
-    ((j i : ℕ) → i < x.bits → count ≡ 2 * bitClock x j i + 1 → ⊥) → edged (shape_of x) true n ≡ edged (shape_of x) false n
+    ((j i : ℕ) → i < x.bits → count ≡ 2 * bit_clock x j i + 1 → ⊥) → edged (shape_of x) true n ≡ edged (shape_of x) false n
 sdi_unheard x e n count took stage none =
     let s : Shape = shape_of x in
     let same : x.bits ≡ s.bits = (same_figures x).bits in

@@ -3,9 +3,10 @@
 --     Moves        what an edge leaves of a channel: what is under way, and SDO
 --     edge_stage   an edge keeps the card at a stage, and a first place adds the sample that is taken
 -- Assumes nothing.
-use Rattle.laws.proofs.Common.{ℕ, suc, ◌+◌, ◌*◌, ◌-◌, ◌/◌, ◌%◌, ◌≤◌, ◌<◌, Bool, true, false, ◌&&◌, List, [], ◌∷◌, ◌++◌, ◌≡◌}
+use Rattle.std.specs.Prelude.{◌+◌, ◌*◌, ◌-◌, ◌/◌, ◌%◌, ◌≤◌, ◌<◌, ◌&&◌, ◌∷◌, ◌++◌, ◌≡◌}
+use Rattle.laws.proofs.Common.{ℕ, suc, Bool, true, false, List, []}
 use Rattle.laws.proofs.Common.{refl, sym, ap, ap₂, subst, ◌∙◌, arith, eqb-true, eqb-false, ltb-true, ltb-false, le-ltb, ltb}
-use Rattle.laws.proofs.Common.{leb, eqb, length, get_or, length-append, if◌then◌else◌, if_keeps, if_true, if_false, and-false}
+use Rattle.laws.proofs.Common.{leb, eqb, length, get_or, length-append, when◌then◌else◌, if_keeps, if_true, if_false, and-false}
 use Rattle.laws.proofs.Common.{by_test, clash}
 use Rattle.ring.specs.Ring.{next}
 use Rattle.word_order.specs.Port.{Under, Way, idle, sends}
@@ -114,7 +115,7 @@ first_moves s f sdi n first rests =
         sample_moves s sdi sample 0 _ (taken (sample ∷ rest) n) refl refl (omega (arith, f.some)) (λ h. absurd (omega arith))
 
 abbrev pub samples_then : Bool → List ℕ → List ℕ → List ℕ
-samples_then first samples waiting = if first then samples ++ (get_or waiting 0 0 ∷ []) else samples
+samples_then first samples waiting = when first then samples ++ (get_or waiting 0 0 ∷ []) else samples
 
 -- An edge.
 pub edge_stage : (s : Shape) → Fits s → (sdi : Bool) (n : Engine) (count : ℕ) (samples : List ℕ) →

@@ -1,6 +1,6 @@
 -- Where an enabled card stands between two first places, for any shape of a frame.
 use Rattle.std.specs.Prelude.{ℕ, zero, suc, ◌+◌, ◌*◌, ◌-◌, ◌/◌, ◌%◌, ◌≤◌, ◌<◌, Bool, false, List, [], ◌∷◌, ◌++◌, ◌≡◌, leb, length}
-use Rattle.laws.specs.Choice.{if◌then◌else◌}
+use Rattle.laws.specs.Choice.{when◌then◌else◌}
 use Rattle.word_order.specs.Port.{Under, Way, idle, sends}
 use Rattle.card_rules.specs.Settings.{Shape}
 use Rattle.card_rules.specs.Edge.{last_edge, channel_bit}
@@ -16,7 +16,7 @@ clocks_of s (suc k) = s.frame - s.step
 
 -- The edge of the frame `x` edges behind its start, `x` being less than two frames.
 unfoldable pub wrapped : Shape → ℕ → ℕ
-wrapped s x = if leb (2 * s.frame) x then x - 2 * s.frame else x
+wrapped s x = when leb (2 * s.frame) x then x - 2 * s.frame else x
 
 -- The edge of the frame `e` edges behind the first place of a left or a right channel.
 abbrev pub offset : Shape → ℕ → ℕ

@@ -3,15 +3,16 @@
 --     run         the tests at every call of a list
 --     page_runs   if the page holds, every run is true: a run that is false refutes the page
 -- Assumes nothing.
-use Rattle.laws.proofs.Common.{ℕ, ◌+◌, Bool, true, false, not, ◌&&◌, ◌||◌, List, [], ◌∷◌, ◌++◌, ◌≡◌, refl, sym, ap, subst}
-use Rattle.laws.proofs.Common.{subst₂, ◌∙◌, not-true, eqb, ltb, length, get_or, if◌then◌else◌, and_both}
+use Rattle.std.specs.Prelude.{◌&&◌, ◌||◌, ◌∷◌, ◌++◌, ◌≡◌}
+use Rattle.laws.proofs.Common.{ℕ, Bool, true, false, not, List, [], refl, sym, ap, subst}
+use Rattle.laws.proofs.Common.{subst₂, ◌∙◌, not-true, eqb, ltb, length, get_or, when◌then◌else◌, and_both}
 use Rattle.word_order.specs.Ledger.{sent, kept, lost_of}
 use Rattle.word_order.specs.Machine.{Watched, watched_call, watched_calls, entered, InOrder}
 use Rattle.card_rules.specs.Calls.{Call, Outcome, perform_of, said_of, sdo_of, right_next}
 use Rattle.card_rules.specs.Examples.{output_number}
-use Rattle.card_rules.specs.Figures.{protocol_number, rightFollows, sckExpected, lrckExpected, sdoExpected, cardTerms}
+use Rattle.card_rules.specs.Figures.{protocol_number, right_follows, sck_expected, lrck_expected, sdo_expected, card_terms}
 use Rattle.card_rules.specs.Watch.{port_of, Sight, edges_after, entry_of, watching, powered_up_card, life}
-use Rattle.card_rules.specs.CardDemands.{asks, is_kind, first_number, rows, Answered, was_done, takes, waitingExpected, Changes, took_after, took_from, took, Shows, output_seen, CardDemands}
+use Rattle.card_rules.specs.CardDemands.{asks, is_kind, first_number, rows, Answered, was_done, takes, waiting_expected, Changes, took_after, took_from, took, Shows, output_seen, CardDemands}
 use Rattle.laws.proofs.Claims.{Claim, level, number, numbers, provided, AllHold, none, ◌also◌, all_judged, all_judged_lem}
 
 -- A watched card x, a call c with its outcome o, and the watched card y after it. They are handed on as arguments, so that each is computed
@@ -20,7 +21,7 @@ module _ (x : Watched watching) (c : Call) (o : Outcome) (y : Watched watching) 
   abbrev answers : List Claim
   answers =
       number (said_of o.answer).number (first_number (rows x.now c))
-      ∷ number (said_of o.answer).told (if x.now.enabled && is_kind 5 c then get_or x.now.engine.unread 0 0 else 0)
+      ∷ number (said_of o.answer).told (when x.now.enabled && is_kind 5 c then get_or x.now.engine.unread 0 0 else 0)
       ∷ []
 
   abbrev said : ℕ
@@ -29,14 +30,14 @@ module _ (x : Watched watching) (c : Call) (o : Outcome) (y : Watched watching) 
   abbrev changes : List Claim
   changes =
       level y.now.enabled (is_kind 2 c || (x.now.enabled && not (is_kind 3 c)))
-      ∷ number (protocol_number y.now.settings.protocol) (if was_done x y c said 0 then (asks c).first else protocol_number x.now.settings.protocol)
-      ∷ number y.now.settings.bits (if was_done x y c said 1 then (asks c).first else x.now.settings.bits)
-      ∷ number y.now.settings.frame (if was_done x y c said 1 then (asks c).second else x.now.settings.frame)
+      ∷ number (protocol_number y.now.settings.protocol) (when was_done x y c said 0 then (asks c).first else protocol_number x.now.settings.protocol)
+      ∷ number y.now.settings.bits (when was_done x y c said 1 then (asks c).first else x.now.settings.bits)
+      ∷ number y.now.settings.frame (when was_done x y c said 1 then (asks c).second else x.now.settings.frame)
       ∷ level y.now.engine.flags.underrun
       (not (is_kind 7 c) && (x.now.engine.flags.underrun || (takes x y c said && eqb (length x.now.engine.waiting) 0)))
       ∷ level y.now.engine.flags.overflow
       (not (is_kind 8 c) && (x.now.engine.flags.overflow || ltb (lost_of x.ledger) (lost_of y.ledger)))
-      ∷ numbers y.now.engine.waiting (waitingExpected x y c said)
+      ∷ numbers y.now.engine.waiting (waiting_expected x y c said)
       ∷ provided (not y.now.enabled) (numbers y.now.engine.unread [])
       ∷ provided (not y.now.enabled) (level y.now.engine.pins.sck x.now.engine.pins.sck)
       ∷ provided (not y.now.enabled) (level y.now.engine.pins.lrck x.now.engine.pins.lrck)
@@ -47,16 +48,16 @@ module _ (x : Watched watching) (c : Call) (o : Outcome) (y : Watched watching) 
 module _ (y : Watched watching) (samples : List ℕ) where
   abbrev shown : List Claim
   shown =
-      level y.now.engine.pins.sck (sckExpected y.now.settings y.memory)
-      ∷ level y.now.engine.pins.lrck (lrckExpected y.now.settings y.memory)
-      ∷ level y.now.engine.pins.sdo (sdoExpected y.now.settings samples y.memory)
-      ∷ level (right_next y.now) (rightFollows y.now.settings y.memory)
+      level y.now.engine.pins.sck (sck_expected y.now.settings y.memory)
+      ∷ level y.now.engine.pins.lrck (lrck_expected y.now.settings y.memory)
+      ∷ level y.now.engine.pins.sdo (sdo_expected y.now.settings samples y.memory)
+      ∷ level (right_next y.now) (right_follows y.now.settings y.memory)
       ∷ numbers y.ledger.accepted (sent y.ledger ++ (port_of y.now.engine).owed)
       ∷ numbers (kept y.ledger) (y.ledger.read ++ y.now.engine.unread)
       ∷ []
 
-  abbrev seenOutside : List Claim
-  seenOutside =
+  abbrev seen_outside : List Claim
+  seen_outside =
       number (output_number (sdo_of y.now)) (output_number (output_seen y.now))
       ∷ provided (not y.now.enabled) (level (right_next y.now) false)
       ∷ []
@@ -68,7 +69,7 @@ unless b ks = not b || all_judged ks
 unfoldable pub judged_at : Watched watching → Call → Outcome → Watched watching → List ℕ → Bool
 judged_at x c o y samples =
     all_judged (answers x c o y)
-    && (all_judged (changes x c o y) && (unless y.now.enabled (shown y samples) && all_judged (seenOutside y samples)))
+    && (all_judged (changes x c o y) && (unless y.now.enabled (shown y samples) && all_judged (seen_outside y samples)))
 
 -- The tests at every call of a list.
 unfoldable pub seen : Watched watching → Call → (Watched watching → List ℕ → Bool) → Outcome → Watched watching → List ℕ → Bool
@@ -81,7 +82,7 @@ made x samples c rest o =
     (record {
       now = o.after;
       memory = edges_after x.memory s c;
-      ledger = entered (cardTerms x.now.settings) (entry_of x.memory s c) x.ledger;
+      ledger = entered (card_terms x.now.settings) (entry_of x.memory s c) x.ledger;
     })
     (took_after x samples c)
 
@@ -102,7 +103,7 @@ shown_said y samples s w =
     s.sck also s.lrck also s.sdo also s.channel also w.sending also w.receiving also none
 
 outside_said : (y : Watched watching) (samples : List ℕ) → sdo_of y.now ≡ output_seen y.now →
-    (not y.now.enabled ≡ true → right_next y.now ≡ false) → AllHold (seenOutside y samples)
+    (not y.now.enabled ≡ true → right_next y.now ≡ false) → AllHold (seen_outside y samples)
 outside_said y samples e rests = ap output_number e also rests also none
 
 unless_said : (b : Bool) (ks : List Claim) → (b ≡ true → AllHold ks) → unless b ks ≡ true

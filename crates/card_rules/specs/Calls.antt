@@ -1,12 +1,12 @@
 -- Document 02, Nine: the calls of a card, their refusals, and what can be looked at.
 use Rattle.std.specs.Prelude.{ℕ, ◌+◌, ◌*◌, ◌^◌, ◌%◌, Bool, true, false, not, ◌&&◌, List, [], ◌∷◌, ◌++◌, ltb, leb}
-use Rattle.laws.specs.Choice.{if◌then◌else◌}
+use Rattle.laws.specs.Choice.{when◌then◌else◌}
 use Rattle.card_rules.specs.Settings.{Protocol, named, Settings, Shape, shape_of}
 use Rattle.card_rules.specs.Card.{Pins, Engine, Card, with_waiting, with_unread, with_underrun, with_overflow, with_engine, emptied}
 use Rattle.card_rules.specs.Edge.{is_full, edged}
 
 pub data Call : Type 0 where
-  setProtocol : Protocol → Call
+  set_protocol : Protocol → Call
   -- the bits of a sample and the clocks of a frame, together
   set_length : ℕ → ℕ → Call
   enable : Call
@@ -15,23 +15,23 @@ pub data Call : Type 0 where
   read : Call
   -- one edge, with the level of SDI
   edge : Bool → Call
-  clearUnderrun : Call
-  clearOverflow : Call
+  clear_underrun : Call
+  clear_overflow : Call
 
 -- Why a call is refused, and the papers' numbers.
 pub data Refusal : Type 0 where
-  isDisabled : Refusal
-  isEnabled : Refusal
+  is_disabled : Refusal
+  is_enabled : Refusal
   transmit_full : Refusal
-  receiveEmpty : Refusal
-  notNamed : Refusal
+  receive_empty : Refusal
+  not_named : Refusal
 
 abbrev pub number_of : Refusal → ℕ
-number_of isDisabled = 2
-number_of isEnabled = 3
+number_of is_disabled = 2
+number_of is_enabled = 3
 number_of transmit_full = 5
-number_of receiveEmpty = 6
-number_of notNamed = 23
+number_of receive_empty = 6
+number_of not_named = 23
 
 pub data Answer : Type 0 where
   refused : Refusal → Answer
@@ -55,7 +55,7 @@ with_settings x m = record { enabled = m.enabled; settings = x; engine = m.engin
 
 -- Settings change while the card is disabled, and are refused with 3 before anything else.
 abbrev pub while_disabled : Card → Outcome → Outcome
-while_disabled m o = if m.enabled then refuse isEnabled m else o
+while_disabled m o = when m.enabled then refuse is_enabled m else o
 
 unfoldable pub set_protocol_of : Card → Protocol → Outcome
 set_protocol_of m p =
@@ -63,8 +63,8 @@ set_protocol_of m p =
 
 abbrev pub length_set : Card → ℕ → ℕ → Outcome
 length_set m bits frame =
-    if named bits frame then doing (with_settings (record { protocol = m.settings.protocol; bits = bits; frame = frame }) m)
-    else refuse notNamed m
+    when named bits frame then doing (with_settings (record { protocol = m.settings.protocol; bits = bits; frame = frame }) m)
+    else refuse not_named m
 
 unfoldable pub set_length_of : Card → ℕ → ℕ → Outcome
 set_length_of m bits frame = while_disabled m (length_set m bits frame)
@@ -83,10 +83,10 @@ abbrev pub switched_off : Card → Card
 switched_off m = switched false (emptied m.engine.pins m.engine.flags) m
 
 unfoldable pub enable_of : Card → Outcome
-enable_of m = if m.enabled then doing m else doing (switched_on m)
+enable_of m = when m.enabled then doing m else doing (switched_on m)
 
 unfoldable pub disable_of : Card → Outcome
-disable_of m = if m.enabled then doing (switched_off m) else doing m
+disable_of m = when m.enabled then doing (switched_off m) else doing m
 
 -- A sample keeps its low bits and waits: nothing loads at a write, so eight fit.
 unfoldable pub sample_of : ℕ → ℕ → ℕ
@@ -94,22 +94,22 @@ sample_of bits v = v % 2 ^ bits
 
 unfoldable pub write_of : Card → ℕ → Outcome
 write_of m v =
-    if not m.enabled then refuse isDisabled m
-    else if is_full m.engine.waiting then refuse transmit_full m
+    when not m.enabled then refuse is_disabled m
+    else when is_full m.engine.waiting then refuse transmit_full m
     else doing (with_engine (with_waiting (m.engine.waiting ++ (sample_of m.settings.bits v ∷ [])) m.engine) m)
 
 -- A read gives the first unread sample.
 abbrev pub read_from : Card → List ℕ → Outcome
-read_from m [] = refuse receiveEmpty m
+read_from m [] = refuse receive_empty m
 read_from m (sample ∷ rest) = record { answer = value sample; after = with_engine (with_unread rest m.engine) m }
 
 unfoldable pub read_of : Card → Outcome
-read_of m = if not m.enabled then refuse isDisabled m else read_from m m.engine.unread
+read_of m = when not m.enabled then refuse is_disabled m else read_from m m.engine.unread
 
 -- The clock never stops while the card is enabled.
 unfoldable pub edge_of : Card → Bool → Outcome
 edge_of m sdi =
-    if not m.enabled then refuse isDisabled m
+    when not m.enabled then refuse is_disabled m
     else doing (with_engine (edged (shape_of m.settings) sdi m.engine) m)
 
 -- Each flag is cleared by its own call, in any state.
@@ -120,15 +120,15 @@ unfoldable pub clear_overflow_of : Card → Outcome
 clear_overflow_of m = doing (with_engine (with_overflow false m.engine) m)
 
 abbrev pub perform_of : Card → Call → Outcome
-perform_of m (setProtocol p) = set_protocol_of m p
+perform_of m (set_protocol p) = set_protocol_of m p
 perform_of m (set_length bits frame) = set_length_of m bits frame
 perform_of m enable = enable_of m
 perform_of m disable = disable_of m
 perform_of m (write v) = write_of m v
 perform_of m read = read_of m
 perform_of m (edge sdi) = edge_of m sdi
-perform_of m clearUnderrun = clear_underrun_of m
-perform_of m clearOverflow = clear_overflow_of m
+perform_of m clear_underrun = clear_underrun_of m
+perform_of m clear_overflow = clear_overflow_of m
 
 abbrev pub perform : Card → Call → Card
 perform m c = (perform_of m c).after
@@ -154,10 +154,10 @@ pub data Output : Type 0 where
   undriven : Output
 
 abbrev pub driven : Bool → Output
-driven level = if level then high else low
+driven level = when level then high else low
 
 unfoldable pub sdo_of : Card → Output
-sdo_of m = if m.enabled then driven m.engine.pins.sdo else undriven
+sdo_of m = when m.enabled then driven m.engine.pins.sdo else undriven
 
 -- Whether the right channel has the next first place; else the left one has it.
 unfoldable pub right_next : Card → Bool

@@ -3,7 +3,7 @@
 -- open; and the frame goes on.
 use Rattle.std.specs.Prelude.{ℕ, ◌+◌, ◌*◌, ◌-◌, ◌/◌, ◌%◌, Bool, true, false, not, ◌&&◌, ◌||◌, List, [], ◌∷◌, ◌++◌, ltb, leb, eqb, length}
 use mir.Val.{bool_byte}
-use Rattle.laws.specs.Choice.{if◌then◌else◌}
+use Rattle.laws.specs.Choice.{when◌then◌else◌}
 use Rattle.ring.specs.Ring.{next}
 use Rattle.word_order.specs.Bits.{bit_of}
 use Rattle.word_order.specs.Port.{Under, Way, idle, sends}
@@ -28,7 +28,7 @@ begun_from idle n = taken n.waiting n
 begun_from (sends u) n = n
 
 unfoldable pub begun : Shape → Engine → Engine
-begun s n = if at_first_place s n.place then begun_from n.way n else n
+begun s n = when at_first_place s n.place then begun_from n.way n else n
 
 -- The edges of a sample, counted from 1 at its channel's first place, at which SDI is sampled: the second one of each clock that has a bit.
 unfoldable pub samples : Shape → ℕ → Bool
@@ -43,18 +43,18 @@ unfoldable pub shifted_in : ℕ → Bool → ℕ
 shifted_in received sdi = (received * 2 + bool_byte sdi) % 4294967296
 
 unfoldable pub received_after : Shape → Bool → Under → ℕ
-received_after s sdi u = if samples s (u.edges + 1) then shifted_in u.received sdi else u.received
+received_after s sdi u = when samples s (u.edges + 1) then shifted_in u.received sdi else u.received
 
 -- What SDO shows in clock `k` of a channel, counted from its first place: zeros, then the sample's bits, highest first, then zeros.
 unfoldable pub channel_bit : Shape → ℕ → ℕ → Bool
 channel_bit s sample k =
-    if leb s.lead k && ltb k (s.lead + s.bits) then bit_of sample (s.bits - 1 - (k - s.lead)) else false
+    when leb s.lead k && ltb k (s.lead + s.bits) then bit_of sample (s.bits - 1 - (k - s.lead)) else false
 
 -- An edge of a sample short of its last.
 unfoldable pub shifted : Shape → Bool → Under → Engine → Engine
 shifted s sdi u n =
     with_way (sends (record { filler = u.filler; word = u.word; edges = u.edges + 1; received = received_after s sdi u }))
-    (with_sdo (if eqb (u.edges % 2) 0 then channel_bit s u.word (u.edges / 2) else n.pins.sdo) n)
+    (with_sdo (when eqb (u.edges % 2) 0 then channel_bit s u.word (u.edges / 2) else n.pins.sdo) n)
 
 -- Its last edge: the received sample stands last among those unread, or finds eight of them, is dropped and sets the overflow flag.
 unfoldable pub is_full : List ℕ → Bool
@@ -63,23 +63,23 @@ is_full samples = leb 8 (length samples)
 unfoldable pub finished : ℕ → Engine → Engine
 finished received n =
     with_way idle
-    (if is_full n.unread then with_overflow true n else with_unread (n.unread ++ (received ∷ [])) n)
+    (when is_full n.unread then with_overflow true n else with_unread (n.unread ++ (received ∷ [])) n)
 
 -- An edge of an open clock: SDO shows 0, and SDI is not sampled.
 unfoldable pub opened : Engine → Engine
-opened n = with_sdo (if eqb (n.place % 2) 0 then false else n.pins.sdo) n
+opened n = with_sdo (when eqb (n.place % 2) 0 then false else n.pins.sdo) n
 
 abbrev pub clocked_as : Shape → Bool → Way → Engine → Engine
 clocked_as s sdi idle n = opened n
 clocked_as s sdi (sends u) n =
-    if ltb (u.edges + 1) (last_edge s) then shifted s sdi u n else finished (received_after s sdi u) n
+    when ltb (u.edges + 1) (last_edge s) then shifted s sdi u n else finished (received_after s sdi u) n
 
 unfoldable pub clocked : Shape → Bool → Engine → Engine
 clocked s sdi n = clocked_as s sdi n.way n
 
 -- The frame goes on by an edge: SCK changes, LRCK shows what the frame has there, and behind the last edge comes the first.
 unfoldable pub lrck_at : Shape → ℕ → Bool
-lrck_at s place = if ltb place (2 * s.active) then not s.rest else s.rest
+lrck_at s place = when ltb place (2 * s.active) then not s.rest else s.rest
 
 unfoldable pub turned : Shape → Engine → Engine
 turned s n =

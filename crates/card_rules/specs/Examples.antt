@@ -1,12 +1,12 @@
 -- Document 02, Nine, worked: clock by clock for every protocol and length, then calls with what they must answer and show.
 -- proofs/ExamplesHold.antt runs them all.
-use Rattle.std.specs.Prelude.{ℕ, zero, suc, ◌+◌, ◌-◌, ◌%◌, Bool, true, false, not, ◌&&◌, List, [], ◌∷◌, ◌++◌, eqb}
+use Rattle.std.specs.Prelude.{ℕ, zero, suc, ◌-◌, ◌%◌, Bool, true, false, not, ◌&&◌, List, [], ◌∷◌, ◌++◌, eqb}
 use Rattle.std.specs.Bool.{beq}
 use Rattle.laws.specs.Same.{same_numbers}
 use Rattle.word_order.specs.Bits.{bit_of}
-use Rattle.card_rules.specs.Settings.{i2s, leftJustified, rightJustified, pcm, Settings}
+use Rattle.card_rules.specs.Settings.{i2s, left_justified, right_justified, pcm, Settings}
 use Rattle.card_rules.specs.Card.{Card, powered_up}
-use Rattle.card_rules.specs.Calls.{Call, setProtocol, set_length, enable, disable, write, read, edge, clearUnderrun, clearOverflow, Outcome, perform, perform_of, perform_all, said_of, Output, low, high, undriven, sdo_of, right_next}
+use Rattle.card_rules.specs.Calls.{Call, set_protocol, set_length, enable, disable, write, read, edge, clear_underrun, clear_overflow, Outcome, perform, perform_of, perform_all, said_of, Output, low, high, undriven, sdo_of, right_next}
 
 abbrev pub output_number : Output → ℕ
 output_number low = 0
@@ -34,7 +34,7 @@ writes [] = []
 writes (v ∷ vs) = write v ∷ writes vs
 
 abbrev pub started : Settings → List Call
-started x = setProtocol x.protocol ∷ set_length x.bits x.frame ∷ enable ∷ []
+started x = set_protocol x.protocol ∷ set_length x.bits x.frame ∷ enable ∷ []
 
 abbrev pub sdi_in : Case → ℕ → Bool
 sdi_in x left = bit_of heard (31 - (x.count - 1 - left) % 32)
@@ -123,7 +123,7 @@ i2s32_in64 =
 abbrev pub left16_in32 : Case
 left16_in32 =
     record {
-      settings = record { protocol = leftJustified; bits = 16; frame = 32 };
+      settings = record { protocol = left_justified; bits = 16; frame = 32 };
       written = 0x8001 ∷ 0xA5C3 ∷ 0x9999 ∷ [];
       count = 52;
       sck = true;
@@ -136,7 +136,7 @@ left16_in32 =
 abbrev pub left16_in64 : Case
 left16_in64 =
     record {
-      settings = record { protocol = leftJustified; bits = 16; frame = 64 };
+      settings = record { protocol = left_justified; bits = 16; frame = 64 };
       written = 0x8001 ∷ 0xA5C3 ∷ 0x9999 ∷ [];
       count = 100;
       sck = true;
@@ -149,7 +149,7 @@ left16_in64 =
 abbrev pub left24_in64 : Case
 left24_in64 =
     record {
-      settings = record { protocol = leftJustified; bits = 24; frame = 64 };
+      settings = record { protocol = left_justified; bits = 24; frame = 64 };
       written = 0x8001 ∷ 0xA5C3 ∷ 0x999999 ∷ [];
       count = 100;
       sck = true;
@@ -162,7 +162,7 @@ left24_in64 =
 abbrev pub left32_in64 : Case
 left32_in64 =
     record {
-      settings = record { protocol = leftJustified; bits = 32; frame = 64 };
+      settings = record { protocol = left_justified; bits = 32; frame = 64 };
       written = 0x8001 ∷ 0xA5C3 ∷ 0x99999999 ∷ [];
       count = 100;
       sck = true;
@@ -175,7 +175,7 @@ left32_in64 =
 abbrev pub right16_in32 : Case
 right16_in32 =
     record {
-      settings = record { protocol = rightJustified; bits = 16; frame = 32 };
+      settings = record { protocol = right_justified; bits = 16; frame = 32 };
       written = 0x8001 ∷ 0xA5C3 ∷ 0x9999 ∷ [];
       count = 52;
       sck = true;
@@ -188,7 +188,7 @@ right16_in32 =
 abbrev pub right16_in64 : Case
 right16_in64 =
     record {
-      settings = record { protocol = rightJustified; bits = 16; frame = 64 };
+      settings = record { protocol = right_justified; bits = 16; frame = 64 };
       written = 0x8001 ∷ 0xA5C3 ∷ 0x9999 ∷ [];
       count = 100;
       sck = true;
@@ -201,7 +201,7 @@ right16_in64 =
 abbrev pub right24_in64 : Case
 right24_in64 =
     record {
-      settings = record { protocol = rightJustified; bits = 24; frame = 64 };
+      settings = record { protocol = right_justified; bits = 24; frame = 64 };
       written = 0x8001 ∷ 0xA5C3 ∷ 0x999999 ∷ [];
       count = 100;
       sck = true;
@@ -214,7 +214,7 @@ right24_in64 =
 abbrev pub right32_in64 : Case
 right32_in64 =
     record {
-      settings = record { protocol = rightJustified; bits = 32; frame = 64 };
+      settings = record { protocol = right_justified; bits = 32; frame = 64 };
       written = 0x8001 ∷ 0xA5C3 ∷ 0x99999999 ∷ [];
       count = 100;
       sck = true;
@@ -332,7 +332,7 @@ refusals =
     ∷ ok enable
     ∷ says (set_length 24 32) 3 0
     ∷ says (set_length 16 32) 3 0
-    ∷ says (setProtocol leftJustified) 3 0
+    ∷ says (set_protocol left_justified) 3 0
     ∷ says read 6 0
     ∷ ok (write 1)
     ∷ ok (write 2)
@@ -374,7 +374,7 @@ starved =
     ∷ right true
     ∷ edges 1 true
     ∷ pins true false 0
-    ∷ ok clearOverflow
+    ∷ ok clear_overflow
     ∷ flags true false
     ∷ ok disable
     ∷ pins true false 2
@@ -382,14 +382,14 @@ starved =
     ∷ right false
     ∷ ok enable
     ∷ flags true false
-    ∷ ok clearUnderrun
+    ∷ ok clear_underrun
     ∷ flags false false
     ∷ []
 
 -- Nine samples are received and none is read: the ninth is lost. A read makes room, and reception goes on: there is no mark.
 abbrev pub overflowing : List CardStep
 overflowing =
-    ok (setProtocol leftJustified)
+    ok (set_protocol left_justified)
     ∷ ok enable
     ∷ edges 287 true
     ∷ flags true false
@@ -399,21 +399,21 @@ overflowing =
     ∷ holds [] (65535 ∷ 65535 ∷ 65535 ∷ 65535 ∷ 65535 ∷ 65535 ∷ 65535 ∷ 65535 ∷ [])
     ∷ says read 0 65535
     ∷ flags true true
-    ∷ ok clearUnderrun
+    ∷ ok clear_underrun
     ∷ flags false true
     ∷ edges 32 false
     ∷ flags true true
     ∷ holds [] (65535 ∷ 65535 ∷ 65535 ∷ 65535 ∷ 65535 ∷ 65535 ∷ 65535 ∷ 0 ∷ [])
     ∷ ok disable
     ∷ flags true true
-    ∷ ok clearOverflow
+    ∷ ok clear_overflow
     ∷ flags true false
     ∷ []
 
 -- A sample keeps its low bits and leaves the buffer at its channel's first place: at LRCK's edge for right justified, before its zeros.
 abbrev pub leaving : List CardStep
 leaving =
-    ok (setProtocol rightJustified)
+    ok (set_protocol right_justified)
     ∷ ok (set_length 24 64)
     ∷ ok enable
     ∷ ok (write 0xFF800001)
@@ -440,7 +440,7 @@ leaving =
 -- PCM/DSP: the pulse and the channels by their first places.
 abbrev pub packed : List CardStep
 packed =
-    ok (setProtocol pcm)
+    ok (set_protocol pcm)
     ∷ ok (set_length 16 64)
     ∷ ok enable
     ∷ pins false false 0
@@ -459,7 +459,7 @@ packed =
 -- A sample of 32 ones goes out and one comes in: the shift register loses no bit.
 abbrev pub ones : List CardStep
 ones =
-    ok (setProtocol leftJustified)
+    ok (set_protocol left_justified)
     ∷ ok (set_length 32 64)
     ∷ ok enable
     ∷ ok (write 0xFFFFFFFF)

@@ -3,8 +3,8 @@ use Rattle.std.specs.Prelude.{ℕ, ◌-◌, ◌/◌, Bool, true, false, ◌&&◌
 
 pub data Protocol : Type 0 where
   i2s : Protocol
-  leftJustified : Protocol
-  rightJustified : Protocol
+  left_justified : Protocol
+  right_justified : Protocol
   pcm : Protocol
 
 -- The bits of a sample and the clocks of a frame that go together: 16 in 32; 16, 24 or 32 in 64.
@@ -40,9 +40,9 @@ pub record Shape : Type 0 where
 abbrev pub shape_for : Protocol → ℕ → ℕ → Shape
 shape_for i2s bits frame =
     record { before = 1; step = frame / 2; lead = 0; bits = bits; frame = frame; active = frame / 2; rest = true }
-shape_for leftJustified bits frame =
+shape_for left_justified bits frame =
     record { before = 0; step = frame / 2; lead = 0; bits = bits; frame = frame; active = frame / 2; rest = false }
-shape_for rightJustified bits frame =
+shape_for right_justified bits frame =
     record { before = 0; step = frame / 2; lead = frame / 2 - bits; bits = bits; frame = frame; active = frame / 2; rest = false }
 shape_for pcm bits frame =
     record { before = 1; step = bits; lead = 0; bits = bits; frame = frame; active = 1; rest = false }

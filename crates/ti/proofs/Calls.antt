@@ -4,7 +4,8 @@
 --     told                a call that answers as another does
 --     _then_, alike       two steps of the engine, one after the other, and a step that is another
 -- Assumes nothing.
-use Rattle.laws.proofs.Common.{ℕ, true, false, not, List, ◌≡◌, refl, ap, subst, ◌∙◌, eq-eqb, ne_eqb, clash}
+use Rattle.std.specs.Prelude.{◌≡◌}
+use Rattle.laws.proofs.Common.{ℕ, true, false, not, List, refl, ap, subst, ◌∙◌, eq-eqb, ne_eqb, clash}
 use Rattle.ti_rules.specs.declared.Settings.{Settings}
 use Rattle.ti_rules.specs.declared.Engine.{Engine}
 use Rattle.ti_rules.specs.declared.Ti.{Ti}

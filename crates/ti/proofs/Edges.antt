@@ -4,8 +4,9 @@
 --     zeros_edge              a slave with nothing written
 --     written_free, written_busy   a write, by what the shift register holds
 -- Assumes nothing.
-use Rattle.laws.proofs.Common.{ℕ, ◌+◌, ◌*◌, ◌-◌, ◌/◌, ◌%◌, ◌≤◌, ◌<◌, Bool, true, false, List, [], ◌∷◌, ◌≡◌, refl, sym, ap}
-use Rattle.laws.proofs.Common.{◌∙◌, arith, lt-ltb, le-ltb, eqb, ltb, length, if◌then◌else◌, if_true, if_false}
+use Rattle.std.specs.Prelude.{◌+◌, ◌*◌, ◌-◌, ◌/◌, ◌%◌, ◌≤◌, ◌<◌, ◌∷◌, ◌≡◌}
+use Rattle.laws.proofs.Common.{ℕ, Bool, true, false, List, [], refl, sym, ap}
+use Rattle.laws.proofs.Common.{◌∙◌, arith, lt-ltb, le-ltb, eqb, ltb, length, when◌then◌else◌, if_true, if_false}
 use mir.Val.{bool_byte}
 use Rattle.word_order.specs.Bits.{bit_of}
 use Rattle.ti_rules.specs.declared.Settings.{Settings}
@@ -46,7 +47,7 @@ module _ (w : List ℕ) (whole : length w ≡ 20) (sdi : Bool) (busy : is_free (
   left received sdo = goes (onwards w e received) sdo s n
 
   edged-is : edged s sdi n
-      ≡ (if ltb e (2 * length_in (place_in w 5))
+      ≡ (when ltb e (2 * length_in (place_in w 5))
       then left (received_after s e sdi (place_in w 10)) (sdo_after s (place_in w 8) e n.pins.sdo)
       else finished s (received_after s e sdi (place_in w 10)) n)
   unfolding edged clocked shifted
@@ -54,7 +55,7 @@ module _ (w : List ℕ) (whole : length w ≡ 20) (sdi : Bool) (busy : is_free (
 
   short-is : {x : List ℕ} (r : ℕ) (sdo : Bool) → e < 2 * length_in (place_in w 5) → received_after s e sdi (place_in w 10) ≡ r →
       sdo_after s (place_in w 8) e n.pins.sdo ≡ sdo →
-      Steps (goes (if eqb (place_in w 6) 0 then Free else onwards w e r) sdo) w x → Steps (λ s n. edged s sdi n) w x
+      Steps (goes (when eqb (place_in w 6) 0 then Free else onwards w e r) sdo) w x → Steps (λ s n. edged s sdi n) w x
   short-is r sdo short a b h =
       alike h
       (cc (
@@ -81,7 +82,7 @@ module _ (w : List ℕ) (whole : length w ≡ 20) (sdi : Bool) (busy : is_free (
       short-is _ _ short (if_false _ _ _ off) (if_false _ _ _ off ∙ sym (is-v ∙ ap (bit_of (place_in w 8)) place)) (show_stored w whole e v)
 
   pub last_edge_lem : (x : List ℕ) (r : ℕ) → 2 * length_in (place_in w 5) ≤ e →
-      r ≡ (if latches (flag_in (place_in w 4)) e then (place_in w 10 * 2 + bool_byte sdi) % 65536 else place_in w 10) →
+      r ≡ (when latches (flag_in (place_in w 4)) e then (place_in w 10 * 2 + bool_byte sdi) % 65536 else place_in w 10) →
       Steps (λ s n. finished s r n) w x → Steps (λ s n. edged s sdi n) w x
   unfolding received_after
   last_edge_lem x r long is-r h =

@@ -4,9 +4,10 @@
 --     wrong_way_seen, pins_edge                     one lemma a way
 --     status_is, output_is                          views
 -- Assumes nothing.
-use Rattle.laws.proofs.Common.{ℕ, ◌+◌, ◌-◌, ◌/◌, ◌%◌, ◌^◌, ◌≤◌, Bool, true, false, not, ◌&&◌, ◌||◌, Bool·beq, or-true}
-use Rattle.laws.proofs.Common.{Bool·not-not, List, ◌≡◌, refl, sym, ap, ap₂, ◌∙◌, arith, eq-eqb, ne_eqb, eqb, length, set}
-use Rattle.laws.proofs.Common.{if◌then◌else◌, if_true, if_false, so, not_so}
+use Rattle.std.specs.Prelude.{◌+◌, ◌-◌, ◌/◌, ◌%◌, ◌^◌, ◌≤◌, ◌&&◌, ◌||◌, ◌≡◌}
+use Rattle.laws.proofs.Common.{ℕ, Bool, true, false, not, Bool·beq, or-true}
+use Rattle.laws.proofs.Common.{Bool·not-not, List, refl, sym, ap, ap₂, ◌∙◌, arith, eq-eqb, ne_eqb, eqb, length, set}
+use Rattle.laws.proofs.Common.{when◌then◌else◌, if_true, if_false, so, not_so}
 use Rattle.ti_rules.specs.declared.Buffer.TheVariants.{Empty, Holds}
 use Rattle.ti_rules.specs.declared.Settings.{Settings}
 use Rattle.ti_rules.specs.declared.Engine.{Engine}
@@ -150,9 +151,9 @@ module _ (w : List ℕ) where
       ap₂ (λ (a b : Bool). weight 128 (ti_in w).engine.overrun + weight 64 a + weight 32 b) (sym (unread_flag w)) (sym (waiting_flag w))
 
   pub output_is : output_bits
-      (if eqb (place_in w 0) 0 || (eqb (place_in w 2) 0 || (eqb (place_in w 1) 0 && flag_in (place_in w 17)))
+      (when eqb (place_in w 0) 0 || (eqb (place_in w 2) 0 || (eqb (place_in w 1) 0 && flag_in (place_in w 17)))
       then Undriven
-      else if flag_in (place_in w 18) then High
+      else when flag_in (place_in w 18) then High
       else Low)
       ≡ output_bits (sdo_of (ti_in w))
   unfolding sdo_of undriven ti_in

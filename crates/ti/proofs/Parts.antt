@@ -4,9 +4,10 @@
 --     zero_length, long_length, fit_length   what is no length, and what is one
 --     reset_stored, mode_stored, length_stored, load_stored, ...   what is written is read back
 -- Assumes nothing.
-use Rattle.laws.proofs.Common.{ℕ, ◌+◌, ◌-◌, ◌%◌, ◌≤◌, ◌<◌, Bool, true, false, not, ◌&&◌, ◌||◌, Bool·not-not, List, [], ◌∷◌}
-use Rattle.laws.proofs.Common.{◌≡◌, refl, sym, ap, ap₂, ◌∙◌, arith, eq-eqb, ne_eqb, lt-ltb, le-ltb, eqb, ltb, length, set}
-use Rattle.laws.proofs.Common.{if◌then◌else◌, if_true, if_false}
+use Rattle.std.specs.Prelude.{◌+◌, ◌-◌, ◌%◌, ◌≤◌, ◌<◌, ◌&&◌, ◌||◌, ◌∷◌, ◌≡◌}
+use Rattle.laws.proofs.Common.{ℕ, Bool, true, false, not, Bool·not-not, List, []}
+use Rattle.laws.proofs.Common.{refl, sym, ap, ap₂, ◌∙◌, arith, eq-eqb, ne_eqb, lt-ltb, le-ltb, eqb, ltb, length, set}
+use Rattle.laws.proofs.Common.{when◌then◌else◌, if_true, if_false}
 use Rattle.word_order.specs.Bits.{bit_of}
 use Rattle.ti_rules.specs.declared.Settings.{Settings}
 use Rattle.ti_rules.specs.declared.Buffer.TheVariants.{Empty, Holds}
@@ -27,8 +28,8 @@ use Rattle.ti.proofs.Calls.{flag_on, flag_off, ◌then◌, alike}
 
 -- ---- what numbers tell
 
-free_choice : (b : Bool) (c : Character) → is_free (if b then Free else Busy c) ≡ b
-unfolding if◌then◌else◌
+free_choice : (b : Bool) (c : Character) → is_free (when b then Free else Busy c) ≡ b
+unfolding when◌then◌else◌
 free_choice true c = refl
 free_choice false c = refl
 
@@ -36,8 +37,8 @@ free_flag : (w : List ℕ) → is_free (ti_in w).engine.shift ≡ eqb (place_in 
 unfolding ti_in
 free_flag w = free_choice (eqb (place_in w 6) 0) _
 
-full_choice : (b : Bool) (c : ℕ) → is_full (if b then Empty else Holds c) ≡ not b
-unfolding if◌then◌else◌
+full_choice : (b : Bool) (c : ℕ) → is_full (when b then Empty else Holds c) ≡ not b
+unfolding when◌then◌else◌
 full_choice true c = refl
 full_choice false c = refl
 
@@ -119,60 +120,60 @@ onwards w edges received = Busy (record { zeros = flag_in (place_in w 7); bits =
 
 module _ (w : List ℕ) (whole : length w ≡ 20) where
   pub reset_stored : (v : ℕ) {m : Ti} → with_reset (eqb v 0) (ti_in w) ≡ m → Becomes m (set w 0 v)
-  unfolding ti_in if◌then◌else◌
+  unfolding ti_in when◌then◌else◌
   reset_stored v e = stored w (at 0 v ∷ []) whole refl e
 
   pub mode_stored : (a b c d : ℕ) {master talk polarity phase : Bool} → flag_in a ≡ master → flag_in b ≡ talk → flag_in c ≡ polarity →
       flag_in d ≡ phase →
       Becomes (with_mode master talk polarity phase (ti_in w)) (writes w (at 1 a ∷ at 2 b ∷ at 3 c ∷ at 4 d ∷ []))
-  unfolding ti_in if◌then◌else◌
+  unfolding ti_in when◌then◌else◌
   mode_stored a b c d e f g h =
       stored w (at 1 a ∷ at 2 b ∷ at 3 c ∷ at 4 d ∷ []) whole refl (λ i. with_mode (e i) (f i) (g i) (h i) (ti_in w))
 
   pub clear_stored : Becomes (clear_of (ti_in w)).after (set w 15 0)
-  unfolding ti_in if◌then◌else◌ clear_of cleared
+  unfolding ti_in when◌then◌else◌ clear_of cleared
   clear_stored = stored w (at 15 0 ∷ []) whole refl refl
 
   pub length_stored : (v : ℕ) {m : Ti} →
       record { reset = (ti_in w).reset; settings = with_length (length_in v) (ti_in w).settings; engine = (ti_in w).engine } ≡ m →
       Becomes m (set w 5 v)
-  unfolding ti_in if◌then◌else◌
+  unfolding ti_in when◌then◌else◌
   length_stored v e = stored w (at 5 v ∷ []) whole refl e
 
   -- The module rests.
   pub rest_stored : (v : ℕ) → v ≡ place_in w 3 →
       Steps (λ s _. rested_at s.polarity) w
       (writes w (at 6 0 ∷ at 11 0 ∷ at 13 0 ∷ at 15 0 ∷ at 16 v ∷ at 17 1 ∷ at 18 0 ∷ []))
-  unfolding ti_in if◌then◌else◌ rested_at
+  unfolding ti_in when◌then◌else◌ rested_at
   rest_stored v e =
       stepped w (at 6 0 ∷ at 11 0 ∷ at 13 0 ∷ at 15 0 ∷ at 16 v ∷ at 17 1 ∷ at 18 0 ∷ []) whole refl
       (ap (λ (x : ℕ). engine_step (λ _ _. rested_at (flag_in x)) (ti_in w)) e)
 
   pub taken_stored : Steps (λ s n. taken n) w (set w 13 0)
-  unfolding ti_in if◌then◌else◌ taken
+  unfolding ti_in when◌then◌else◌ taken
   taken_stored = stepped w (at 13 0 ∷ []) whole refl refl
 
   pub seen_stored : (a b : ℕ) → Steps (λ s n. seen (flag_in a) (flag_in b) n) w (writes w (at 16 a ∷ at 17 b ∷ []))
-  unfolding ti_in if◌then◌else◌ seen
+  unfolding ti_in when◌then◌else◌ seen
   seen_stored a b = stepped w (at 16 a ∷ at 17 b ∷ []) whole refl refl
 
   pub clock_stored : (a : ℕ) → Steps (λ s n. seen (flag_in a) n.pins.select n) w (set w 16 a)
-  unfolding ti_in if◌then◌else◌ seen
+  unfolding ti_in when◌then◌else◌ seen
   clock_stored a = stepped w (at 16 a ∷ []) whole refl refl
 
   load_read : (c v : ℕ) →
       Steps (goes (Busy (fresh false c)) (flag_in v)) w (writes w (at 6 1 ∷ at 7 0 ∷ at 8 c ∷ at 9 0 ∷ at 10 0 ∷ at 18 v ∷ []))
-  unfolding ti_in if◌then◌else◌
+  unfolding ti_in when◌then◌else◌
   load_read c v = stepped w (at 6 1 ∷ at 7 0 ∷ at 8 c ∷ at 9 0 ∷ at 10 0 ∷ at 18 v ∷ []) whole refl refl
 
-  between-top : (c : ℕ) → (if flag_in (place_in w 4) then bit_of c (place_in w 5 % 16) else flag_in (place_in w 18))
+  between-top : (c : ℕ) → (when flag_in (place_in w 4) then bit_of c (place_in w 5 % 16) else flag_in (place_in w 18))
       ≡ between_sdo (ti_in w).settings (Holds c) (ti_in w).engine.pins.sdo
   unfolding ti_in between_sdo
   between-top c =
       let top : place_in w 5 % 16 ≡ place_in w 5 % 16 + 1 - 1 = omega arith in
-      ap (λ (k : ℕ). if flag_in (place_in w 4) then bit_of c k else flag_in (place_in w 18)) top
+      ap (λ (k : ℕ). when flag_in (place_in w 4) then bit_of c k else flag_in (place_in w 18)) top
 
-  pub load_stored : (c v : ℕ) → flag_in v ≡ (if flag_in (place_in w 4) then bit_of c (place_in w 5 % 16) else flag_in (place_in w 18)) →
+  pub load_stored : (c v : ℕ) → flag_in v ≡ (when flag_in (place_in w 4) then bit_of c (place_in w 5 % 16) else flag_in (place_in w 18)) →
       Steps (λ s n. loaded_with s c n) w (writes w (at 6 1 ∷ at 7 0 ∷ at 8 c ∷ at 9 0 ∷ at 10 0 ∷ at 18 v ∷ []))
   unfolding loaded_with
   load_stored c v e = alike (load_read c v) (cc (between-top c))
@@ -183,7 +184,7 @@ module _ (w : List ℕ) (whole : length w ≡ 20) where
       (λ s n. record { waiting = n.waiting; shift = n.shift; unread = Holds c; pins = n.pins; overrun = flag_in v })
       w
       (writes w (at 15 v ∷ at 13 1 ∷ at 14 c ∷ []))
-  unfolding ti_in if◌then◌else◌
+  unfolding ti_in when◌then◌else◌
   land-read c v = stepped w (at 15 v ∷ at 13 1 ∷ at 14 c ∷ []) whole refl refl
 
   overrun-read : (ti_in w).engine.overrun ≡ flag_in (place_in w 15)
@@ -198,43 +199,43 @@ module _ (w : List ℕ) (whole : length w ≡ 20) where
   -- Nothing waits: the shift register is free.
   free-read : (v : ℕ) →
       Steps (goes Free (flag_in v)) w (writes w (at 6 0 ∷ at 18 v ∷ []))
-  unfolding ti_in if◌then◌else◌
+  unfolding ti_in when◌then◌else◌
   free-read v = stepped w (at 6 0 ∷ at 18 v ∷ []) whole refl refl
 
-  between_none : (if flag_in (place_in w 4) then false else flag_in (place_in w 18))
+  between_none : (when flag_in (place_in w 4) then false else flag_in (place_in w 18))
       ≡ between_sdo (ti_in w).settings Empty (ti_in w).engine.pins.sdo
   unfolding ti_in between_sdo
   between_none = refl
 
-  pub free_stored : (v : ℕ) → place_in w 11 ≡ 0 → flag_in v ≡ (if flag_in (place_in w 4) then false else flag_in (place_in w 18)) →
+  pub free_stored : (v : ℕ) → place_in w 11 ≡ 0 → flag_in v ≡ (when flag_in (place_in w 4) then false else flag_in (place_in w 18)) →
       Steps next_loaded w (writes w (at 6 0 ∷ at 18 v ∷ []))
   unfolding next_loaded
   free_stored v none e = alike (free-read v) (cc (none_there w none, between_none))
 
   -- What waits leaves the transmit buffer.
   pub gone_stored : Steps (λ s n. record { waiting = Empty; shift = n.shift; unread = n.unread; pins = n.pins; overrun = n.overrun }) w (set w 11 0)
-  unfolding ti_in if◌then◌else◌
+  unfolding ti_in when◌then◌else◌
   gone_stored = stepped w (at 11 0 ∷ []) whole refl refl
 
   -- A character that must wait.
   pub wait_stored : (c : ℕ) →
       Steps (λ s n. record { waiting = Holds c; shift = n.shift; unread = n.unread; pins = n.pins; overrun = n.overrun }) w
       (writes w (at 11 1 ∷ at 12 c ∷ []))
-  unfolding ti_in if◌then◌else◌
+  unfolding ti_in when◌then◌else◌
   wait_stored c = stepped w (at 11 1 ∷ at 12 c ∷ []) whole refl refl
 
   -- Zeros begin.
   pub zeros_stored : Steps (λ s n. zeros_loaded n) w (writes w (at 6 1 ∷ at 7 1 ∷ at 8 0 ∷ at 9 0 ∷ at 10 0 ∷ []))
-  unfolding ti_in if◌then◌else◌ zeros_loaded
+  unfolding ti_in when◌then◌else◌ zeros_loaded
   zeros_stored = stepped w (at 6 1 ∷ at 7 1 ∷ at 8 0 ∷ at 9 0 ∷ at 10 0 ∷ []) whole refl refl
 
   -- An edge short of the last.
   pub latch_stored : (e r : ℕ) →
-      Steps (goes (if eqb (place_in w 6) 0 then Free else onwards w e r) (ti_in w).engine.pins.sdo) w (writes w (at 9 e ∷ at 10 r ∷ []))
-  unfolding ti_in if◌then◌else◌
+      Steps (goes (when eqb (place_in w 6) 0 then Free else onwards w e r) (ti_in w).engine.pins.sdo) w (writes w (at 9 e ∷ at 10 r ∷ []))
+  unfolding ti_in when◌then◌else◌
   latch_stored e r = stepped w (at 9 e ∷ at 10 r ∷ []) whole refl refl
 
   pub show_stored : (e v : ℕ) →
-      Steps (goes (if eqb (place_in w 6) 0 then Free else onwards w e (place_in w 10)) (flag_in v)) w (writes w (at 9 e ∷ at 18 v ∷ []))
-  unfolding ti_in if◌then◌else◌
+      Steps (goes (when eqb (place_in w 6) 0 then Free else onwards w e (place_in w 10)) (flag_in v)) w (writes w (at 9 e ∷ at 18 v ∷ []))
+  unfolding ti_in when◌then◌else◌
   show_stored e v = stepped w (at 9 e ∷ at 18 v ∷ []) whole refl refl

@@ -1,7 +1,8 @@
 -- Single numbers that are written into memory, and the module that is then read back.
 --     stored, stepped   the module after some writes, and a step of its engine
 -- Assumes nothing.
-use Rattle.laws.proofs.Common.{ℕ, true, List, ◌≡◌, ◌∙◌, length}
+use Rattle.std.specs.Prelude.{◌≡◌}
+use Rattle.laws.proofs.Common.{ℕ, true, List, ◌∙◌, length}
 use Rattle.laws.specs.Writes.{Write, writes}
 use Rattle.laws.proofs.Stored.{after, within, in_memory, reads_after}
 use Rattle.ti_rules.specs.declared.Settings.{Settings}

@@ -1,7 +1,7 @@
 -- A TI module in memory: which of 20 numbers of 16 bits holds what. Any numbers hold a module: a flag or a level is low for 0 and high for any
 -- other number, and the length is one more than a number's low four bits, as in SPICCR. What nothing here names is spare.
 use Rattle.std.specs.Prelude.{ℕ, ◌+◌, ◌*◌, ◌%◌, Bool, true, false, not, List, ◌≡◌, eqb, get_or}
-use Rattle.laws.specs.Choice.{if◌then◌else◌}
+use Rattle.laws.specs.Choice.{when◌then◌else◌}
 use Rattle.ti_rules.specs.declared.Settings.{Settings}
 use Rattle.ti_rules.specs.declared.Buffer.{Buffer}
 use Rattle.ti_rules.specs.declared.Buffer.TheVariants.{Empty, Holds}
@@ -38,14 +38,14 @@ settings_at place =
 
 -- A buffer: whether it holds a character, and which.
 abbrev pub buffer_at : ℕ → ℕ → Buffer
-buffer_at held c = if eqb held 0 then Empty else Holds c
+buffer_at held c = when eqb held 0 then Empty else Holds c
 
 -- Place 6 is not 0 while a character is in the shift register; it is told by places 7 to 10.
 abbrev pub character_at : (ℕ → ℕ) → Character
 character_at place = record { zeros = flag_in (place 7); bits = place 8; edges = place 9; received = place 10 }
 
 abbrev pub shift_at : (ℕ → ℕ) → Shift
-shift_at place = if eqb (place 6) 0 then Free else Busy (character_at place)
+shift_at place = when eqb (place 6) 0 then Free else Busy (character_at place)
 
 -- The transmit buffer is at places 11 and 12, the receive buffer at 13 and 14, the overrun flag at 15, the pins at 16 to 18.
 abbrev pub engine_at : (ℕ → ℕ) → Engine
@@ -109,7 +109,7 @@ pub record Tells (o : Outcome) (r : ℕ) (before after : List ℕ) : Type 0 wher
 
 -- The flags as SPISTS has them: overrun in bit 7, interrupt in bit 6, transmit buffer full in bit 5.
 abbrev pub weight : ℕ → Bool → ℕ
-weight n b = if b then n else 0
+weight n b = when b then n else 0
 
 unfoldable pub status_number : Ti → ℕ
 status_number m = weight 128 (overrun_of m) + weight 64 (interrupt_of m) + weight 32 (transmit_full_of m)

@@ -1,8 +1,10 @@
 // A TI module (request Ten) in memory that a caller holds: 20 numbers of 16 bits, read as some module whatever they are, and its calls, each
 // answered by one number. An edge stores what it changes and no more. A refused call, and a tick that makes no edge, leave every number as
 // it was.
+#![tactic(auto)]
+
 ghost use Rattle.std.specs.Prelude.{◌-◌, ◌/◌, ◌%◌, ◌^◌, ◌<◌, ◌≤◌, true, false, not, ◌≡◌, length};
-ghost use Rattle.laws.specs.Choice.{if◌then◌else◌};
+ghost use Rattle.laws.specs.Choice.{when◌then◌else◌};
 ghost use Rattle.word_order.specs.Bits.{bit_of};
 ghost use Rattle.ti_rules.specs.Settings.{rested_at, powered_up, changes_mode};
 ghost use Rattle.ti_rules.specs.Characters.{is_free};
@@ -165,7 +167,7 @@ fn bit(c: u16, i: u16) -> bool
 
 // The output between characters, by the phase, the level before, and the top bit of the character that is loaded.
 fn between(phase: u16, sdo: u16, top: bool) -> bool
-    ensures { result ≡ (if flag_in phase then top else flag_in sdo) }
+    ensures { result ≡ (when flag_in phase then top else flag_in sdo) }
 {
     if phase != 0 {
         return top;

@@ -1,5 +1,7 @@
 // The TI module for a program in C or Rust to link: its calls over memory that the caller holds, 20 numbers of 16 bits. Only numbers cross
 // the boundary, and any numbers are answered. A level is low for 0 and high for any other number.
+#![tactic(auto)]
+
 ghost use Rattle.std.specs.Prelude.{◌%◌, [], ◌∷◌, ◌≡◌};
 ghost use Rattle.ti_rules.specs.Settings.{powered_up};
 ghost use Rattle.ti_rules.specs.Calls.{enter_of, leave_of, set_mode, set_length, write_of, read_of, tick_of, pins_of, clear_of};

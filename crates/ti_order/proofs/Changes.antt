@@ -2,8 +2,9 @@
 --     PlainOf    the statements of one call
 --     plainly    every call
 -- Assumes nothing.
-use Rattle.laws.proofs.Common.{ℕ, ◌+◌, ◌*◌, Bool, true, false, not, ◌&&◌, ◌||◌, Bool·beq, ◌≡◌, refl, sym, ap, ◌∙◌, arith}
-use Rattle.laws.proofs.Common.{not-false, ne_eqb, eqb, ltb, if◌then◌else◌, if_keeps, if_false, clash}
+use Rattle.std.specs.Prelude.{◌+◌, ◌*◌, ◌&&◌, ◌||◌, ◌≡◌}
+use Rattle.laws.proofs.Common.{ℕ, Bool, true, false, not, Bool·beq, refl, sym, ap, ◌∙◌, arith}
+use Rattle.laws.proofs.Common.{not-false, ne_eqb, eqb, ltb, when◌then◌else◌, if_keeps, if_false, clash}
 use Rattle.word_order.specs.Port.{is_under}
 use Rattle.ti_rules.specs.declared.Settings.{Settings}
 use Rattle.ti_rules.specs.declared.Buffer.{Buffer}
@@ -31,15 +32,15 @@ use Rattle.ti_order.proofs.Machine.{edged_pins, written_rest}
 
 pub record PlainOf (m : Ti) (c : Call) (o : Outcome) : Type 0 where
   pub reset : o.after.reset ≡ (enters_reset c || (not (leaves_reset c) && m.reset))
-  pub mode : mode_levels o.after.settings ≡ (if did (sets_mode c) o.answer then mode_asked c else mode_levels m.settings)
-  pub length : o.after.settings.length ≡ (if did (sets_length c) o.answer then length_asked c else m.settings.length)
+  pub mode : mode_levels o.after.settings ≡ (when did (sets_mode c) o.answer then mode_asked c else mode_levels m.settings)
+  pub length : o.after.settings.length ≡ (when did (sets_length c) o.answer then length_asked c else m.settings.length)
   pub sck : o.after.engine.pins.sck
-      ≡ (if o.after.reset then o.after.settings.polarity
-      else if made_edge o.answer then not m.engine.pins.sck
-      else if did (is_pin_call c) o.answer then sck_asked c
+      ≡ (when o.after.reset then o.after.settings.polarity
+      else when made_edge o.answer then not m.engine.pins.sck
+      else when did (is_pin_call c) o.answer then sck_asked c
       else m.engine.pins.sck)
   pub select : o.after.engine.pins.select
-      ≡ (if o.after.reset then true else if did (is_pin_call c) o.answer then select_asked c else m.engine.pins.select)
+      ≡ (when o.after.reset then true else when did (is_pin_call c) o.answer then select_asked c else m.engine.pins.select)
   -- between characters the output stays in phase 0
   pub sdo : o.after.reset ≡ false → o.after.settings.phase ≡ false → is_under (way_of o.after.engine.shift) ≡ false →
       o.after.engine.pins.sdo ≡ m.engine.pins.sdo
@@ -75,10 +76,10 @@ module _ (m : Ti) (h : Reached m) where
   unfolding rested_at
   rest_pins e = (λ i. (h.resting e i).pins.sck, λ i. (h.resting e i).pins.select, λ i. (h.resting e i).pins.sdo)
 
-  kept-sck : m.engine.pins.sck ≡ (if m.reset then m.settings.polarity else m.engine.pins.sck)
+  kept-sck : m.engine.pins.sck ≡ (when m.reset then m.settings.polarity else m.engine.pins.sck)
   kept-sck = if_keeps (λ (b : Bool). m.engine.pins.sck ≡ b) m.reset _ _ (λ e. (rest_pins e).0) (λ e. refl)
 
-  kept-select : m.engine.pins.select ≡ (if m.reset then true else m.engine.pins.select)
+  kept-select : m.engine.pins.select ≡ (when m.reset then true else m.engine.pins.select)
   kept-select = if_keeps (λ (b : Bool). m.engine.pins.select ≡ b) m.reset _ _ (λ e. (rest_pins e).1) (λ e. refl)
 
   -- A call, neither of reset, of mode, of length nor of pins, that leaves settings and pins, but perhaps the output.
@@ -86,7 +87,7 @@ module _ (m : Ti) (h : Reached m) where
       did (is_pin_call c) a ≡ false → made_edge a ≡ false → n.pins.sck ≡ m.engine.pins.sck → n.pins.select ≡ m.engine.pins.select →
       (m.reset ≡ false → m.settings.phase ≡ false → is_under (way_of n.shift) ≡ false → n.pins.sdo ≡ m.engine.pins.sdo) →
       PlainOf m c (answering m a n)
-  unfolding if◌then◌else◌
+  unfolding when◌then◌else◌
   leaves c a n e0 e1 e2 e3 e7 e4 sck select sdo =
       record {
         reset = rw (e0, e1);
@@ -103,11 +104,11 @@ module _ (m : Ti) (h : Reached m) where
 
   -- A done mode, by where it leaves the module.
   set-plain : (master talk polarity phase : Bool) (r : Bool) (n : Engine) → m.reset ≡ r →
-      n.pins.sck ≡ (if r then polarity else m.engine.pins.sck) → n.pins.select ≡ (if r then true else m.engine.pins.select) →
+      n.pins.sck ≡ (when r then polarity else m.engine.pins.sck) → n.pins.select ≡ (when r then true else m.engine.pins.select) →
       (r ≡ false → n.pins.sdo ≡ m.engine.pins.sdo) →
       PlainOf m (Mode master talk polarity phase)
       (record { answer = Done; after = record { reset = r; settings = mode_of master talk polarity phase m.settings; engine = n } })
-  unfolding if◌then◌else◌
+  unfolding when◌then◌else◌
   set-plain master talk polarity phase r n e sck select sdo =
       record { reset = sym e; mode = refl; length = refl; sck = sck; select = select; sdo = λ off p idle. sdo off }
 
@@ -127,16 +128,16 @@ module _ (m : Ti) (h : Reached m) where
   -- Out of reset: a tick that made an edge, and a pin call that was done, by what they leave.
   moves : (c : Call) (a : Answer) (n : Engine) → enters_reset c ≡ false → leaves_reset c ≡ false → did (sets_mode c) a ≡ false →
       did (sets_length c) a ≡ false → m.reset ≡ false →
-      n.pins.sck ≡ (if made_edge a then not m.engine.pins.sck else if did (is_pin_call c) a then sck_asked c else m.engine.pins.sck) →
-      n.pins.select ≡ (if did (is_pin_call c) a then select_asked c else m.engine.pins.select) →
+      n.pins.sck ≡ (when made_edge a then not m.engine.pins.sck else when did (is_pin_call c) a then sck_asked c else m.engine.pins.sck) →
+      n.pins.select ≡ (when did (is_pin_call c) a then select_asked c else m.engine.pins.select) →
       (m.settings.phase ≡ false → is_under (way_of n.shift) ≡ false → n.pins.sdo ≡ m.engine.pins.sdo) →
       PlainOf m c (answering m a n)
-  unfolding if◌then◌else◌
+  unfolding when◌then◌else◌
   moves c a n e0 e1 e2 e3 e sck select sdo =
       record { reset = rw (e0, e1); mode = rw e2; length = rw e3; sck = rw e sck; select = rw e select; sdo = λ off. sdo }
 
   pub plainly : (c : Call) → PlainOf m c (perform_of m c)
-  unfolding enter_of leave_of set_mode set_length write_of read_of tick_of pins_of clear_of rested_at taken cleared turned stepped if◌then◌else◌
+  unfolding enter_of leave_of set_mode set_length write_of read_of tick_of pins_of clear_of rested_at taken cleared turned stepped when◌then◌else◌
   plainly Enter =
       if_keeps (λ (x : Ti). PlainOf m Enter (record { answer = Done; after = x })) m.reset _ _
       (λ e. record { reset = e; mode = refl; length = refl; sck = kept-sck; select = kept-select; sdo = λ off. clash m.reset e off })

@@ -4,8 +4,9 @@
 --     calls_show     what is seen between calls
 --     demands_hold   the page
 -- Assumes nothing.
-use Rattle.laws.proofs.Common.{ℕ, ◌≤◌, Bool, true, false, not, ◌&&◌, ◌||◌, List, [], ◌≡◌, refl, sym, ap, ◌∙◌, arith, le-ltb}
-use Rattle.laws.proofs.Common.{not-true, ltb, length, if◌then◌else◌, if_keeps, if_false, if_ap, by_test, or_left, or_right}
+use Rattle.std.specs.Prelude.{◌≤◌, ◌&&◌, ◌||◌, ◌≡◌}
+use Rattle.laws.proofs.Common.{ℕ, Bool, true, false, not, List, [], refl, sym, ap, ◌∙◌, arith, le-ltb}
+use Rattle.laws.proofs.Common.{not-true, ltb, length, when◌then◌else◌, if_keeps, if_false, if_ap, by_test, or_left, or_right}
 use mathlib.Core.Bool.{and-false}
 use Rattle.floats.proofs.Quotients.{whole_fraction}
 use Rattle.word_order.specs.Ledger.{Terms, Ledger, opened, lost_of, is_quiet, edges_given}
@@ -48,7 +49,7 @@ silent_opens = record { none = refl; lost = λ t l. omega arith; finished = λ t
 
 quiet_entry : (m : Ti) (level busy : Bool) (k : ℕ) (c : Call) → m.reset ≡ true →
     Silent (entry_of level (sight_of m (perform_of m c).answer) busy k c)
-unfolding entry_of write_of read_of tick_of pins_of if◌then◌else◌
+unfolding entry_of write_of read_of tick_of pins_of when◌then◌else◌
 quiet_entry m level busy k Enter e = silent_none
 quiet_entry m level busy k Leave e = rw e silent_opens
 quiet_entry m level busy k (Mode master talk polarity phase) e = silent_none
@@ -77,14 +78,14 @@ sdo_out {m = m} {l = l} {before = before} h tied stays =
 
 -- The output as others see it, by the rule and by the page.
 pin_same : (m : Ti) → sdo_of m ≡ pin_seen m
-unfolding sdo_of undriven if◌then◌else◌
+unfolding sdo_of undriven when◌then◌else◌
 pin_same m =
     go m.reset m.settings.talk m.settings.master m.engine.pins.select m.engine.pins.sdo
   where
     go : (reset talk master select sdo : Bool) →
-        (if reset || (not talk || (not master && select)) then Undriven else if sdo then High else Low)
-        ≡ (if reset then Undriven
-        else if talk then if master then level_shown sdo else if select then Undriven else level_shown sdo
+        (when reset || (not talk || (not master && select)) then Undriven else when sdo then High else Low)
+        ≡ (when reset then Undriven
+        else when talk then when master then level_shown sdo else when select then Undriven else level_shown sdo
         else Undriven)
     go true talk master select sdo = refl
     go false false master select sdo = refl
@@ -96,7 +97,7 @@ pin_same m =
 
 -- A tick of a master out of reset.
 tick_kind_lem : (m : Ti) (sdi : Bool) → m.reset ≡ false → m.settings.master ≡ true →
-    (said_of (perform_of m (Tick sdi)).answer).kind ≡ (if is_free m.engine.shift then 3 else 4)
+    (said_of (perform_of m (Tick sdi)).answer).kind ≡ (when is_free m.engine.shift then 3 else 4)
 unfolding tick_of
 tick_kind_lem m sdi e own =
     ap (λ (p : Outcome). (said_of p.answer).kind) (if_false m.reset _ _ e ∙ if_false (not m.settings.master) _ _ (ap not own))
@@ -193,11 +194,11 @@ calls_show y h tied =
       sdo = pin_same y.now;
       ticks = λ on own sdi.
           tick_kind_lem y.now sdi (not-true y.now.reset on) own
-          ∙ ap (λ (b : Bool). if b then 3 else 4) (left_seen y.now.settings y.now.engine y.ledger h.shift (tied on).words own);
+          ∙ ap (λ (b : Bool). when b then 3 else 4) (left_seen y.now.settings y.now.engine y.ledger h.shift (tied on).words own);
     }
 
 at_power_up_lem : AtPowerUp powered_up
-unfolding powered_up rested_at sdo_of undriven if◌then◌else◌
+unfolding powered_up rested_at sdo_of undriven when◌then◌else◌
 at_power_up_lem =
     record {
       reset = refl;

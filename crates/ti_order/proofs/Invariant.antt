@@ -4,9 +4,10 @@
 --     clocked_holds, stepped_holds        edges keep it
 --     start_holds, keeps                  power-up has it, and every call keeps it
 -- Assumes nothing.
-use Rattle.laws.proofs.Common.{ℕ, ◌+◌, ◌*◌, ◌-◌, ◌/◌, ◌%◌, ◌^◌, ◌≤◌, ◌<◌, Bool, true, false, not, ◌||◌, Bool·beq, ◌≡◌, refl}
+use Rattle.std.specs.Prelude.{◌+◌, ◌*◌, ◌-◌, ◌/◌, ◌%◌, ◌^◌, ◌≤◌, ◌<◌, ◌||◌, ◌≡◌}
+use Rattle.laws.proofs.Common.{ℕ, Bool, true, false, not, Bool·beq, refl}
 use Rattle.laws.proofs.Common.{sym, ap, subst, ◌∙◌, pow-succ', mod-eq_of_lt, zero-div, arith, eqb-false, ltb-true, ltb-false}
-use Rattle.laws.proofs.Common.{ne_eqb, not-true, not-false, eqb, ltb, if◌then◌else◌, if_keeps, if_both, if_true, clash}
+use Rattle.laws.proofs.Common.{ne_eqb, not-true, not-false, eqb, ltb, when◌then◌else◌, if_keeps, if_both, if_true, clash}
 use Rattle.laws.proofs.Common.{and_left, and_right, or_left, or_right, or_rest_first, like}
 use native.Mathlib.Nat.{pow-le-pow_right}
 use mir.Val.{bool_byte}
@@ -74,7 +75,7 @@ module _ (s : Settings) (most : s.length ≤ 16) (sdi : Bool) (c : Character) (s
   no_more = omega (arith, bit_most s.phase, sampled_half s.phase (c.edges + 1))
 
   pub received_same : received_after s (c.edges + 1) sdi c.received
-      ≡ (if latched s.phase (c.edges + 1) then c.received * 2 + bool_byte sdi else c.received)
+      ≡ (when latched s.phase (c.edges + 1) then c.received * 2 + bool_byte sdi else c.received)
   unfolding received_after
   received_same =
       if_both (λ (a b : ℕ). a ≡ b) (latches s.phase (c.edges + 1)) (latched s.phase (c.edges + 1)) _ _ _ _
@@ -106,12 +107,12 @@ like_holds s n k (Busy c) e f h = subst (λ (b : Bool). CharacterHolds s b c) (s
 
 pub seen_keeps : (s : Settings) (sck select : Bool) (n : Engine) → Held s n → Held s (seen sck select n)
 unfolding seen
-seen_keeps s sck select n h = like_holds s n _ n.shift refl refl h
+seen_keeps s sck select n h = like_holds s n (seen sck select n) n.shift refl refl h
 
 -- Characters move.
 module _ (s : Settings) (least : 1 ≤ s.length) (most : s.length ≤ 16) where
   -- What waits is loaded, and shown in phase 1.
-  fresh_holds : (sdo : Bool) (bits : ℕ) → CharacterHolds s (if s.phase then bit_of bits (s.length - 1) else sdo) (fresh false bits)
+  fresh_holds : (sdo : Bool) (bits : ℕ) → CharacterHolds s (when s.phase then bit_of bits (s.length - 1) else sdo) (fresh false bits)
   fresh_holds sdo bits =
       record {
         short = omega arith;
@@ -123,7 +124,7 @@ module _ (s : Settings) (least : 1 ≤ s.length) (most : s.length ≤ 16) where
       }
     where
       first : (p : Bool) → (p || ltb 0 0) ≡ true →
-          (if p then bit_of bits (s.length - 1) else sdo) ≡ bit_of bits (s.length - 1 - shown_at p 0)
+          (when p then bit_of bits (s.length - 1) else sdo) ≡ bit_of bits (s.length - 1 - shown_at p 0)
       first true e =
           let same : s.length - 1 ≡ s.length - 1 - shown_at true 0 = omega (arith, shown_place true 0) in
           if_true true _ _ refl ∙ ap (bit_of bits) same
@@ -178,7 +179,7 @@ module _ (s : Settings) (least : 1 ≤ s.length) (most : s.length ≤ 16) where
 
   turned_holds : (sdi : Bool) (n : Engine) → is_free n.shift ≡ false → Held s n → Held s (turned s sdi n)
   unfolding turned seen
-  turned_holds sdi n busy h = edged_holds sdi _ (λ e. clash (is_free n.shift) e busy) (seen_keeps s _ _ n h)
+  turned_holds sdi n busy h = edged_holds sdi _ (λ e. clash (is_free n.shift) e busy) (seen_keeps s (not n.pins.sck) n.pins.select n h)
 
   stepped_holds : (sck sdi select : Bool) (n : Engine) → s.master ≡ false → Held s n → Held s (stepped s sck sdi select n)
   unfolding stepped
@@ -311,5 +312,5 @@ keeps m Clear h =
       least = h.least;
       most = h.most;
       resting = λ e. ap cleared (h.resting e) ∙ cleared_rest _;
-      shift = like_holds m.settings m.engine _ m.engine.shift refl refl h.shift;
+      shift = like_holds m.settings m.engine (cleared m.engine) m.engine.shift refl refl h.shift;
     }

@@ -6,9 +6,10 @@
 --     leads_wanted                     an edge that leads on is one that the watcher wants
 --     carried_same, character_fits     the character of a write
 -- Assumes nothing.
-use Rattle.laws.proofs.Common.{ℕ, zero, suc, ◌+◌, ◌*◌, ◌-◌, ◌/◌, ◌%◌, ◌^◌, ◌≤◌, ◌<◌, Bool, true, false, not, ◌||◌, Bool·beq}
-use Rattle.laws.proofs.Common.{List, [], ◌∷◌, ◌++◌, ◌≡◌, refl, sym, ap, ap₂, subst, ◌∙◌, div-div-eq-div-mul, mod-lt, arith}
-use Rattle.laws.proofs.Common.{eqb-true, eqb-false, eq-eqb, ne_eqb, lt-ltb, eqb, ltb, if◌then◌else◌, by_test}
+use Rattle.std.specs.Prelude.{◌+◌, ◌*◌, ◌-◌, ◌/◌, ◌%◌, ◌^◌, ◌≤◌, ◌<◌, ◌||◌, ◌∷◌, ◌++◌, ◌≡◌}
+use Rattle.laws.proofs.Common.{ℕ, zero, suc, Bool, true, false, not, Bool·beq}
+use Rattle.laws.proofs.Common.{List, [], refl, sym, ap, ap₂, subst, ◌∙◌, div-div-eq-div-mul, mod-lt, arith}
+use Rattle.laws.proofs.Common.{eqb-true, eqb-false, eq-eqb, ne_eqb, lt-ltb, eqb, ltb, when◌then◌else◌, by_test}
 use mir.Val.{bool_byte}
 use lib.Pow.{pow-add, pow_pos, shr_lt, field, mod-mod-pow}
 use Rattle.word_order.specs.Bits.{bit_of, top_bits, spelled, sampled_in}
@@ -28,22 +29,22 @@ even_test k =
 
 -- The rule's edges.
 pub latches_same : (phase : Bool) (k : ℕ) → latches phase k ≡ latched phase k
-unfolding latches latched if◌then◌else◌
+unfolding latches latched when◌then◌else◌
 latches_same phase k = rw (even_test k) (go phase (eqb (k % 2) 1))
   where
-    go : (p odd : Bool) → Bool·beq p odd ≡ (if p then odd else not odd)
+    go : (p odd : Bool) → Bool·beq p odd ≡ (when p then odd else not odd)
     go true true = refl
     go true false = refl
     go false true = refl
     go false false = refl
 
 pub latched_parity : (phase : Bool) (k : ℕ) → latched phase k ≡ true → k % 2 ≡ bool_byte phase
-unfolding latched if◌then◌else◌
+unfolding latched when◌then◌else◌
 latched_parity true k e = eqb-true (k % 2) 1 e
 latched_parity false k e = eqb-true (k % 2) 0 e
 
 pub open_parity : (phase : Bool) (k : ℕ) → latched phase k ≡ false → (k + bool_byte phase) % 2 ≡ 1
-unfolding latched if◌then◌else◌
+unfolding latched when◌then◌else◌
 open_parity true k e = let even : k % 2 ≡ 1 → ⊥ = eqb-false (k % 2) 1 e in omega arith
 open_parity false k e = let odd : k % 2 ≡ 0 → ⊥ = eqb-false (k % 2) 0 e in omega arith
 
@@ -61,7 +62,7 @@ sampled_whole phase w = omega (arith, bit_most phase, sampled_half phase (2 * w)
 
 -- The place of the bit that is shown after some edges.
 pub shown_place : (phase : Bool) (k : ℕ) → shown_at phase k ≡ (k - (1 - bool_byte phase)) / 2
-unfolding shown_at if◌then◌else◌
+unfolding shown_at when◌then◌else◌
 shown_place true k = omega arith
 shown_place false k = omega arith
 
@@ -87,10 +88,10 @@ module _ (phase : Bool) (k : ℕ) where
 
 -- An edge that leads on.
 pub leads_wanted : (s : Settings) (sck : Bool) (k : ℕ) → leads_on s sck k ≡ Bool·beq sck (wanted s.polarity k)
-unfolding leads_on wanted if◌then◌else◌
+unfolding leads_on wanted when◌then◌else◌
 leads_wanted s sck k = rw (even_test k) (go sck s.polarity (eqb (k % 2) 1))
   where
-    go : (a b odd : Bool) → Bool·beq (Bool·beq a b) odd ≡ Bool·beq a (if not odd then not b else b)
+    go : (a b odd : Bool) → Bool·beq (Bool·beq a b) odd ≡ Bool·beq a (when not odd then not b else b)
     go true true true = refl
     go true true false = refl
     go true false true = refl

@@ -4,8 +4,9 @@
 --     machine    the machine
 --     ti_order_lem   word order after every list of calls from power-up
 -- Assumes nothing.
-use Rattle.laws.proofs.Common.{ℕ, ◌≤◌, Bool, true, false, not, ◌&&◌, ◌||◌, Bool·beq, or-false, List, [], append-nil, ◌≡◌}
-use Rattle.laws.proofs.Common.{refl, sym, ap, ◌∙◌, arith, not-true, ltb, length, if◌then◌else◌, if_keeps, if_both, if_true}
+use Rattle.std.specs.Prelude.{◌≤◌, ◌&&◌, ◌||◌, ◌≡◌}
+use Rattle.laws.proofs.Common.{ℕ, Bool, true, false, not, Bool·beq, or-false, List, [], append-nil}
+use Rattle.laws.proofs.Common.{refl, sym, ap, ◌∙◌, arith, not-true, ltb, when◌then◌else◌, if_keeps, if_both, if_true}
 use Rattle.laws.proofs.Common.{if_false, clash}
 use Rattle.word_order.specs.Ledger.{Op, accepts}
 use Rattle.word_order.specs.Port.{played, losses_in, finishes_in}
@@ -120,7 +121,7 @@ module _ (m : Ti) (level busy : Bool) (k : ℕ) (h : Reached m)
   -- A write, by its words.
   written_port : (c : ℕ) → is_full m.engine.waiting ≡ false →
       port_of (written m.settings c m.engine) ≡ played (terms_of m.settings) (accepts c) (port_of m.engine)
-  unfolding written way_of if◌then◌else◌
+  unfolding written way_of when◌then◌else◌
   written_port c room = go m.engine.shift m.engine.waiting room
     where
       at : Shift → Buffer → Engine
@@ -169,7 +170,7 @@ module _ (m : Ti) (level busy : Bool) (k : ℕ) (h : Reached m)
   -- The watcher asks of its wire what the module asks of its shift register.
   pin-moved : (sck sdi select : Bool) → not m.reset ≡ true →
       Moved (stepped m.settings sck sdi select m.engine) sck
-      (if Bool·beq sck level || (select || not (Bool·beq sck (wanted m.settings.polarity k))) then []
+      (when Bool·beq sck level || (select || not (Bool·beq sck (wanted m.settings.polarity k))) then []
       else edge_ops busy m.engine.pins.sdo sdi)
   unfolding stepped
   pin-moved sck sdi select on =
@@ -188,7 +189,7 @@ module _ (m : Ti) (level busy : Bool) (k : ℕ) (h : Reached m)
   steps Leave =
       if_keeps (λ (x : Ti). StepOf m Leave level busy k (record { answer = Done; after = x })) m.reset _ _
       (λ e.
-      let is : (if m.reset then opens else notes []) ≡ opens = if_true m.reset _ _ e in
+      let is : (when m.reset then opens else notes []) ≡ opens = if_true m.reset _ _ e in
       let flags = down e in
       record {
         step = λ on. rw is (record { ports = refl; legal = tt; stays = λ f. clash true refl f });

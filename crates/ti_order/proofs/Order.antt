@@ -2,8 +2,9 @@
 --     clocked_port                an edge of a character, by its words
 --     edged_step                  an edge that counts: its operations, and what they lose and finish
 -- Assumes nothing.
-use Rattle.laws.proofs.Common.{ℕ, ◌+◌, ◌*◌, ◌-◌, ◌^◌, ◌≤◌, ◌<◌, Bool, true, false, not, ◌&&◌, ◌||◌, or-false, or-true, List}
-use Rattle.laws.proofs.Common.{◌++◌, ◌≡◌, refl, sym, ap, subst, ◌∙◌, arith, eqb-true, ne_eqb, eqb, ltb, length, if◌then◌else◌}
+use Rattle.std.specs.Prelude.{◌+◌, ◌*◌, ◌-◌, ◌^◌, ◌≤◌, ◌<◌, ◌&&◌, ◌||◌, ◌++◌, ◌≡◌}
+use Rattle.laws.proofs.Common.{ℕ, Bool, true, false, not, or-false, or-true, List}
+use Rattle.laws.proofs.Common.{refl, sym, ap, subst, ◌∙◌, arith, eqb-true, ne_eqb, eqb, ltb, length, when◌then◌else◌}
 use Rattle.laws.proofs.Common.{if_keeps, if_both, if_false, by_test}
 use mir.Val.{bool_byte}
 use Rattle.word_order.specs.Bits.{bit_of, sampled_in}
@@ -112,7 +113,7 @@ unfolding way_of
 free_way = refl
 
 fresh_way : (bits : ℕ) → is_under (way_of (Busy (fresh false bits))) ≡ false
-unfolding way_of if◌then◌else◌
+unfolding way_of when◌then◌else◌
 fresh_way bits = refl
 
 pub begun_way_lem : (c : Character) → eqb c.edges 0 ≡ false → way_of (Busy c) ≡ sends (under_of c)
@@ -142,7 +143,7 @@ module _ (s : Settings) (least : 1 ≤ s.length) (most : s.length ≤ 16) (sdi :
   at sh w = record { waiting = w; shift = sh; unread = n.unread; pins = n.pins; overrun = n.overrun }
 
   free_step : (w : Buffer) → ShiftHolds s (at Free w) Free → EdgeStep s sdi (edge_ops false n.pins.sdo sdi) (at Free w)
-  unfolding edged edge_ops way_of if◌then◌else◌
+  unfolding edged edge_ops way_of when◌then◌else◌
   free_step Empty k =
       record {
         ports = clocked_port s most sdi (fresh true 0) (at Free Empty) (omega arith) (omega arith) _;
@@ -154,7 +155,7 @@ module _ (s : Settings) (least : 1 ≤ s.length) (most : s.length ≤ 16) (sdi :
 
   loaded-step : (bits : ℕ) (w : Buffer) → CharacterHolds s n.pins.sdo (fresh false bits) →
       EdgeStep s sdi (edge_ops false n.pins.sdo sdi) (at (Busy (fresh false bits)) w)
-  unfolding edged edge_ops way_of if◌then◌else◌
+  unfolding edged edge_ops way_of when◌then◌else◌
   loaded-step bits w k =
       record {
         ports = clocked_port s most sdi (fresh false bits) (at (Busy (fresh false bits)) w) k.short k.received _;

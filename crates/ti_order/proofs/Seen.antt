@@ -4,9 +4,10 @@
 --     sdo_due                      the output shows the bit that is due
 --     waits_seen, left_seen        what waits, and whether anything is to be sent
 -- Assumes nothing.
-use Rattle.laws.proofs.Common.{ℕ, suc, ◌-◌, ◌≤◌, and-true, Bool, true, false, not, ◌&&◌, ◌||◌, List, ◌∷◌, ◌++◌, ◌≡◌, refl}
+use Rattle.std.specs.Prelude.{◌-◌, ◌≤◌, ◌&&◌, ◌||◌, ◌∷◌, ◌++◌, ◌≡◌}
+use Rattle.laws.proofs.Common.{ℕ, suc, and-true, Bool, true, false, not, List, refl}
 use Rattle.laws.proofs.Common.{sym, ap, ◌∙◌, arith, eqb-true, eqb-false, ne_eqb, lt-ltb, le-ltb, eqb, ltb, length, drop}
-use Rattle.laws.proofs.Common.{if◌then◌else◌, and-false, or_rest_first, if_true, if_false, by_test}
+use Rattle.laws.proofs.Common.{when◌then◌else◌, and-false, or_rest_first, if_true, if_false, by_test}
 use lib.Seq.{drop-append_seam}
 use Rattle.word_order.specs.Bits.{bit_of}
 use Rattle.word_order.specs.Ledger.{Terms, Wire, quiet, busy, Ledger, opened, sent, lost_of, is_quiet, edges_given, carries_filler}
@@ -89,13 +90,13 @@ module _ (s : Settings) (n : Engine) (l : Ledger) (h : ShiftHolds s n n.shift) (
 
   due : (sh : Shift) → ShiftHolds s n sh → carries_filler l.wire ≡ ((under_way sh).zeros && ltb 0 (under_way sh).edges) →
       left_over l ≡ unsent sh ++ in_buffer n.waiting → Due sh
-  unfolding current if◌then◌else◌
+  unfolding current when◌then◌else◌
   due Free k filler left e =
       rw (filler, left ∙ ap in_buffer k.0) (k.1 (or_rest_first s.phase _ e refl) ∙ sym (bit_zero _))
   due (Busy c) k filler left e =
       k.shows e ∙ ap (λ (x : ℕ). bit_of x (s.length - 1 - shown_at s.phase c.edges)) (sym (bits c.zeros refl))
     where
-      bits : (z : Bool) → c.zeros ≡ z → (if carries_filler l.wire then 0 else first_of (left_over l)) ≡ c.bits
+      bits : (z : Bool) → c.zeros ≡ z → (when carries_filler l.wire then 0 else first_of (left_over l)) ≡ c.bits
       bits true z = rw (filler, z, lt-ltb 0 c.edges (k.begun z)) (sym (k.nought z))
       bits false z = rw (filler, left, z)
 
@@ -107,7 +108,7 @@ module _ (s : Settings) (n : Engine) (l : Ledger) (h : ShiftHolds s n n.shift) (
   waits : (sh : Shift) (w : Buffer) → ShiftHolds s (record { waiting = w; shift = sh; unread = n.unread; pins = n.pins; overrun = n.overrun }) sh →
       carries_filler l.wire ≡ ((under_way sh).zeros && ltb 0 (under_way sh).edges) → left_over l ≡ unsent sh ++ in_buffer w →
       is_full w ≡ some_wait l
-  unfolding some_wait if◌then◌else◌
+  unfolding some_wait when◌then◌else◌
   waits Free Empty k filler left = rw (filler, left)
   waits Free (Holds x) k filler left =
       let z : ◌≡◌ {A = ℕ} 1 0 = ap (λ (b : Buffer). length (in_buffer b)) k.0 in absurd (omega arith)

@@ -2,8 +2,9 @@
 --     slow_rate, fast_rate   the rate for SPIBRR 3 to 127, and 0 to 2, by its low seven bits
 --     no_rate                of LSPCLK 0
 -- Assumes nothing.
-use Rattle.laws.proofs.Common.{ℕ, ◌+◌, ◌*◌, ◌%◌, ◌^◌, ◌≤◌, ◌<◌, false, ◌≡◌, refl, sym, ap, ◌∙◌, zero-mul, arith, lt-ltb}
-use Rattle.laws.proofs.Common.{le-ltb, ltb, if◌then◌else◌, if_keeps}
+use Rattle.std.specs.Prelude.{◌+◌, ◌*◌, ◌%◌, ◌^◌, ◌≤◌, ◌<◌, ◌≡◌}
+use Rattle.laws.proofs.Common.{ℕ, false, refl, sym, ap, ◌∙◌, zero-mul, arith, lt-ltb}
+use Rattle.laws.proofs.Common.{le-ltb, ltb, when◌then◌else◌, if_keeps}
 use lib.Ieee.{binary64, round}
 use Rattle.floats.specs.Whole.{float_of}
 use Rattle.floats.proofs.Quotients.{quotient_rounded, whole_fraction}
@@ -18,14 +19,14 @@ rate_by spibrr lspclk d e least most h =
 module _ (brr more : ℕ) where
   pub slow_rate : (lspclk : ℕ) → brr ≤ 127 → 3 ≤ brr → lspclk < 2 ^ 32 →
       rate_of (brr + 128 * more) lspclk ≡ round binary64 false lspclk (brr + 1)
-  unfolding divider_of if◌then◌else◌
+  unfolding divider_of when◌then◌else◌
   slow_rate lspclk most least h =
       let low : (brr + 128 * more) % 128 ≡ brr = omega arith in
       rate_by (brr + 128 * more) lspclk (brr + 1)
       (rw (low, le-ltb brr 3 least)) (omega arith) (omega arith) h
 
   pub fast_rate : (lspclk : ℕ) → brr ≤ 2 → lspclk < 2 ^ 32 → rate_of (brr + 128 * more) lspclk ≡ round binary64 false lspclk 4
-  unfolding divider_of if◌then◌else◌
+  unfolding divider_of when◌then◌else◌
   fast_rate lspclk most h =
       let low : (brr + 128 * more) % 128 ≡ brr = omega arith in
       let few : brr < 3 = omega arith in

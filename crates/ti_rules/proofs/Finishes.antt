@@ -1,7 +1,8 @@
 -- A character that finishes, as the law of word order has it.
 --     finish_port   what is left to send and what is unread after a finish are the law's own
 -- Assumes nothing.
-use Rattle.laws.proofs.Common.{ℕ, Bool, true, false, List, [], ◌∷◌, ◌++◌, ◌≡◌, refl, if◌then◌else◌}
+use Rattle.std.specs.Prelude.{◌∷◌, ◌++◌, ◌≡◌}
+use Rattle.laws.proofs.Common.{ℕ, Bool, true, false, [], refl, when◌then◌else◌}
 use Rattle.word_order.specs.Port.{Way, loses_at}
 use Rattle.word_order.specs.Port as port
 use Rattle.ti_rules.specs.declared.Settings.{Settings}
@@ -18,8 +19,8 @@ pub finish_port : (s : Settings) (zeros : Bool) (bits edges received : ℕ) (wai
     (record { waiting = waiting; shift = n.shift; unread = unread; pins = n.pins; overrun = n.overrun }))
     ≡ port.finished (terms_of s)
     (record { filler = zeros; word = bits; edges = edges; received = received })
-    (record { owed = (if zeros then [] else bits ∷ []) ++ in_buffer waiting; way = way; unread = in_buffer unread; marked = false })
-unfolding finished port.finished if◌then◌else◌ loses_at way_of
+    (record { owed = (when zeros then [] else bits ∷ []) ++ in_buffer waiting; way = way; unread = in_buffer unread; marked = false })
+unfolding finished port.finished when◌then◌else◌ loses_at way_of
 finish_port s true bits edges received Empty n Empty way = refl
 finish_port s true bits edges received Empty n (Holds x) way = refl
 finish_port s true bits edges received (Holds y) n Empty way = refl

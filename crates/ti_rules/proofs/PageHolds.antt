@@ -2,7 +2,8 @@
 -- false of the page.
 --     page_holds   masters and slaves, both phases and polarities, pauses, zeros, losses, refusals and reset
 -- Assumes nothing.
-use Rattle.laws.proofs.Common.{ℕ, zero, suc, Bool, true, false, not, List, [], ◌∷◌, ◌++◌, ◌≡◌, refl, if◌then◌else◌}
+use Rattle.std.specs.Prelude.{◌∷◌, ◌++◌, ◌≡◌}
+use Rattle.laws.proofs.Common.{ℕ, zero, suc, Bool, true, false, not, List, [], refl, when◌then◌else◌}
 use Rattle.word_order.specs.Bits.{bit_of}
 use Rattle.word_order.specs.Ledger.{opened, left_to_send, loses, first_on_wire, counted, closed, given}
 use Rattle.ti_rules.specs.declared.Call.{Call}
@@ -105,5 +106,5 @@ all =
     ∷ [])
 
 pub page_holds : run all start ≡ true
-unfolding if◌then◌else◌ bit_of opened left_to_send loses first_on_wire counted closed given rested_at powered_up is_length changes_mode character_in between_sdo written taken cleared finished latches received_after sdo_after shifted clocked edged seen turned leads_on stepped number_of enter_of leave_of set_mode set_length write_of read_of tick_of pins_of clear_of undriven sdo_of way_of latched carried edge_ops wanted entry_of remembered_of current some_wait shown_at sdo_seen claims judged run
+unfolding when◌then◌else◌ bit_of opened left_to_send loses first_on_wire counted closed given rested_at powered_up is_length changes_mode character_in between_sdo written taken cleared finished latches received_after sdo_after shifted clocked edged seen turned leads_on stepped number_of enter_of leave_of set_mode set_length write_of read_of tick_of pins_of clear_of undriven sdo_of way_of latched carried edge_ops wanted entry_of remembered_of current some_wait shown_at sdo_seen claims judged run
 page_holds = refl

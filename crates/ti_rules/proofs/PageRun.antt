@@ -3,8 +3,9 @@
 --     run            the tests at every call of a list
 --     page_runs      if the page holds, every run is true: a run that is false refutes the page
 -- Assumes nothing.
-use Rattle.laws.proofs.Common.{ℕ, Bool, true, false, not, ◌&&◌, ◌||◌, List, [], ◌∷◌, ◌++◌, ◌≡◌, refl, ap, subst, ◌∙◌, eqb}
-use Rattle.laws.proofs.Common.{length, if◌then◌else◌, and_both}
+use Rattle.std.specs.Prelude.{◌&&◌, ◌||◌, ◌∷◌, ◌++◌, ◌≡◌}
+use Rattle.laws.proofs.Common.{ℕ, Bool, true, false, not, List, [], refl, ap, subst, ◌∙◌, eqb}
+use Rattle.laws.proofs.Common.{length, when◌then◌else◌, and_both}
 use Rattle.laws.proofs.Claims.{Claim, level, number, levels, numbers, provided, AllHold, none, ◌also◌, all_judged, all_judged_lem}
 use Rattle.word_order.specs.Ledger.{sent, kept}
 use Rattle.word_order.specs.Machine.{Watched, watched_call, watched_calls, InOrder}
@@ -33,26 +34,26 @@ claims x c a y =
     number (said_of a).number (first_number (rows x.now c))
     ∷ level (among (said_of a).kind (0 ∷ kinds_for c)) true
     ∷ level y.now.reset (enters_reset c || (not (leaves_reset c) && x.now.reset))
-    ∷ levels (mode_levels y.now.settings) (if did (sets_mode c) a then mode_asked c else mode_levels x.now.settings)
-    ∷ number y.now.settings.length (if did (sets_length c) a then length_asked c else x.now.settings.length)
+    ∷ levels (mode_levels y.now.settings) (when did (sets_mode c) a then mode_asked c else mode_levels x.now.settings)
+    ∷ number y.now.settings.length (when did (sets_length c) a then length_asked c else x.now.settings.length)
     ∷ level (interrupt_of y.now)
     (not (enters_reset c) && (not (gave a) && (interrupt_of x.now || grew_finished x.ledger y.ledger)))
     ∷ level (overrun_of y.now)
     (not (enters_reset c) && (not (clears_overrun c) && (overrun_of x.now || grew_lost x.ledger y.ledger)))
     ∷ level y.now.engine.pins.sck
-    (if y.now.reset then y.now.settings.polarity
-    else if made_edge a then not x.now.engine.pins.sck
-    else if did (is_pin_call c) a then sck_asked c
+    (when y.now.reset then y.now.settings.polarity
+    else when made_edge a then not x.now.engine.pins.sck
+    else when did (is_pin_call c) a then sck_asked c
     else x.now.engine.pins.sck)
     ∷ level y.now.engine.pins.select
-    (if y.now.reset then true else if did (is_pin_call c) a then select_asked c else x.now.engine.pins.select)
+    (when y.now.reset then true else when did (is_pin_call c) a then select_asked c else x.now.engine.pins.select)
     ∷ level y.now.engine.pins.sdo
-    (if y.now.reset then false else sdo_seen y.now.settings x.now.engine.pins.sdo y.ledger)
+    (when y.now.reset then false else sdo_seen y.now.settings x.now.engine.pins.sdo y.ledger)
     ∷ level (transmit_full_of y.now) (not y.now.reset && some_wait y.ledger)
     ∷ number (place (sdo_of y.now)) (place (pin_seen y.now))
     ∷ provided (not y.now.reset)
     (provided y.now.settings.master
-    (number (said_of (perform_of y.now (Tick false)).answer).kind (if eqb (length (left_over y.ledger)) 0 then 3 else 4)))
+    (number (said_of (perform_of y.now (Tick false)).answer).kind (when eqb (length (left_over y.ledger)) 0 then 3 else 4)))
     ∷ provided (not y.now.reset) (numbers y.ledger.accepted (sent y.ledger ++ (port_of y.now.engine).owed))
     ∷ provided (not y.now.reset) (numbers (kept y.ledger) (y.ledger.read ++ (port_of y.now.engine).unread))
     ∷ []
@@ -84,7 +85,7 @@ module _ (p : TiDemands) where
       let o : not y.now.reset ≡ true → InOrder watching y =
       subst (λ (z : Watched watching). not z.now.reset ≡ true → InOrder watching z) later (p.word_order (cs ++ (c ∷ []))) in
       let ticks : not y.now.reset ≡ true → y.now.settings.master ≡ true →
-      (said_of (perform_of y.now (Tick false)).answer).kind ≡ (if eqb (length (left_over y.ledger)) 0 then 3 else 4) =
+      (said_of (perform_of y.now (Tick false)).answer).kind ≡ (when eqb (length (left_over y.ledger)) 0 then 3 else 4) =
       λ on own. s.ticks on own false in
       let sending : not y.now.reset ≡ true → y.ledger.accepted ≡ sent y.ledger ++ (port_of y.now.engine).owed =
       λ on. (o on).sending in

@@ -3,7 +3,8 @@
 --     refused_unchanged_lem   a refused call leaves the module as it was
 --     in_kind_lem             the kinds of answer that each call may get
 -- Assumes nothing.
-use Rattle.laws.proofs.Common.{Bool, true, false, not, Bool·beq, ◌∷◌, ◌≡◌, refl, eqb, ltb, length, if◌then◌else◌, if_keeps}
+use Rattle.std.specs.Prelude.{◌∷◌, ◌≡◌}
+use Rattle.laws.proofs.Common.{Bool, true, false, not, Bool·beq, refl, eqb, ltb, length, when◌then◌else◌, if_keeps}
 use Rattle.laws.proofs.Common.{by_test}
 use Rattle.ti_rules.specs.declared.Settings.{Settings}
 use Rattle.ti_rules.specs.declared.Buffer.{Buffer}
@@ -40,14 +41,14 @@ full_same : (b : Buffer) → eqb (length (in_buffer b)) 1 ≡ is_full b
 full_same Empty = refl
 full_same (Holds c) = refl
 
-read_number : (m : Ti) (b : Buffer) → (said_of (read_from m b).answer).number ≡ (if eqb (length (in_buffer b)) 0 then 6 else 0)
-unfolding number_of if◌then◌else◌
+read_number : (m : Ti) (b : Buffer) → (said_of (read_from m b).answer).number ≡ (when eqb (length (in_buffer b)) 0 then 6 else 0)
+unfolding number_of when◌then◌else◌
 read_number m Empty = refl
 read_number m (Holds c) = refl
 
 -- Test by test, in the order of the rules.
 pub refused_exactly_lem : (m : Ti) (c : Call) → (said_of (perform_of m c).answer).number ≡ first_number (rows m c)
-unfolding enter_of leave_of set_mode set_length is_length write_of read_of tick_of pins_of clear_of number_of if◌then◌else◌
+unfolding enter_of leave_of set_mode set_length is_length write_of read_of tick_of pins_of clear_of number_of when◌then◌else◌
 refused_exactly_lem m Enter = by_test m.reset (λ e. rw e) (λ e. rw e)
 refused_exactly_lem m Leave = by_test m.reset (λ e. rw e) (λ e. rw e)
 refused_exactly_lem m (Mode master talk polarity phase) =

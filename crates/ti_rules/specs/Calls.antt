@@ -1,7 +1,7 @@
 -- Request Ten: the calls of the TI module, each with its answer and the module after it, and what is seen of a module between calls.
 -- Tests stand in the order of the refusals.
 use Rattle.std.specs.Prelude.{ℕ, Bool, true, false, not, ◌&&◌, ◌||◌}
-use Rattle.laws.specs.Choice.{if◌then◌else◌}
+use Rattle.laws.specs.Choice.{when◌then◌else◌}
 use Rattle.ti_rules.specs.declared.Buffer.{Buffer}
 use Rattle.ti_rules.specs.declared.Buffer.TheVariants.{Empty, Holds}
 use Rattle.ti_rules.specs.declared.Engine.{Engine}
@@ -33,7 +33,7 @@ enter_of m =
     record {
       answer = Done;
       after =
-          if m.reset then m else record { reset = true; settings = m.settings; engine = rested_at m.settings.polarity };
+          when m.reset then m else record { reset = true; settings = m.settings; engine = rested_at m.settings.polarity };
     }
 
 unfoldable pub leave_of : Ti → Outcome
@@ -41,18 +41,18 @@ leave_of m =
     record {
       answer = Done;
       after =
-          if m.reset then record { reset = false; settings = m.settings; engine = rested_at m.settings.polarity } else m;
+          when m.reset then record { reset = false; settings = m.settings; engine = rested_at m.settings.polarity } else m;
     }
 
 -- The mode: in reset all of it, and the clock rests at its new inactive level; out of reset talk alone.
 unfoldable pub set_mode : Ti → Bool → Bool → Bool → Bool → Outcome
 set_mode m master talk polarity phase =
-    if m.reset
+    when m.reset
     then record {
       answer = Done;
       after = record { reset = true; settings = mode_of master talk polarity phase m.settings; engine = rested_at polarity };
     }
-    else if changes_mode master polarity phase m.settings then refuse m OutOfReset
+    else when changes_mode master polarity phase m.settings then refuse m OutOfReset
     else record {
       answer = Done;
       after = record { reset = false; settings = mode_of master talk polarity phase m.settings; engine = m.engine };
@@ -61,15 +61,15 @@ set_mode m master talk polarity phase =
 -- The length: in reset only, which is tested first.
 unfoldable pub set_length : Ti → ℕ → Outcome
 set_length m n =
-    if not m.reset then refuse m OutOfReset
-    else if not (is_length n) then refuse m WrongLength
+    when not m.reset then refuse m OutOfReset
+    else when not (is_length n) then refuse m WrongLength
     else record { answer = Done; after = record { reset = true; settings = with_length n m.settings; engine = m.engine } }
 
 -- The shift register is busy from loading on, so that a second character waits and a third is refused.
 unfoldable pub write_of : Ti → ℕ → Outcome
 write_of m v =
-    if m.reset then refuse m InReset
-    else if is_full m.engine.waiting then refuse m TransmitFull
+    when m.reset then refuse m InReset
+    else when is_full m.engine.waiting then refuse m TransmitFull
     else answering m Done (written m.settings (character_in m.settings v) m.engine)
 
 abbrev pub read_from : Ti → Buffer → Outcome
@@ -77,20 +77,20 @@ read_from m Empty = refuse m ReceiveEmpty
 read_from m (Holds c) = answering m (Value c) (taken m.engine)
 
 unfoldable pub read_of : Ti → Outcome
-read_of m = if m.reset then refuse m InReset else read_from m m.engine.unread
+read_of m = when m.reset then refuse m InReset else read_from m m.engine.unread
 
 -- A master with nothing loaded makes no edge.
 unfoldable pub tick_of : Ti → Bool → Outcome
 tick_of m sdi =
-    if m.reset then refuse m InReset
-    else if not m.settings.master then refuse m WrongClock
-    else if is_free m.engine.shift then record { answer = NoEdge; after = m }
+    when m.reset then refuse m InReset
+    else when not m.settings.master then refuse m WrongClock
+    else when is_free m.engine.shift then record { answer = NoEdge; after = m }
     else answering m Edge (turned m.settings sdi m.engine)
 
 unfoldable pub pins_of : Ti → Bool → Bool → Bool → Outcome
 pins_of m sck sdi select =
-    if m.reset then refuse m InReset
-    else if m.settings.master then refuse m WrongClock
+    when m.reset then refuse m InReset
+    else when m.settings.master then refuse m WrongClock
     else answering m Done (stepped m.settings sck sdi select m.engine)
 
 unfoldable pub clear_of : Ti → Outcome
@@ -123,4 +123,4 @@ unfoldable pub undriven : Ti → Bool
 undriven m = m.reset || (not m.settings.talk || (not m.settings.master && m.engine.pins.select))
 
 unfoldable pub sdo_of : Ti → Output
-sdo_of m = if undriven m then Undriven else if m.engine.pins.sdo then High else Low
+sdo_of m = when undriven m then Undriven else when m.engine.pins.sdo then High else Low

@@ -1,6 +1,6 @@
 -- Document 002, 1.4.2 and 1.3.2, with request Ten: a character on its way, but for its edges: written, loaded or waiting, and read.
 use Rattle.std.specs.Prelude.{ℕ, ◌-◌, ◌/◌, ◌%◌, ◌^◌, Bool, true, false}
-use Rattle.laws.specs.Choice.{if◌then◌else◌}
+use Rattle.laws.specs.Choice.{when◌then◌else◌}
 use Rattle.word_order.specs.Bits.{bit_of}
 use Rattle.ti_rules.specs.declared.Settings.{Settings}
 use Rattle.ti_rules.specs.declared.Buffer.{Buffer}
@@ -37,7 +37,7 @@ top_of s Empty = false
 top_of s (Holds c) = bit_of c (s.length - 1)
 
 unfoldable pub between_sdo : Settings → Buffer → Bool → Bool
-between_sdo s next sdo = if s.phase then top_of s next else sdo
+between_sdo s next sdo = when s.phase then top_of s next else sdo
 
 -- Changes of the pins.
 abbrev pub with_sdo : Bool → Pins → Pins

@@ -3,7 +3,7 @@
 use Rattle.std.specs.Prelude.{ℕ, ◌+◌, ◌*◌, ◌^◌, ◌<◌, ◌≤◌, Bool, true, false, not, ◌&&◌, ◌||◌, List, [], ◌∷◌, ◌≡◌, eqb, length}
 use Rattle.std.specs.Float.{binary64}
 use Rattle.std.specs.Float.Ieee.{round}
-use Rattle.laws.specs.Choice.{if◌then◌else◌}
+use Rattle.laws.specs.Choice.{when◌then◌else◌}
 use Rattle.word_order.specs.Machine.{Watched, watched_call, InOrder}
 use Rattle.floats.specs.Whole.{float_of}
 use Rattle.ti_rules.specs.declared.Settings.{Settings}
@@ -69,21 +69,21 @@ pub record AtPowerUp (m : Ti) : Type 0 where
 -- at each edge, and between edges, the bit that is due.
 pub record CallChanges (x : Watched watching) (c : Call) (a : Answer) (y : Watched watching) : Type 0 where
   pub reset : y.now.reset ≡ (enters_reset c || (not (leaves_reset c) && x.now.reset))
-  pub mode : mode_levels y.now.settings ≡ (if did (sets_mode c) a then mode_asked c else mode_levels x.now.settings)
-  pub length : y.now.settings.length ≡ (if did (sets_length c) a then length_asked c else x.now.settings.length)
+  pub mode : mode_levels y.now.settings ≡ (when did (sets_mode c) a then mode_asked c else mode_levels x.now.settings)
+  pub length : y.now.settings.length ≡ (when did (sets_length c) a then length_asked c else x.now.settings.length)
   pub interrupt : interrupt_of y.now
       ≡ (not (enters_reset c) && (not (gave a) && (interrupt_of x.now || grew_finished x.ledger y.ledger)))
   pub overrun : overrun_of y.now
       ≡ (not (enters_reset c) && (not (clears_overrun c) && (overrun_of x.now || grew_lost x.ledger y.ledger)))
   pub sck : y.now.engine.pins.sck
-      ≡ (if y.now.reset then y.now.settings.polarity
-      else if made_edge a then not x.now.engine.pins.sck
-      else if did (is_pin_call c) a then sck_asked c
+      ≡ (when y.now.reset then y.now.settings.polarity
+      else when made_edge a then not x.now.engine.pins.sck
+      else when did (is_pin_call c) a then sck_asked c
       else x.now.engine.pins.sck)
   pub select : y.now.engine.pins.select
-      ≡ (if y.now.reset then true else if did (is_pin_call c) a then select_asked c else x.now.engine.pins.select)
+      ≡ (when y.now.reset then true else when did (is_pin_call c) a then select_asked c else x.now.engine.pins.select)
   pub sdo : y.now.engine.pins.sdo
-      ≡ (if y.now.reset then false else sdo_seen y.now.settings x.now.engine.pins.sdo y.ledger)
+      ≡ (when y.now.reset then false else sdo_seen y.now.settings x.now.engine.pins.sdo y.ledger)
 
 -- What is seen between calls: the transmit buffer is full while a character waits behind the one in the shift register; the output as others
 -- see it; and out of reset a master's tick makes an edge exactly while something is to be sent.
@@ -91,7 +91,7 @@ pub record Shows (y : Watched watching) : Type 0 where
   pub transmit_full : transmit_full_of y.now ≡ (not y.now.reset && some_wait y.ledger)
   pub sdo : sdo_of y.now ≡ pin_seen y.now
   pub ticks : not y.now.reset ≡ true → y.now.settings.master ≡ true → (sdi : Bool) →
-      (said_of (perform_of y.now (Tick sdi)).answer).kind ≡ (if eqb (length (left_over y.ledger)) 0 then 3 else 4)
+      (said_of (perform_of y.now (Tick sdi)).answer).kind ≡ (when eqb (length (left_over y.ledger)) 0 then 3 else 4)
 
 -- The rate of a master for an LSPCLK of 32 bits: the fraction rounded once, which is the whole quotient where the divider divides, and 0 for
 -- LSPCLK 0. SPIBRR counts by its low seven bits.

@@ -3,7 +3,7 @@
 use Rattle.std.specs.Prelude.{ℕ, ◌+◌, ◌*◌, ◌-◌, ◌/◌, ◌%◌, Bool, true, not, ◌||◌, ltb, eqb}
 use Rattle.std.specs.Bool.{beq}
 use mir.Val.{bool_byte}
-use Rattle.laws.specs.Choice.{if◌then◌else◌}
+use Rattle.laws.specs.Choice.{when◌then◌else◌}
 use Rattle.word_order.specs.Bits.{bit_of}
 use Rattle.ti_rules.specs.declared.Settings.{Settings}
 use Rattle.ti_rules.specs.declared.Character.{Character}
@@ -21,11 +21,11 @@ latches phase edge = beq phase (eqb (edge % 2) 1)
 -- A latched bit comes in behind those before it, in a register of 16 bits.
 unfoldable pub received_after : Settings → ℕ → Bool → ℕ → ℕ
 received_after s edge sdi received =
-    if latches s.phase edge then (received * 2 + bool_byte sdi) % 65536 else received
+    when latches s.phase edge then (received * 2 + bool_byte sdi) % 65536 else received
 
 -- The output once an edge short of the last was given.
 unfoldable pub sdo_after : Settings → ℕ → ℕ → Bool → Bool
-sdo_after s bits edge sdo = if latches s.phase edge then sdo else bit_of bits (s.length - 1 - edge / 2)
+sdo_after s bits edge sdo = when latches s.phase edge then sdo else bit_of bits (s.length - 1 - edge / 2)
 
 -- An edge short of the last.
 unfoldable pub shifted : Settings → Bool → Character → Engine → Engine
@@ -48,7 +48,7 @@ shifted s sdi c n =
 -- An edge of a character: the last of its two edges a bit finishes it.
 unfoldable pub clocked : Settings → Bool → Character → Engine → Engine
 clocked s sdi c n =
-    if ltb (c.edges + 1) (2 * s.length) then shifted s sdi c n
+    when ltb (c.edges + 1) (2 * s.length) then shifted s sdi c n
     else finished s (received_after s (c.edges + 1) sdi c.received) n
 
 -- What an edge finds in the shift register: with nothing written zeros go out.
@@ -82,5 +82,5 @@ leads_on s sck edges = beq (beq sck s.polarity) (eqb (edges % 2) 1)
 -- A slave sees its pins. Select that is high stops the shift register and keeps what is in it: the character is paused.
 unfoldable pub stepped : Settings → Bool → Bool → Bool → Engine → Engine
 stepped s sck sdi select n =
-    if beq sck n.pins.sck || (select || not (leads_on s sck (under_way n.shift).edges)) then seen sck select n
+    when beq sck n.pins.sck || (select || not (leads_on s sck (under_way n.shift).edges)) then seen sck select n
     else edged s sdi (seen sck select n)

@@ -1,7 +1,7 @@
 -- What is seen of a watched module, by calls, answers and the ledger: its flags and the levels of its pins. These are the judges of the page
 -- specs/Demands.antt; no rule is asked.
 use Rattle.std.specs.Prelude.{ℕ, ◌-◌, ◌/◌, Bool, true, false, not, ◌&&◌, ◌||◌, List, [], ◌∷◌, eqb, ltb, length, drop}
-use Rattle.laws.specs.Choice.{if◌then◌else◌}
+use Rattle.laws.specs.Choice.{when◌then◌else◌}
 use Rattle.word_order.specs.Bits.{bit_of}
 use Rattle.word_order.specs.Ledger.{Ledger, sent, lost_of, is_quiet, edges_given, carries_filler}
 use Rattle.ti_rules.specs.declared.Settings.{Settings}
@@ -124,21 +124,21 @@ first_of [] = 0
 first_of (c ∷ rest) = c
 
 unfoldable pub current : Ledger → ℕ
-current l = if carries_filler l.wire then 0 else first_of (left_over l)
+current l = when carries_filler l.wire then 0 else first_of (left_over l)
 
 -- All but one of them wait, since one is in the shift register; behind zeros all do.
 unfoldable pub some_wait : Ledger → Bool
-some_wait l = ltb (if carries_filler l.wire then 0 else 1) (length (left_over l))
+some_wait l = ltb (when carries_filler l.wire then 0 else 1) (length (left_over l))
 
 -- Which bit of a character stands at the output after some edges, the highest 0: phase 0 shows a bit at its odd edge and until the next
 -- one; phase 1 shows the highest before the first edge, and the next after each even edge.
 unfoldable pub shown_at : Bool → ℕ → ℕ
-shown_at phase edges = if phase then edges / 2 else (edges - 1) / 2
+shown_at phase edges = when phase then edges / 2 else (edges - 1) / 2
 
 -- The level of the output out of reset, by the level before: between characters it stays in phase 0.
 unfoldable pub sdo_seen : Settings → Bool → Ledger → Bool
 sdo_seen s before l =
-    if s.phase || not (is_quiet l.wire) then bit_of (current l) (s.length - 1 - shown_at s.phase (edges_given l.wire))
+    when s.phase || not (is_quiet l.wire) then bit_of (current l) (s.length - 1 - shown_at s.phase (edges_given l.wire))
     else before
 
 -- The output as others see it: nobody drives it in reset, with talk off, and from a slave that is not selected.
@@ -148,8 +148,8 @@ level_shown false = Low
 
 abbrev pub pin_seen : Ti → Output
 pin_seen m =
-    if m.reset then Undriven
-    else if m.settings.talk then if m.settings.master then level_shown m.engine.pins.sdo
-    else if m.engine.pins.select then Undriven
+    when m.reset then Undriven
+    else when m.settings.talk then when m.settings.master then level_shown m.engine.pins.sdo
+    else when m.engine.pins.select then Undriven
     else level_shown m.engine.pins.sdo
     else Undriven

@@ -1,7 +1,7 @@
 -- Request Ten, "Refusals": the rows in the order of the tests, each in the request's words.
 use Rattle.std.specs.Prelude.{ℕ, Bool, false, not, ◌&&◌, ◌||◌, List, [], ◌∷◌, eqb, ltb, length}
 use Rattle.std.specs.Bool.{beq}
-use Rattle.laws.specs.Choice.{if◌then◌else◌}
+use Rattle.laws.specs.Choice.{when◌then◌else◌}
 use Rattle.ti_rules.specs.declared.Settings.{Settings}
 use Rattle.ti_rules.specs.declared.Ti.{Ti}
 use Rattle.ti_rules.specs.declared.Call.{Call}
@@ -19,7 +19,7 @@ row number applies = record { number = number; applies = applies }
 
 abbrev pub first_number : List Row → ℕ
 first_number [] = 0
-first_number (r ∷ rows) = if r.applies then r.number else first_number rows
+first_number (r ∷ rows) = when r.applies then r.number else first_number rows
 
 -- Another mode: master, polarity or phase is not the present one. Talk may change.
 abbrev pub other_mode : Settings → Call → Bool

@@ -1,11 +1,11 @@
 -- The TI module as a machine of the law of word order (crate word_order): its characters as a port's words, and what somebody writes down
 -- who watches calls, answers and levels. Nothing here asks a rule: which characters were accepted, which edges count and which of them
 -- latch is said anew, in the words of document 002.
-use Rattle.std.specs.Prelude.{ℕ, ◌+◌, ◌*◌, ◌%◌, Bool, true, false, not, ◌||◌, List, [], ◌∷◌, ◌++◌, eqb}
+use Rattle.std.specs.Prelude.{ℕ, ◌*◌, ◌%◌, Bool, true, false, not, ◌||◌, List, [], ◌∷◌, ◌++◌, eqb}
 use Rattle.std.specs.Bool.{beq}
-use Rattle.laws.specs.Choice.{if◌then◌else◌}
+use Rattle.laws.specs.Choice.{when◌then◌else◌}
 use Rattle.word_order.specs.Bits.{top_bits, spelled}
-use Rattle.word_order.specs.Ledger.{replacesOld, Terms, Op, accepts, reads, begins, clocks, opened}
+use Rattle.word_order.specs.Ledger.{replaces_old, Terms, Op, accepts, reads, begins, clocks, opened}
 use Rattle.word_order.specs.Port.{Under, Way, idle, sends, Port}
 use Rattle.word_order.specs.Machine.{Entry, opens, notes, Watching, Watched, watched_calls}
 use Rattle.ti_rules.specs.declared.Settings.{Settings}
@@ -31,14 +31,14 @@ in_buffer (Holds c) = c ∷ []
 
 abbrev pub unsent : Shift → List ℕ
 unsent Free = []
-unsent (Busy c) = if c.zeros then [] else c.bits ∷ []
+unsent (Busy c) = when c.zeros then [] else c.bits ∷ []
 
 abbrev pub under_of : Character → Under
 under_of c = record { filler = c.zeros; word = c.bits; edges = c.edges; received = c.received }
 
 unfoldable pub way_of : Shift → Way
 way_of Free = idle
-way_of (Busy c) = if eqb c.edges 0 then idle else sends (under_of c)
+way_of (Busy c) = when eqb c.edges 0 then idle else sends (under_of c)
 
 abbrev pub port_of : Engine → Port
 port_of n =
@@ -47,11 +47,11 @@ port_of n =
 -- The terms: as many bits as the length says, one unread character, the unread one lost, two edges a bit, of which phase 0 latches the
 -- even ones and phase 1 the odd ones. With nothing written zeros go out.
 unfoldable pub latched : Bool → ℕ → Bool
-latched phase k = if phase then eqb (k % 2) 1 else eqb (k % 2) 0
+latched phase k = when phase then eqb (k % 2) 1 else eqb (k % 2) 0
 
 abbrev pub terms_of : Settings → Terms
 terms_of s =
-    record { width = s.length; depth = 1; policy = replacesOld; samples = latched s.phase; last = 2 * s.length; silent = false }
+    record { width = s.length; depth = 1; policy = replaces_old; samples = latched s.phase; last = 2 * s.length; silent = false }
 
 -- What shows as a call is made: whether the module is in reset, its settings, the level of its output, and the answer.
 pub record Sight : Type 0 where
@@ -71,7 +71,7 @@ edge_ops false sdo sdi = begins ∷ clocks sdo sdi ∷ []
 
 -- The level that the next edge of a character leads to: away from rest for an odd one.
 unfoldable pub wanted : Bool → ℕ → Bool
-wanted polarity edges = if eqb (edges % 2) 0 then not polarity else polarity
+wanted polarity edges = when eqb (edges % 2) 0 then not polarity else polarity
 
 abbrev pub write_ops : ℕ → Answer → List Op
 write_ops c (Refused r) = []
@@ -104,13 +104,13 @@ pin_ops os Edge = []
 -- The levels of a pin call: an edge of a character where the clock moved, select is low, and the edge leads the right way.
 abbrev pub shown_ops : Bool → Sight → Bool → ℕ → Bool → Bool → Bool → List Op
 shown_ops level x busy edges sck sdi select =
-    if beq sck level || (select || not (beq sck (wanted x.set.polarity edges))) then []
+    when beq sck level || (select || not (beq sck (wanted x.set.polarity edges))) then []
     else edge_ops busy x.sdo sdi
 
 -- The entry of a call, by the remembered level of the clock, and by what the ledger says of its wire.
 unfoldable pub entry_of : Bool → Sight → Bool → ℕ → Call → Entry
 entry_of level x busy edges Enter = notes []
-entry_of level x busy edges Leave = if x.reset then opens else notes []
+entry_of level x busy edges Leave = when x.reset then opens else notes []
 entry_of level x busy edges (Mode master talk polarity phase) = notes []
 entry_of level x busy edges (Length n) = notes []
 entry_of level x busy edges (Write v) = notes (write_ops (carried x.set v) x.answer)
@@ -136,7 +136,7 @@ after_pin level sck Edge = level
 
 unfoldable pub remembered_of : Bool → Sight → Call → Bool
 remembered_of level x Enter = level
-remembered_of level x Leave = if x.reset then x.set.polarity else level
+remembered_of level x Leave = when x.reset then x.set.polarity else level
 remembered_of level x (Mode master talk polarity phase) = level
 remembered_of level x (Length n) = level
 remembered_of level x (Write v) = level

@@ -1,8 +1,9 @@
 // Request Ten: the vocabulary of source document 002's module, without its FIFO. No function stands here. The rules are the
 // definitions in specs/, and what follows from them is in proofs/. A level is a bool: true is high.
+#![tactic(auto)]
 
 // What the mode call and the length call set: MASTER/SLAVE, TALK, CLOCK POLARITY, CLOCK PHASE, and the bits of a character.
-#[derive(Drop)]
+#[derive(Clone, Copy)]
 pub struct Settings {
     pub master: bool,
     pub talk: bool,
@@ -12,7 +13,7 @@ pub struct Settings {
 }
 
 // A buffer for one character.
-#[derive(Drop)]
+#[derive(Clone, Copy)]
 pub enum Buffer {
     Empty,
     Holds(u16),
@@ -20,7 +21,7 @@ pub enum Buffer {
 
 // A character in the shift register: zeros that nobody wrote, or a written one; the edges that it was given, 0 if it has not
 // begun; and the bits received meanwhile.
-#[derive(Drop)]
+#[derive(Clone, Copy)]
 pub struct Character {
     pub zeros: bool,
     pub bits: u16,
@@ -28,14 +29,14 @@ pub struct Character {
     pub received: u16,
 }
 
-#[derive(Drop)]
+#[derive(Clone, Copy)]
 pub enum Shift {
     Free,
     Busy(Character),
 }
 
 // The remembered levels of SPICLK and SPISTE, and the level that the output pin has or would have.
-#[derive(Drop)]
+#[derive(Clone, Copy)]
 pub struct Pins {
     pub sck: bool,
     pub select: bool,
@@ -43,7 +44,7 @@ pub struct Pins {
 }
 
 // What characters and edges move: SPITXBUF, SPIDAT, SPIRXBUF, the pins, and the overrun flag.
-#[derive(Drop)]
+#[derive(Clone, Copy)]
 pub struct Engine {
     pub waiting: Buffer,
     pub shift: Shift,
@@ -53,7 +54,7 @@ pub struct Engine {
 }
 
 // One module, in software reset or out of it.
-#[derive(Drop)]
+#[derive(Clone, Copy)]
 pub struct Ti {
     pub reset: bool,
     pub settings: Settings,
@@ -61,7 +62,7 @@ pub struct Ti {
 }
 
 // Why a call is refused. specs/Refusals.antt has the numbers.
-#[derive(Drop)]
+#[derive(Clone, Copy)]
 pub enum Refusal {
     InReset,
     OutOfReset,
@@ -72,7 +73,7 @@ pub enum Refusal {
 }
 
 // What a call answers: a refusal, nothing to tell, a character, no edge, or one edge made.
-#[derive(Drop)]
+#[derive(Clone, Copy)]
 pub enum Answer {
     Refused(Refusal),
     Done,
@@ -82,7 +83,7 @@ pub enum Answer {
 }
 
 // An answer, and the module after the call.
-#[derive(Drop)]
+#[derive(Clone, Copy)]
 pub struct Outcome {
     pub answer: Answer,
     pub after: Ti,
@@ -90,7 +91,7 @@ pub struct Outcome {
 
 // The calls: enter and leave software reset; set master, talk, polarity and phase; set the length; write and read a character;
 // tick with the level SDI; show the levels SCK, SDI and select; clear the overrun flag.
-#[derive(Drop)]
+#[derive(Clone, Copy)]
 pub enum Call {
     Enter,
     Leave,
@@ -104,7 +105,7 @@ pub enum Call {
 }
 
 // The output pin as others see it.
-#[derive(Drop)]
+#[derive(Clone, Copy)]
 pub enum Output {
     Low,
     High,
