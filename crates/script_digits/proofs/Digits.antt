@@ -10,7 +10,8 @@
 --     one_digit        a number below ten has one digit
 --     decimal_short    a number of 32 bits has at most ten digits
 -- Assumes nothing.
-use Rattle.laws.proofs.Common.{ℕ, zero, suc, ◌+◌, ◌-◌, ◌/◌, ◌%◌, ◌^◌, ◌<◌, ◌≤◌, List, [], ◌∷◌, ◌++◌, ◌≡◌, refl, sym, ◌∙◌, ap}
+use Rattle.std.specs.Prelude.{◌+◌, ◌-◌, ◌/◌, ◌%◌, ◌^◌, ◌<◌, ◌≤◌, ◌∷◌, ◌++◌, ◌≡◌}
+use Rattle.laws.proofs.Common.{ℕ, zero, suc, List, [], refl, sym, ◌∙◌, ap}
 use Rattle.laws.proofs.Common.{pow-suc, arith, ltb-true, lt-ltb, le-ltb, ltb, length, set, length-append, if_true, if_false}
 use Rattle.laws.proofs.Common.{if_keeps}
 use Prim.Native.Char.{code}

@@ -1,4 +1,6 @@
 // The digits of a number in base 2, 10 or 16, put into a buffer that a caller lends. A text that has no room changes nothing.
+#![tactic(auto)]
+
 ghost use Rattle.std.specs.Prelude.{◌≤◌, ◌<◌, ◌≡◌, length};
 ghost use Rattle.script_rules.specs.Script.{decimal_of, hex_of};
 ghost use Rattle.script_digits.specs.Digits.{digits_of, PutWhole};

@@ -2,7 +2,8 @@
 --     bytes_from    a number of bytes of a line, from a place on
 --     all_bytes    from the first place on, as many as the line is long: the line
 -- Assumes nothing.
-use Rattle.laws.proofs.Common.{ℕ, zero, suc, ◌+◌, arith, List, [], ◌∷◌, ◌≡◌, length, get_or, drop, drop_of_length-le, drop-cons}
+use Rattle.std.specs.Prelude.{◌+◌, ◌∷◌, ◌≡◌}
+use Rattle.laws.proofs.Common.{ℕ, zero, suc, arith, List, [], length, get_or, drop, drop_of_length-le, drop-cons}
 
 abbrev pub bytes_from : ℕ → ℕ → List ℕ → List ℕ
 bytes_from place zero line = []

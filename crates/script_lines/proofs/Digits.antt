@@ -2,9 +2,10 @@
 --     digit_range    a decimal digit is one from 48 to 57
 --     hex_range      a hexadecimal digit is one of these, or one from 65 to 70
 -- Assumes nothing.
-use Rattle.laws.proofs.Common.{ℕ, ◌≤◌, Bool, true, false, ◌||◌, ◌≡◌, refl, leb-true, leb, and_left, and_right}
+use Rattle.std.specs.Prelude.{◌≤◌, ◌||◌, ◌≡◌}
+use Rattle.laws.proofs.Common.{ℕ, Bool, true, false, refl, leb-true, leb, and_left, and_right}
 use mathlib.Core.Logic.{◌⊎◌, inl, inr, ⊎_map}
-use Rattle.script_rules.specs.Script.{digit, hexDigit, between, fits_place}
+use Rattle.script_rules.specs.Script.{digit, hex_digit, between, fits_place}
 
 -- A disjunction that is true has a part that is true.
 one_of : (a b : Bool) → (a || b) ≡ true → (a ≡ true) ⊎ (b ≡ true)
@@ -20,6 +21,6 @@ pub digit_range : (b : ℕ) → fits_place digit b ≡ true → (48 ≤ b) × (b
 unfolding fits_place
 digit_range b e = in_range 48 57 b e
 
-pub hex_range : (b : ℕ) → fits_place hexDigit b ≡ true → ((48 ≤ b) × (b ≤ 57)) ⊎ ((65 ≤ b) × (b ≤ 70))
+pub hex_range : (b : ℕ) → fits_place hex_digit b ≡ true → ((48 ≤ b) × (b ≤ 57)) ⊎ ((65 ≤ b) × (b ≤ 70))
 unfolding fits_place
 hex_range b e = ⊎_map (in_range 48 57 b) (in_range 65 70 b) (one_of (between 48 57 b) (between 65 70 b) e)

@@ -1,6 +1,8 @@
 // Reading a script: where it ends, where a line ends, and the call that a line asks for.
+#![tactic(auto)]
+
 ghost use Rattle.std.specs.Prelude.{◌+◌, ◌≤◌, true, ◌≡◌, [], ◌∷◌, length, drop};
-ghost use Rattle.script_rules.specs.Script.{read_from, digit, hexDigit, level, fits_place, hex_value, reading_of};
+ghost use Rattle.script_rules.specs.Script.{read_from, digit, hex_digit, level, fits_place, hex_value, reading_of};
 ghost use Rattle.script_rules.specs.Session.{first_line};
 
 use module_types::Call;
@@ -39,7 +41,7 @@ fn is_digit(b: u8) -> bool
 
 // A hexadecimal digit, in upper case.
 fn is_hex(b: u8) -> bool
-    ensures { result ≡ fits_place hexDigit b }
+    ensures { result ≡ fits_place hex_digit b }
 {
     ((48 <= b) & (b <= 57)) | ((65 <= b) & (b <= 70))
 }
@@ -53,7 +55,7 @@ fn is_level(b: u8) -> bool
 
 // What a hexadecimal digit stands for.
 fn hex_value(b: u8) -> u16
-    requires { fits_place hexDigit b ≡ true }
+    requires { fits_place hex_digit b ≡ true }
     ensures value { result ≡ hex_value b }
     ensures upper_bound { result ≤ 15 }
 {
@@ -148,7 +150,7 @@ fn reading(line: &[u8]) -> Line
 }
 
 // A line of a script: the call that it asks for, and the place behind its last byte.
-#[derive(Drop)]
+#[derive(Clone, Copy)]
 pub struct Next {
     pub line: Line,
     pub end: usize,

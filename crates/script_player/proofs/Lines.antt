@@ -5,9 +5,10 @@
 --     Playing                             what holds of the loop: the lines that are left finish the piece
 --     playing_starts, playing_goes_on, playing_ends
 -- Assumes nothing.
-use Rattle.laws.proofs.Common.{ℕ, zero, suc, ◌+◌, ◌*◌, ◌-◌, ◌≤◌, ◌<◌, Bool, true, false, ◌||◌, List, ◌++◌, append-nil, ◌≡◌}
+use Rattle.std.specs.Prelude.{◌+◌, ◌*◌, ◌-◌, ◌≤◌, ◌<◌, ◌||◌, ◌++◌, ◌≡◌}
+use Rattle.laws.proofs.Common.{ℕ, zero, suc, Bool, true, false, List, append-nil}
 use Rattle.laws.proofs.Common.{refl, sym, ◌∙◌, ap, arith, le-leb, lt-leb, lt-ltb, le-ltb, leb, length, take, drop}
-use Rattle.laws.proofs.Common.{length-append, take-take, if◌then◌else◌}
+use Rattle.laws.proofs.Common.{length-append, take-take, when◌then◌else◌}
 use Rattle.module_types.specs.declared.Module.{Module}
 use Rattle.script_rules.specs.declared.Line.{Line}
 use Rattle.script_rules.specs.declared.Session.{Session}
@@ -44,7 +45,7 @@ module _ (script : List ℕ) (cut : read_from script ≡ script) (s : Session) w
       (end : ℕ) → end ≡ s.at + length (first_line (drop s.at script)) → (spi : Module) → spi ≡ line_after s.spi line →
       {before after : List ℕ} {place next : ℕ} → Written (answer_line (s.lines + 1) s.spi line) before place after next →
       PlaysLine script s (record { spi = spi; lines = s.lines + 1; at = end + 1 }) before place after next
-  unfolding ended most_bytes line_of bytes_left line_played played answers if◌then◌else◌
+  unfolding ended most_bytes line_of bytes_left line_played played answers when◌then◌else◌
   goes_on h k line reads end ends spi moves t =
       rw (cut, lt-leb (length script) s.at h, le-ltb 65535 s.lines k, append-nil) (cc, rw (← reads) t)
 

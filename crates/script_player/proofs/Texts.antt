@@ -2,7 +2,8 @@
 --     refusal_number_short, line_number_short     a refusal's number has at most two digits, a line's number five
 --     answer_short     what a call's answer tells takes at most seven bytes
 -- Assumes nothing.
-use Rattle.laws.proofs.Common.{ℕ, ◌+◌, ◌≤◌, List, ◌≡◌, arith, length}
+use Rattle.std.specs.Prelude.{◌+◌, ◌≤◌, ◌≡◌}
+use Rattle.laws.proofs.Common.{ℕ, List, arith, length}
 use Rattle.module_rules.proofs.Types.{Module, Answer, Call, Refusal}
 use Rattle.module_rules.specs.Refusals.{number_of}
 use Rattle.script_rules.specs.Script.{decimal_of, answer_text}

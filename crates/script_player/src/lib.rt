@@ -1,5 +1,7 @@
 // Playing a script on a module in memory: each line is read, asked of the module and answered, piece by piece into a lent
 // buffer.
+#![tactic(auto)]
+
 ghost use Rattle.std.specs.Prelude.{◌+◌, ◌%◌, ◌≤◌, ◌<◌, ◌≡◌, [], ◌∷◌, length};
 ghost use Rattle.script_rules.specs.Script.{four_hex_of, level_digit, sdo_letter, refused_text, ok_text, ss_text, pin_text, edge_text, done_text, answer_text, line_after, answer_line, read_from};
 ghost use Rattle.script_rules.specs.Session.{started, played, answers, piece_after, piece_text};

@@ -2,7 +2,8 @@
 --     output_as_before   a script's output is what it was with tick and pin call as they were
 --     wrong_kind         a T line for a module clocked from its pin, and a P line for a host with its own clock, give 7
 -- Assumes nothing.
-use Rattle.laws.proofs.Common.{ℕ, ◌+◌, Bool, true, false, not, List, [], ◌∷◌, ◌++◌, ◌≡◌, refl, ap, ap₂, ◌∙◌, if_true}
+use Rattle.std.specs.Prelude.{◌+◌, ◌∷◌, ◌++◌, ◌≡◌}
+use Rattle.laws.proofs.Common.{ℕ, Bool, true, false, not, List, [], refl, ap, ap₂, ◌∙◌, if_true}
 use Rattle.laws.proofs.Common.{if_false}
 use Rattle.module_rules.proofs.Types.{Module, Outcome, WrongClock, UnreadableLine, Tick, Pin}
 use Rattle.module_rules.specs.Settings.{own_clock}

@@ -2,7 +2,6 @@
 --     scripts_hold   what the buyer signs for, of the script program
 -- Assumes nothing.
 use mathlib.Core.Path.{sym, ◌∙◌}
-use Rattle.module_rules.specs.Examples.{paper_examples}
 use Rattle.script_rules.specs.ScriptDemands.{Scripts}
 use Rattle.script_rules.proofs.ScriptLines.{reads_all_lem, reads_no_more_lem, too_long_lem}
 use Rattle.script_rules.proofs.ScriptSizes.{piece_fits_lem}

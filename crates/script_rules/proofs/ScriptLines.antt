@@ -9,9 +9,10 @@
 --     first_line_taken            the first line is what the bytes begin with
 --     no_form, too_long_lem           a line of a length that no form has, as one of more than 16 bytes, cannot be read
 -- Assumes nothing.
-use Rattle.laws.proofs.Common.{ℕ, zero, suc, ◌+◌, ◌≤◌, ◌<◌, Bool, true, false, not, ◌&&◌, List, [], ◌∷◌, ◌++◌, ◌≡◌, refl, ap}
+use Rattle.std.specs.Prelude.{◌+◌, ◌≤◌, ◌<◌, ◌&&◌, ◌∷◌, ◌++◌, ◌≡◌}
+use Rattle.laws.proofs.Common.{ℕ, zero, suc, Bool, true, false, not, List, [], refl, ap}
 use Rattle.laws.proofs.Common.{◌∙◌, suc-add, arith, not-true, eqb, length, take, drop, length-take, take_all, take_at}
-use Rattle.laws.proofs.Common.{if◌then◌else◌, if_keeps, if_false, and-false, and_left, and_right}
+use Rattle.laws.proofs.Common.{when◌then◌else◌, if_keeps, if_false, and-false, and_left, and_right}
 use Rattle.script_rules.specs.declared.Line.TheVariants.{Unreadable}
 use Rattle.script_rules.specs.Script.{lf, most_bytes, read_from, longer, lines_of, Place, fits_place, has_form, write_form, read_form, tick_form, tick_ss_form, pin_form, clear_form, reading_of}
 use Rattle.script_rules.specs.Session.{first_line}
@@ -48,9 +49,9 @@ read_part input n e = rw e (taken_length most_bytes input)
 -- Two ways to read a first byte agree if what is read behind it agrees.
 by_first : (t : Bool) (b : ℕ) (bs : List ℕ) →
     longer b (lines_of bs) ≡ (b ∷ first_line bs) ∷ lines_of (drop (length (first_line bs) + 1) bs) →
-    (if t then [] ∷ lines_of bs else longer b (lines_of bs))
-    ≡ (if t then [] else b ∷ first_line bs) ∷ lines_of (drop (length (if t then [] else b ∷ first_line bs) + 1) (b ∷ bs))
-unfolding if◌then◌else◌
+    (when t then [] ∷ lines_of bs else longer b (lines_of bs))
+    ≡ (when t then [] else b ∷ first_line bs) ∷ lines_of (drop (length (when t then [] else b ∷ first_line bs) + 1) (b ∷ bs))
+unfolding when◌then◌else◌
 by_first true b bs e = refl
 by_first false b bs e = rw suc-add e
 
@@ -82,7 +83,7 @@ no_lf_append (b ∷ s) t h k = (h.0, no_lf_append s t h.1 k)
 
 -- A text without LF, an LF and a rest are that text as a line, and the lines of the rest.
 pub lines_end : (t rest : List ℕ) → NoLf t → lines_of (t ++ (lf ∷ rest)) ≡ t ∷ lines_of rest
-unfolding lines_of longer if◌then◌else◌
+unfolding lines_of longer when◌then◌else◌
 lines_end [] rest h = refl
 lines_end (b ∷ t) rest h = if_false (eqb b lf) _ _ h.0 ∙ ap (longer b) (lines_end t rest h.1)
 
@@ -123,7 +124,7 @@ not_fits (p ∷ ps) (b ∷ bs) h = and-false (fits_place p b) (has_form ps bs) (
 -- A line of a length that no form has cannot be read.
 pub no_form : (line : List ℕ) → (length line ≡ 8 → ⊥) → (length line ≡ 3 → ⊥) → (length line ≡ 5 → ⊥) → (length line ≡ 7 → ⊥) →
     (length line ≡ 1 → ⊥) → reading_of line ≡ Unreadable
-unfolding reading_of write_form read_form tick_form tick_ss_form pin_form clear_form if◌then◌else◌
+unfolding reading_of write_form read_form tick_form tick_ss_form pin_form clear_form when◌then◌else◌
 no_form line w r t p c =
     rw (
       not_fits write_form line w,

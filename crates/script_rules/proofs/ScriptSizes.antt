@@ -5,7 +5,8 @@
 --     answers_fit         the answers to a number of lines take at most 16 bytes for each
 --     piece_fits_lem          those of a piece fit a buffer of 4,096 bytes
 -- Assumes nothing.
-use Rattle.laws.proofs.Common.{ℕ, zero, suc, ◌+◌, ◌*◌, ◌/◌, ◌^◌, ◌≤◌, ◌<◌, false, List, ◌≡◌, pow-suc, arith, ltb-false, leb}
+use Rattle.std.specs.Prelude.{◌+◌, ◌*◌, ◌/◌, ◌^◌, ◌≤◌, ◌<◌, ◌≡◌}
+use Rattle.laws.proofs.Common.{ℕ, zero, suc, false, List, pow-suc, arith, ltb-false, leb}
 use Rattle.laws.proofs.Common.{ltb, length, length-append, if_keeps, or_right}
 use Rattle.module_rules.proofs.Types.{Module, Refusal, NoSuchRegister, Disabled, Enabled, TransmitFull, ReceiveEmpty}
 use Rattle.module_rules.proofs.Types.{WrongClock, NoRate, UnreadableLine, DifferentModes, TooManyEdges, Undivided}

@@ -5,8 +5,9 @@
 --     every_line_lem          the output has as many lines as the script
 --     in_order_lem            the k-th line of the output answers the k-th line of the script
 -- Assumes nothing.
-use Rattle.laws.proofs.Common.{ℕ, zero, suc, ◌+◌, ◌/◌, ◌%◌, ◌<◌, Bool, true, false, List, [], ◌∷◌, ◌++◌, append_assoc, ◌≡◌}
-use Rattle.laws.proofs.Common.{refl, ap, ◌∙◌, zero-add, arith, ne_eqb, eqb, ltb, length, take, get_or, if◌then◌else◌, if_keeps}
+use Rattle.std.specs.Prelude.{◌+◌, ◌/◌, ◌%◌, ◌<◌, ◌∷◌, ◌++◌, ◌≡◌}
+use Rattle.laws.proofs.Common.{ℕ, zero, suc, Bool, true, false, List, [], append_assoc}
+use Rattle.laws.proofs.Common.{refl, ap, ◌∙◌, zero-add, arith, ne_eqb, eqb, ltb, length, take, get_or, when◌then◌else◌, if_keeps}
 use Rattle.laws.proofs.Common.{by_test}
 use Prim.Native.Char.{code}
 use Rattle.module_rules.proofs.Types.{Module, Refusal, UnreadableLine, Answer, Refused, Done, Value, NoEdge, Edge, Call, Read}
@@ -34,11 +35,11 @@ decimal_without_lf (suc places) n =
     (above_lf (code "0" + n % 10) (omega arith), tt))
 
 hex_is_no_lf : (n : ℕ) → eqb (hex_of n) lf ≡ false
-unfolding hex_of if◌then◌else◌
+unfolding hex_of when◌then◌else◌
 hex_is_no_lf n = above_lf (hex_of n) (by_test (ltb n 10) (λ e. rw e (omega arith)) (λ e. rw e (omega arith)))
 
 level_is_no_lf : (b : Bool) → eqb (level_digit b) lf ≡ false
-unfolding level_digit if◌then◌else◌
+unfolding level_digit when◌then◌else◌
 level_is_no_lf true = refl
 level_is_no_lf false = refl
 

@@ -10,9 +10,10 @@
 --     in_pieces_lem, ends_there_lem
 --                          256 pieces from the start are the whole script
 -- Assumes nothing.
-use Rattle.laws.proofs.Common.{ℕ, zero, suc, ◌+◌, ◌*◌, ◌≤◌, ◌<◌, true, false, List, [], ◌∷◌, ◌++◌, append_assoc, ◌≡◌, refl}
+use Rattle.std.specs.Prelude.{◌+◌, ◌*◌, ◌≤◌, ◌<◌, ◌∷◌, ◌++◌, ◌≡◌}
+use Rattle.laws.proofs.Common.{ℕ, zero, suc, true, false, List, [], append_assoc, refl}
 use Rattle.laws.proofs.Common.{sym, ap, ◌∙◌, zero-add, suc-add, add_assoc, zero-mul, suc-mul, arith, leb-true, leb-false}
-use Rattle.laws.proofs.Common.{ltb-true, leb, length, drop, length-drop, drop_of_length-le, drop-drop, if◌then◌else◌, if_true}
+use Rattle.laws.proofs.Common.{ltb-true, leb, length, drop, length-drop, drop_of_length-le, drop-drop, when◌then◌else◌, if_true}
 use Rattle.laws.proofs.Common.{or_left, or_rest, by_test}
 use native.Mathlib.Nat.{add_comm}
 use Rattle.module_rules.specs.Calls.{powered_up, after_calls}
@@ -50,7 +51,7 @@ module _ (input : List ℕ) where
   pub plays_the_rest : (count : ℕ) (s : Session) → s.lines ≤ s.at → length (lines_of (bytes_left input s)) ≤ count →
       (answers count input s ≡ answers_from s.spi s.lines (lines_of (bytes_left input s)))
       × ((played count input s).spi ≡ after_calls s.spi (lines_calls (lines_of (bytes_left input s))))
-  unfolding answers played answers_from lines_calls lines_of line_played if◌then◌else◌
+  unfolding answers played answers_from lines_calls lines_of line_played when◌then◌else◌
   plays_the_rest zero s h k = rw (none (lines_of (bytes_left input s)) k) (refl, refl)
   plays_the_rest (suc count) s h k =
       by_test (ended input s)
@@ -76,7 +77,7 @@ module _ (input : List ℕ) where
 
   -- Lines played in two goes are played in one.
   pub played_add : (a b : ℕ) (s : Session) → played (a + b) input s ≡ played b input (played a input s)
-  unfolding played if◌then◌else◌
+  unfolding played when◌then◌else◌
   played_add zero b s = rw zero-add
   played_add (suc a) b s =
       rw suc-add
@@ -86,7 +87,7 @@ module _ (input : List ℕ) where
 
   pub answers_add : (a b : ℕ) (s : Session) →
       answers (a + b) input s ≡ answers a input s ++ answers b input (played a input s)
-  unfolding answers played if◌then◌else◌
+  unfolding answers played when◌then◌else◌
   answers_add zero b s = rw zero-add
   answers_add (suc a) b s =
       rw suc-add

@@ -5,7 +5,8 @@
 --     written_then     two texts one behind the other, by what functions say that they wrote
 --     written_case     a text that a case gives is that of what is known to be the case
 -- Assumes nothing.
-use Rattle.laws.proofs.Common.{ℕ, ◌+◌, List, [], ◌∷◌, ◌++◌, ◌≡◌, refl, ap, ◌∙◌, arith, length, set, length-append, length-set}
+use Rattle.std.specs.Prelude.{◌+◌, ◌∷◌, ◌++◌, ◌≡◌}
+use Rattle.laws.proofs.Common.{ℕ, List, [], refl, ap, ◌∙◌, arith, length, set, length-append, length-set}
 use Rattle.script_rules.specs.Texts.{put, Written}
 
 pub put_then : (buffer : List ℕ) (place : ℕ) (xs ys : List ℕ) →

@@ -3,7 +3,7 @@
 use Rattle.std.specs.Prelude.{ℕ, zero, suc, ◌+◌, ◌*◌, ◌-◌, ◌/◌, ◌%◌, Bool, true, false, ◌&&◌, ◌||◌, List, [], ◌∷◌, ◌++◌, eqb, leb, ltb, take, get_or}
 use Prim.Native.Char.{code}
 use Prim.Native.String.{String, [] as no_more, ◌∷◌ as ◌then◌}
-use Rattle.laws.specs.Choice.{if◌then◌else◌}
+use Rattle.laws.specs.Choice.{when◌then◌else◌}
 use Rattle.module_types.specs.declared.Module.{Module}
 use Rattle.module_types.specs.declared.Refusal.{Refusal}
 use Rattle.module_types.specs.declared.Refusal.TheVariants.{UnreadableLine}
@@ -46,7 +46,7 @@ longer b (line ∷ lines) = (b ∷ line) ∷ lines
 -- LF ends a line. A last line needs no LF, and nothing after a final LF is a line.
 unfoldable pub lines_of : List ℕ → List (List ℕ)
 lines_of [] = []
-lines_of (b ∷ bs) = if eqb b lf then [] ∷ lines_of bs else longer b (lines_of bs)
+lines_of (b ∷ bs) = when eqb b lf then [] ∷ lines_of bs else longer b (lines_of bs)
 
 -- Reading a line.
 
@@ -55,7 +55,7 @@ lines_of (b ∷ bs) = if eqb b lf then [] ∷ lines_of bs else longer b (lines_o
 pub data Place : Type 0 where
   only : ℕ → Place
   digit : Place
-  hexDigit : Place
+  hex_digit : Place
   level : Place
 
 unfoldable pub between : ℕ → ℕ → ℕ → Bool
@@ -64,7 +64,7 @@ between low high b = leb low b && leb b high
 unfoldable pub fits_place : Place → ℕ → Bool
 fits_place (only x) b = eqb b x
 fits_place digit b = between (code "0") (code "9") b
-fits_place hexDigit b = between (code "0") (code "9") b || between (code "A") (code "F") b
+fits_place hex_digit b = between (code "0") (code "9") b || between (code "A") (code "F") b
 fits_place level b = between (code "0") (code "1") b
 
 -- A line has a form if each of its bytes has_form its place, with no byte more and none fewer.
@@ -77,7 +77,7 @@ has_form (p ∷ ps) (b ∷ bs) = fits_place p b && has_form ps bs
 -- `W n vvvv`
 unfoldable pub write_form : List Place
 write_form =
-    only (code "W") ∷ only space ∷ digit ∷ only space ∷ hexDigit ∷ hexDigit ∷ hexDigit ∷ hexDigit ∷ []
+    only (code "W") ∷ only space ∷ digit ∷ only space ∷ hex_digit ∷ hex_digit ∷ hex_digit ∷ hex_digit ∷ []
 
 -- `R n`
 unfoldable pub read_form : List Place
@@ -104,7 +104,7 @@ unfoldable pub digit_value : ℕ → ℕ
 digit_value b = b - code "0"
 
 unfoldable pub hex_value : ℕ → ℕ
-hex_value b = if leb b (code "9") then b - code "0" else b - code "A" + 10
+hex_value b = when leb b (code "9") then b - code "0" else b - code "A" + 10
 
 unfoldable pub four_hex_value : ℕ → ℕ → ℕ → ℕ → ℕ
 four_hex_value a b c d = hex_value a * 4096 + hex_value b * 256 + hex_value c * 16 + hex_value d
@@ -120,12 +120,12 @@ at line k = get_or line k 0
 -- of more than 8 bytes has one of the forms, so none of more than 16 can be read.
 unfoldable pub reading_of : List ℕ → Line
 reading_of line =
-    if has_form write_form line then Asked (Write (digit_value (at line 2)) (four_hex_value (at line 4) (at line 5) (at line 6) (at line 7)))
-    else if has_form read_form line then Asked (Read (digit_value (at line 2)))
-    else if has_form tick_form line then Asked (Tick (level_value (at line 2)) false)
-    else if has_form tick_ss_form line then Asked (Tick (level_value (at line 2)) (level_value (at line 4)))
-    else if has_form pin_form line then Asked (Pin (level_value (at line 2)) (level_value (at line 4)) (level_value (at line 6)))
-    else if has_form clear_form line then Asked Clear
+    when has_form write_form line then Asked (Write (digit_value (at line 2)) (four_hex_value (at line 4) (at line 5) (at line 6) (at line 7)))
+    else when has_form read_form line then Asked (Read (digit_value (at line 2)))
+    else when has_form tick_form line then Asked (Tick (level_value (at line 2)) false)
+    else when has_form tick_ss_form line then Asked (Tick (level_value (at line 2)) (level_value (at line 4)))
+    else when has_form pin_form line then Asked (Pin (level_value (at line 2)) (level_value (at line 4)) (level_value (at line 6)))
+    else when has_form clear_form line then Asked Clear
     else Unreadable
 
 -- Answering a line.
@@ -133,7 +133,7 @@ reading_of line =
 -- A number in decimal, by its fewest digits, if it has no more than the given places.
 unfoldable pub decimal_in : ℕ → ℕ → List ℕ
 decimal_in zero n = []
-decimal_in (suc places) n = if ltb n 10 then (code "0" + n) ∷ [] else decimal_in places (n / 10) ++ ((code "0" + n % 10) ∷ [])
+decimal_in (suc places) n = when ltb n 10 then (code "0" + n) ∷ [] else decimal_in places (n / 10) ++ ((code "0" + n % 10) ∷ [])
 
 -- Line numbers and refusal numbers are 32-bit numbers, which take no more than ten places.
 unfoldable pub decimal_of : ℕ → List ℕ
@@ -141,14 +141,14 @@ decimal_of n = decimal_in 10 n
 
 -- A value in four hexadecimal digits, in upper case.
 unfoldable pub hex_of : ℕ → ℕ
-hex_of n = if ltb n 10 then code "0" + n else code "A" + (n - 10)
+hex_of n = when ltb n 10 then code "0" + n else code "A" + (n - 10)
 
 unfoldable pub four_hex_of : ℕ → List ℕ
 four_hex_of v = hex_of (v / 4096 % 16) ∷ hex_of (v / 256 % 16) ∷ hex_of (v / 16 % 16) ∷ hex_of (v % 16) ∷ []
 
 -- A level is 0 or 1; an undriven SDO is Z.
 unfoldable pub level_digit : Bool → ℕ
-level_digit b = if b then code "1" else code "0"
+level_digit b = when b then code "1" else code "0"
 
 unfoldable pub sdo_letter : Output → ℕ
 sdo_letter Low = code "0"

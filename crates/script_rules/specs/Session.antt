@@ -1,7 +1,7 @@
 -- How crates/script_player plays a script: piece by piece, 256 lines at a time, each piece into a lent buffer of 4,096 bytes.
 -- proofs/SessionWhole.antt proves that the pieces make the whole of specs/Script.antt.
 use Rattle.std.specs.Prelude.{ℕ, zero, suc, ◌+◌, Bool, ◌||◌, List, [], ◌∷◌, ◌++◌, eqb, leb, ltb, length, drop}
-use Rattle.laws.specs.Choice.{if◌then◌else◌}
+use Rattle.laws.specs.Choice.{when◌then◌else◌}
 use Rattle.module_rules.specs.Calls.{powered_up}
 use Rattle.script_rules.specs.declared.Session.{Session}
 use Rattle.script_rules.specs.Script.{lf, most_bytes, read_from, reading_of, line_after, answer_line}
@@ -13,7 +13,7 @@ started = record { spi = powered_up; lines = 0; at = 0 }
 -- The bytes before the first LF.
 unfoldable pub first_line : List ℕ → List ℕ
 first_line [] = []
-first_line (b ∷ bs) = if eqb b lf then [] else b ∷ first_line bs
+first_line (b ∷ bs) = when eqb b lf then [] else b ∷ first_line bs
 
 -- The bytes from the next line on.
 unfoldable pub bytes_left : List ℕ → Session → List ℕ
@@ -39,12 +39,12 @@ line_played input s =
 -- A number of lines are played, or those that are left if they are fewer, and what they answer.
 unfoldable pub played : ℕ → List ℕ → Session → Session
 played zero input s = s
-played (suc count) input s = if ended input s then s else played count input (line_played input s)
+played (suc count) input s = when ended input s then s else played count input (line_played input s)
 
 unfoldable pub answers : ℕ → List ℕ → Session → List ℕ
 answers zero input s = []
 answers (suc count) input s =
-    if ended input s then []
+    when ended input s then []
     else answer_line (s.lines + 1) s.spi (reading_of (line_of input s)) ++ answers count input (line_played input s)
 
 -- A piece is 256 lines.

@@ -7,7 +7,8 @@
 --     bytes_file     a file whose sections are bytes consists of bytes
 --     placed_file, placed_behind, placed_length       a file placed in a buffer that has room for it
 -- Assumes nothing.
-use Rattle.laws.proofs.Common.{ℕ, zero, suc, ◌+◌, ◌*◌, ◌%◌, ◌<◌, ◌≤◌, List, [], ◌∷◌, ◌++◌, ◌≡◌, refl, sym, ap, ap₂, ◌∙◌}
+use Rattle.std.specs.Prelude.{◌+◌, ◌*◌, ◌%◌, ◌<◌, ◌≤◌, ◌∷◌, ◌++◌, ◌≡◌}
+use Rattle.laws.proofs.Common.{ℕ, zero, suc, List, [], refl, sym, ap, ap₂, ◌∙◌}
 use Rattle.laws.proofs.Common.{arith, length, take, drop, get_or, length-append, length-drop, drop_of_length-le, drop_at}
 use Rattle.laws.proofs.Common.{drop-drop, length-take-le, take_at}
 use lib.ListN.{take-append-drop}

@@ -3,7 +3,8 @@
 --     half_of, word_at_lem       bytes are the number that they spell
 --     bytes_drop, bytes_take, bytes_append, bytes_half, bytes_word   what consists of bytes
 -- Assumes nothing.
-use Rattle.laws.proofs.Common.{ℕ, zero, suc, ◌+◌, ◌-◌, ◌*◌, ◌/◌, ◌%◌, ◌<◌, ◌≤◌, List, [], ◌∷◌, ◌++◌, ◌≡◌, sym, ap, ap₂, ◌∙◌}
+use Rattle.std.specs.Prelude.{◌+◌, ◌-◌, ◌*◌, ◌/◌, ◌%◌, ◌<◌, ◌≤◌, ◌∷◌, ◌++◌, ◌≡◌}
+use Rattle.laws.proofs.Common.{ℕ, zero, suc, List, [], sym, ap, ap₂, ◌∙◌}
 use Rattle.laws.proofs.Common.{arith, ltb-true, ltb-false, ltb, length, take, drop, get_or, length-take, length-drop}
 use Rattle.laws.proofs.Common.{List·getD-append, List·getD-eq-default, get_or-drop, get_or-take, by_test}
 use lib.Seq.{get_or-append-add}

@@ -6,7 +6,8 @@
 --     records_many     and how many there are
 --     record_same      equal bytes have equal records
 -- Assumes nothing.
-use Rattle.laws.proofs.Common.{ℕ, zero, suc, ◌+◌, ◌*◌, ◌/◌, ◌%◌, ◌<◌, ◌≤◌, List, [], ◌∷◌, ◌≡◌, refl, sym, ap, ◌∙◌, arith}
+use Rattle.std.specs.Prelude.{◌+◌, ◌*◌, ◌/◌, ◌%◌, ◌<◌, ◌≤◌, ◌∷◌, ◌≡◌}
+use Rattle.laws.proofs.Common.{ℕ, zero, suc, List, [], refl, sym, ap, ◌∙◌, arith}
 use Rattle.laws.proofs.Common.{length, take, drop, get_or, length-take, length-drop, take_all, take-take, get_or-drop, get_or-take}
 use lib.Seq.{take-nil}
 use Rattle.trace_rules.specs.declared.Entry.{Entry}

@@ -5,8 +5,9 @@
 --     counting_first, counting_on, counting_ends
 --     counts_first, counts_next   the counts of the sections, before any and with one more
 -- Assumes nothing.
-use Rattle.laws.proofs.Common.{ℕ, zero, suc, min, ◌+◌, ◌*◌, ◌-◌, ◌/◌, ◌%◌, ◌<◌, ◌≤◌, Bool, true, ◌&&◌, ◌||◌, or-true, List}
-use Rattle.laws.proofs.Common.{[], ◌∷◌, ◌≡◌, refl, sym, ap, ap₂, ◌∙◌, suc-mul, zero-mul, mul-le-mul_left, arith, leb-true}
+use Rattle.std.specs.Prelude.{◌+◌, ◌*◌, ◌-◌, ◌/◌, ◌%◌, ◌<◌, ◌≤◌, ◌&&◌, ◌||◌, ◌∷◌, ◌≡◌}
+use Rattle.laws.proofs.Common.{ℕ, zero, suc, min, Bool, true, or-true, List}
+use Rattle.laws.proofs.Common.{[], refl, sym, ap, ap₂, ◌∙◌, suc-mul, zero-mul, mul-le-mul_left, arith, leb-true}
 use Rattle.laws.proofs.Common.{leb-false, eq-eqb, leb, eqb, get_or, set, length-set, replicate, length-replicate, if_both}
 use Rattle.laws.proofs.Common.{if_true, if_false, by_test, and_both}
 use Rattle.trace_rules.specs.declared.Entry.{Entry}

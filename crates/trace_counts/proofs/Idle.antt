@@ -5,8 +5,9 @@
 --     passed_all                  the table of all records
 --     passing                     records that are passed make no call
 -- Assumes nothing.
-use Rattle.laws.proofs.Common.{ℕ, zero, suc, ◌+◌, ◌*◌, ◌-◌, ◌/◌, ◌%◌, ◌≤◌, true, false, List, [], ◌∷◌, ◌++◌, ◌≡◌, refl, sym}
-use Rattle.laws.proofs.Common.{ap, ◌∙◌, arith, eqb-true, eqb-false, eqb, length, get_or, set, length-set, if◌then◌else◌}
+use Rattle.std.specs.Prelude.{◌+◌, ◌*◌, ◌-◌, ◌/◌, ◌%◌, ◌≤◌, ◌∷◌, ◌++◌, ◌≡◌}
+use Rattle.laws.proofs.Common.{ℕ, zero, suc, true, false, List, [], refl, sym}
+use Rattle.laws.proofs.Common.{ap, ◌∙◌, arith, eqb-true, eqb-false, eqb, length, get_or, set, length-set, when◌then◌else◌}
 use Rattle.laws.proofs.Common.{if_keeps, if_true, clash, by_test, and_left, and_right}
 use Rattle.module_types.specs.declared.Call.{Call}
 use Rattle.trace_rules.specs.declared.Entry.{Entry}
@@ -18,7 +19,7 @@ use Rattle.trace_counts.specs.Idle.{idle, landing, landing_of, PassedFrom}
 module _ (f : List ℕ) where
   -- Where the next record lies that is not idle.
   pub landing_step : (at : ℕ) → at + 4 ≤ length f →
-      landing_of f at ≡ (if idle (entry_at f at) then landing_of f (at + 4) else at)
+      landing_of f at ≡ (when idle (entry_at f at) then landing_of f (at + 4) else at)
   unfolding landing_of landing
   landing_step at h =
       ap (λ (n : ℕ). landing f n at) (let same : (length f - at) / 4 ≡ suc ((length f - (at + 4)) / 4) = omega arith in same)
@@ -58,7 +59,7 @@ module _ (f : List ℕ) where
         }
 
     pub passed_next : (to : ℕ) → to ≡ landing_of f (at + 4) →
-        PassedFrom f at (if idle (entry_at f at) then set next (at / 4) to else next)
+        PassedFrom f at (when idle (entry_at f at) then set next (at / 4) to else next)
     passed_next to lands =
         if_keeps (PassedFrom f at) (idle (entry_at f at)) _ _
         (λ is. passed-set to (lands ∙ sym (landing_step at inside ∙ if_true (idle (entry_at f at)) _ _ is)))
@@ -92,7 +93,7 @@ lands f at h =
 
 -- An idle record makes no call.
 idle_calls : (sub : ℕ → List Call) (e : Entry) → idle e ≡ true →
-    (if is_play e then times e.value (sub e.argument) else call_of e ∷ []) ≡ []
+    (when is_play e then times e.value (sub e.argument) else call_of e ∷ []) ≡ []
 unfolding idle times
 idle_calls sub e is =
     if_true (is_play e) _ _ (and_left (is_play e) _ is)

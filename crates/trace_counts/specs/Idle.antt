@@ -1,6 +1,6 @@
 -- Records that make no call, and where the next one lies that may. Playing passes the records between.
 use Rattle.std.specs.Prelude.{ℕ, zero, suc, ◌+◌, ◌-◌, ◌/◌, ◌%◌, ◌≤◌, Bool, true, ◌&&◌, List, ◌≡◌, eqb, length, get_or}
-use Rattle.laws.specs.Choice.{if◌then◌else◌}
+use Rattle.laws.specs.Choice.{when◌then◌else◌}
 use Rattle.trace_rules.specs.declared.Entry.{Entry}
 use Rattle.trace_rules.specs.Trace.{is_play}
 use Rattle.trace_numbers.specs.Places.{entry_at}
@@ -12,7 +12,7 @@ idle e = is_play e && eqb e.value 0
 -- Where the first of so many records from a place on lies that is not idle, or the place behind them.
 unfoldable pub landing : List ℕ → ℕ → ℕ → ℕ
 landing f zero at = at
-landing f (suc n) at = if idle (entry_at f at) then landing f n (at + 4) else at
+landing f (suc n) at = when idle (entry_at f at) then landing f n (at + 4) else at
 
 -- The same of all records up to the file's end.
 unfoldable pub landing_of : List ℕ → ℕ → ℕ

@@ -1,6 +1,8 @@
 // What playing a trace file would count, and which of its records playing passes.
+#![tactic(auto)]
+
 ghost use Rattle.std.specs.Prelude.{◌/◌, ◌≤◌, ◌<◌, true, ◌≡◌, length, get_or, set};
-ghost use Rattle.laws.specs.Choice.{if◌then◌else◌};
+ghost use Rattle.laws.specs.Choice.{when◌then◌else◌};
 ghost use Rattle.trace_rules.specs.Trace.{section_count, contents_right, entries_of, records_right, count_by, file_count, played_of};
 ghost use Rattle.trace_counts.specs.Counts.{capped, weight_by};
 ghost use Rattle.trace_counts.specs.Idle.{idle, PassedFrom};
@@ -115,8 +117,8 @@ fn is_whole(next: &[u16; 16384]) -> bool
 // Where the first record from one on lies that is not idle: at its own place, or further behind. Of an idle one the table says it.
 fn land(next: &mut [u16; 16384], e: Entry, at: u16, behind: u16) -> u16
     requires { length next.old ≡ 16384 }
-    ensures value { result ≡ (if idle e then behind else at) }
-    ensures next_after { next.new ≡ (if idle e then set next.old (at / 4) behind else next.old) }
+    ensures value { result ≡ (when idle e then behind else at) }
+    ensures next_after { next.new ≡ (when idle e then set next.old (at / 4) behind else next.old) }
 {
     if is_idle(e) {
         let slot = (at / 4) as usize;

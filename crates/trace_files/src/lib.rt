@@ -1,7 +1,9 @@
 // A trace file before it is played, under one name: its numbers (trace_numbers), whether it is right (trace_right), and what it would make
 // (trace_counts). None of it needs a module.
+#![tactic(auto)]
+
 ghost use Rattle.std.specs.Prelude.{◌/◌, ◌%◌, ◌≤◌, ◌≡◌, length};
-ghost use Rattle.laws.specs.Choice.{if◌then◌else◌};
+ghost use Rattle.laws.specs.Choice.{when◌then◌else◌};
 ghost use Rattle.trace_rules.specs.Trace.{section_count, start_of, size_of, body_of, right_record, played_of};
 ghost use Rattle.trace_files.specs.Places.{entry_at, stated_end};
 ghost use Rattle.trace_files.specs.Passes.{raised_one};
@@ -53,7 +55,7 @@ pub fn record_count(f: &[u8], k: u16) -> u16
 // Whether a record of a section of some level is right. If so, the section that it plays is raised above that level.
 pub fn take_record(f: &[u8], k: u16, levels: &mut [u8; 256], level: u8, e: Entry) -> bool
     ensures value { result ≡ right_record (section_count f.now) level k e }
-    ensures levels_after { levels.new ≡ (if result then raised_one level levels.old e else levels.old) }
+    ensures levels_after { levels.new ≡ (when result then raised_one level levels.old e else levels.old) }
 {
     trace_right::take_record(f, k, levels, level, e)
 }

@@ -2,7 +2,8 @@
 --     byte_beyond, half_beyond, word_beyond, entry_beyond   at a place that is not in the file
 --     part_inside   a part that reaches beyond the end is what is inside
 -- Assumes nothing.
-use Rattle.laws.proofs.Common.{ℕ, min, ◌+◌, ◌-◌, ◌<◌, ◌≤◌, List, ◌≡◌, ap, ap₂, sym, ◌∙◌, arith, length, take, drop}
+use Rattle.std.specs.Prelude.{◌+◌, ◌-◌, ◌<◌, ◌≤◌, ◌≡◌}
+use Rattle.laws.proofs.Common.{ℕ, min, List, ap, ap₂, sym, ◌∙◌, arith, length, take, drop}
 use Rattle.laws.proofs.Common.{length-drop, drop_of_length-le, List·getD-eq-default, leb, take_all, leb-true, leb-false}
 use Rattle.laws.proofs.Common.{by_test}
 use Rattle.trace_rules.specs.Trace.{byte_at, half_at, word_at}

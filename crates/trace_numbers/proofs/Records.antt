@@ -2,7 +2,8 @@
 --     entries_more, entries_none   the first of some records, and the rest; no record
 --     section_at, section_places   where the records of a section lie
 -- Assumes nothing.
-use Rattle.laws.proofs.Common.{ℕ, zero, suc, ◌+◌, ◌*◌, ◌-◌, ◌/◌, ◌%◌, ◌<◌, ◌≤◌, true, List, [], ◌∷◌, ◌≡◌, refl, sym, ap, ap₂}
+use Rattle.std.specs.Prelude.{◌+◌, ◌*◌, ◌-◌, ◌/◌, ◌%◌, ◌<◌, ◌≤◌, ◌∷◌, ◌≡◌}
+use Rattle.laws.proofs.Common.{ℕ, zero, suc, true, List, [], refl, sym, ap, ap₂}
 use Rattle.laws.proofs.Common.{◌∙◌, arith, ltb-true, ltb-false, ltb, length, take, drop, by_test}
 use Rattle.trace_rules.specs.declared.Entry.{Entry}
 use Rattle.trace_rules.specs.Trace.{section_count, start_of, size_of, place_of, contents_right, body_of, entries_in, entries_of}

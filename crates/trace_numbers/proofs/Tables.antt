@@ -1,6 +1,7 @@
 -- A table of numbers after one place of it was set: what holds of the number put there and of the others holds of each.
 -- Assumes nothing.
-use Rattle.laws.proofs.Common.{ℕ, ◌<◌, List, ◌≡◌, sym, subst, eqb-true, eqb-false, eqb, length, get_or, set, get_or-set_same}
+use Rattle.std.specs.Prelude.{◌<◌, ◌≡◌}
+use Rattle.laws.proofs.Common.{ℕ, List, sym, subst, eqb-true, eqb-false, eqb, length, get_or, set, get_or-set_same}
 use Rattle.laws.proofs.Common.{get_or-set_other, by_test}
 
 pub set_each : (P : ℕ → ℕ → Type 0) (l : List ℕ) (k v : ℕ) → P k v → ((j : ℕ) → (j ≡ k → ⊥) → P j (get_or l j 0)) →

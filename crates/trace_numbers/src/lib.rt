@@ -1,4 +1,6 @@
 // A trace file as bytes and numbers: its table of contents, its records by their places, and the bodies of its sections.
+#![tactic(auto)]
+
 ghost use Rattle.std.specs.Prelude.{min, ◌+◌, ◌/◌, ◌%◌, ◌≤◌, ◌≡◌, length};
 ghost use Rattle.trace_rules.specs.Trace.{byte_at, half_at, word_at, section_count, start_of, size_of, body_of};
 ghost use Rattle.trace_numbers.specs.Places.{entry_at};

@@ -3,7 +3,8 @@
 --     below_next               one more
 --     below_fails              it fails if one does
 -- Assumes nothing.
-use Rattle.laws.proofs.Common.{ℕ, zero, suc, ◌+◌, ◌<◌, Bool, true, false, ◌≡◌, refl, ap, ◌∙◌, arith, ltb-true, ltb-false, ltb}
+use Rattle.std.specs.Prelude.{◌+◌, ◌<◌, ◌≡◌}
+use Rattle.laws.proofs.Common.{ℕ, zero, suc, Bool, true, false, refl, ap, ◌∙◌, arith, ltb-true, ltb-false, ltb}
 use Rattle.laws.proofs.Common.{clash, by_test, and_left, and_right, and_both}
 use Rattle.trace_rules.specs.Trace.{all_below}
 

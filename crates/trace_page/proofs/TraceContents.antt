@@ -4,7 +4,8 @@
 --     laid_contents   and the other way round
 --     section_inside  such a section lies in the file
 -- Assumes nothing.
-use Rattle.laws.proofs.Common.{ℕ, zero, suc, ◌+◌, ◌%◌, ◌<◌, ◌≤◌, true, List, ◌≡◌, ap, arith, leb-true, le-leb, ltb-true}
+use Rattle.std.specs.Prelude.{◌+◌, ◌%◌, ◌<◌, ◌≤◌, ◌≡◌}
+use Rattle.laws.proofs.Common.{ℕ, zero, suc, true, List, ap, arith, leb-true, le-leb, ltb-true}
 use Rattle.laws.proofs.Common.{ltb-false, eqb-true, eq-eqb, eqb, leb, ltb, length, by_test, and_left, and_right, and_both}
 use Rattle.trace_rules.specs.Trace.{section_count, table_end, start_of, size_of, place_of, in_fours, table_right, contents_right}
 use Rattle.trace_page.proofs.TraceBelow.{each_below, below_each}

@@ -1,18 +1,18 @@
 -- The demands on trace files of specs/TraceDemands.antt, all of them.
 --     traces_hold   what the buyer signs for, of trace files
 -- Assumes nothing.
-use Rattle.laws.proofs.Common.{ℕ, ◌/◌, ◌<◌, true, not, List, ◌≡◌, refl, sym, ap, subst, ◌∙◌, arith, ltb-true, ltb-false, ltb}
-use Rattle.laws.proofs.Common.{if◌then◌else◌, if_true, if_false, clash, by_test}
+use Rattle.std.specs.Prelude.{◌/◌, ◌<◌, ◌≡◌}
+use Rattle.laws.proofs.Common.{ℕ, true, not, List, refl, sym, ap, subst, ◌∙◌, arith, ltb-true, ltb-false, ltb}
+use Rattle.laws.proofs.Common.{when◌then◌else◌, if_true, if_false, clash, by_test}
 use Rattle.module_rules.proofs.Types.{Module, Call, Eight}
 use Rattle.module_rules.specs.Calls.{powered_up, after_calls}
-use Rattle.module_rules.specs.Lives.{powerUp, begins, life}
-use Rattle.module_rules.specs.Examples.{paper_examples}
+use Rattle.module_rules.specs.Lives.{power_up, begins, life}
 use Rattle.module_rules.proofs.LivesReach.{watched_reaches}
 use Rattle.trace_rules.specs.declared.Fault.TheVariants.{BadContents, BadRecord, TooManyCalls}
 use Rattle.trace_rules.specs.declared.Played.{Played}
 use Rattle.trace_rules.specs.declared.Played.TheVariants.{Refused, Made}
 use Rattle.trace_rules.specs.Trace.{section_count, contents_right, entries_of, section_level, all_right, all_of, records_right, file_calls, file_count, fault_number_of, played_of, is_made, played_module}
-use Rattle.trace_rules.specs.TraceDemands.{sections, start, size, section, Levels, AllRight, Outcome, wrong_contents, wrongRecord, too_many_calls, played, number_in, count_in, Traces}
+use Rattle.trace_rules.specs.TraceDemands.{sections, start, size, section, Levels, AllRight, Outcome, wrong_contents, wrong_record, too_many_calls, played, number_in, count_in, Traces}
 use Rattle.trace_rules.proofs.TraceExamplesHold.{trace_examples_hold}
 use Rattle.trace_page.proofs.TraceBelow.{below_each}
 use Rattle.trace_page.proofs.TraceContents.{Laid, contents_laid, laid_contents}
@@ -58,14 +58,14 @@ module _ (f : List ℕ) (laid : Laid f) where
 
 -- Playing a file has the outcome that the page says.
 module _ (m : Module) (f : List ℕ) where
-  outcome_is : (p : Played) → played_of f ≡ p → Outcome m f (number_in p) (count_in p) (if is_made p then after_calls powered_up (file_calls f) else m) →
+  outcome_is : (p : Played) → played_of f ≡ p → Outcome m f (number_in p) (count_in p) (when is_made p then after_calls powered_up (file_calls f) else m) →
       Outcome m f (number_in (played_of f)) (count_in (played_of f)) (played_module m f)
   unfolding played_module
   outcome_is p e =
-      subst (λ (q : Played). Outcome m f (number_in q) (count_in q) (if is_made q then after_calls powered_up (file_calls f) else m)) (sym e)
+      subst (λ (q : Played). Outcome m f (number_in q) (count_in q) (when is_made q then after_calls powered_up (file_calls f) else m)) (sym e)
 
   answers : Outcome m f (number_in (played_of f)) (count_in (played_of f)) (played_module m f)
-  unfolding played_of fault_number_of if◌then◌else◌
+  unfolding played_of fault_number_of when◌then◌else◌
   answers =
       by_test (contents_right f)
       (λ right.
@@ -82,11 +82,11 @@ module _ (m : Module) (f : List ℕ) where
       (too_many_calls (laid_whole f laid) all run (ltb-true 65535 (file_count f) many)))
       (λ few.
       outcome_is (Made (file_count f)) (to-19 ∙ if_false (ltb 65535 (file_count f)) (Refused TooManyCalls) _ few)
-      (subst (Outcome m f 0 (file_count f)) (watched_reaches (file_calls f) (begins (powerUp Eight)))
+      (subst (Outcome m f 0 (file_count f)) (watched_reaches (file_calls f) (begins (power_up Eight)))
       (played (laid_whole f laid) all run (ltb-false 65535 (file_count f) few)))))
       (λ wrong.
       outcome_is (Refused BadRecord) (to-18 ∙ if_true (not (records_right f)) (Refused BadRecord) _ (ap not wrong))
-      (wrongRecord (laid_whole f laid) (λ all. clash (records_right f) (all_right_lem f laid all) wrong))))
+      (wrong_record (laid_whole f laid) (λ all. clash (records_right f) (all_right_lem f laid all) wrong))))
       (λ wrong.
       outcome_is (Refused BadContents) (if_true (not (contents_right f)) (Refused BadContents) _ (ap not wrong))
       (wrong_contents (λ whole. clash (contents_right f) (laid_contents f (whole_laid f whole)) wrong)))
@@ -94,23 +94,23 @@ module _ (m : Module) (f : List ℕ) where
   -- Two outcomes are the same one.
   pub one_outcome_lem : {a b x y : ℕ} {u v : Module} → Outcome m f a x u → Outcome m f b y v → (a ≡ b) × (x ≡ y) × (u ≡ v)
   one_outcome_lem (wrong_contents n) (wrong_contents o) = (refl, refl, refl)
-  one_outcome_lem (wrong_contents n) (wrongRecord w o) = absurd (n w)
+  one_outcome_lem (wrong_contents n) (wrong_record w o) = absurd (n w)
   one_outcome_lem (wrong_contents n) (too_many_calls w r s o) = absurd (n w)
   one_outcome_lem (wrong_contents n) (played w r s o) = absurd (n w)
-  one_outcome_lem (wrongRecord w n) (wrong_contents o) = absurd (o w)
-  one_outcome_lem (wrongRecord w n) (wrongRecord x o) = (refl, refl, refl)
-  one_outcome_lem (wrongRecord w n) (too_many_calls x r s o) = absurd (n r)
-  one_outcome_lem (wrongRecord w n) (played x r s o) = absurd (n r)
+  one_outcome_lem (wrong_record w n) (wrong_contents o) = absurd (o w)
+  one_outcome_lem (wrong_record w n) (wrong_record x o) = (refl, refl, refl)
+  one_outcome_lem (wrong_record w n) (too_many_calls x r s o) = absurd (n r)
+  one_outcome_lem (wrong_record w n) (played x r s o) = absurd (n r)
   one_outcome_lem (too_many_calls w r s n) (wrong_contents o) = absurd (o w)
-  one_outcome_lem (too_many_calls w r s n) (wrongRecord x o) = absurd (o r)
+  one_outcome_lem (too_many_calls w r s n) (wrong_record x o) = absurd (o r)
   one_outcome_lem (too_many_calls w r s n) (too_many_calls x t q o) = (refl, refl, refl)
   one_outcome_lem (too_many_calls w r s n) (played x t q o) = absurd (omega (arith, (one_run_lem (section f) (section f 0) _ _ _ _ s q).1))
   one_outcome_lem (played w r s n) (wrong_contents o) = absurd (o w)
-  one_outcome_lem (played w r s n) (wrongRecord x o) = absurd (o r)
+  one_outcome_lem (played w r s n) (wrong_record x o) = absurd (o r)
   one_outcome_lem (played w r s n) (too_many_calls x t q o) = absurd (omega (arith, (one_run_lem (section f) (section f 0) _ _ _ _ s q).1))
   one_outcome_lem (played w r s n) (played x t q o) =
       let same = one_run_lem (section f) (section f 0) _ _ _ _ s q in
-      (refl, same.1, ap (λ (cs : List Call). (life (powerUp Eight) cs).now) same.0)
+      (refl, same.1, ap (λ (cs : List Call). (life (power_up Eight) cs).now) same.0)
 
 pub traces_hold : Traces
 traces_hold =

@@ -4,10 +4,11 @@
 --     level_same      levels go by the records of the lower-numbered sections alone
 --     stable          what goes by a right file's plays is the same with one level more
 -- Assumes nothing.
-use Rattle.laws.proofs.Common.{ℕ, zero, suc, ◌+◌, ◌*◌, ◌<◌, ◌≤◌, Bool, true, false, ◌&&◌, ◌||◌, or-true, List, [], ◌∷◌, ◌++◌}
-use Rattle.laws.proofs.Common.{◌≡◌, refl, sym, ap, ap₂, ◌∙◌, le_refl, le_trans, arith, leb-true, leb-false, ltb-true}
+use Rattle.std.specs.Prelude.{◌+◌, ◌*◌, ◌<◌, ◌≤◌, ◌&&◌, ◌||◌, ◌∷◌, ◌++◌, ◌≡◌}
+use Rattle.laws.proofs.Common.{ℕ, zero, suc, Bool, true, false, or-true, List, []}
+use Rattle.laws.proofs.Common.{refl, sym, ap, ap₂, ◌∙◌, le_refl, le_trans, arith, leb-true, leb-false, ltb-true}
 use Rattle.laws.proofs.Common.{ltb-false, eqb-true, eq-eqb, eqb, leb, ltb, length, length-append, get_or, List·getD-append}
-use Rattle.laws.proofs.Common.{if◌then◌else◌, if_keeps, if_true, if_false, clash, by_test, and_left, and_right, and_both}
+use Rattle.laws.proofs.Common.{when◌then◌else◌, if_keeps, if_true, if_false, clash, by_test, and_left, and_right, and_both}
 use Rattle.laws.proofs.Common.{or_rest}
 use lib.Seq.{get_or-append_seam}
 use Rattle.trace_rules.specs.declared.Entry.{Entry}
@@ -62,7 +63,7 @@ module _ (s : ℕ → List Entry) where
         ap (λ (i : ℕ). get_or levels i 0) at,
         if_true (plays_any (s n) k) (get_or levels n 0) 0 (ap (λ (i : ℕ). plays_any (s i) k) (sym at) ∙ plays),
       ))
-      (higher_right (highest_player s levels k n) (if plays_any (s n) k then get_or levels n 0 else 0)))
+      (higher_right (highest_player s levels k n) (when plays_any (s n) k then get_or levels n 0 else 0)))
 
   -- A section that is played stands higher.
   pub played_higher : (j k : ℕ) → j < k → plays_any (s j) k ≡ true → section_level s j + 1 ≤ section_level s k
@@ -79,7 +80,7 @@ module _ (s : ℕ → List Entry) where
 -- A play record that is right names a higher-numbered section that exists, and stands below level 8.
 pub play_right : (count level k : ℕ) (e : Entry) → is_play e ≡ true →
     right_record count level k e ≡ (ltb k e.argument && (ltb e.argument count && ltb level 8))
-unfolding right_record is_play if◌then◌else◌
+unfolding right_record is_play when◌then◌else◌
 play_right count level k e play =
     ap (λ (n : ℕ). right_record count level k (record { kind = n; argument = e.argument; value = e.value }))
     (eqb-true e.kind 5 play)
@@ -168,7 +169,7 @@ counts_same a b (e ∷ es) h =
     ap₂ (λ (x y : ℕ). x + y)
     (by_test (is_play e)
     (λ play.
-    ap (λ (k : ℕ). if is_play e then e.value * (1 + k) else 1)
+    ap (λ (k : ℕ). when is_play e then e.value * (1 + k) else 1)
     (h e.argument
     (ap (λ (x : Bool). x || plays_any es e.argument) (and_both (is_play e) _ play (eq-eqb e.argument e.argument refl)))))
     (λ call. if_false (is_play e) _ _ call ∙ sym (if_false (is_play e) _ _ call)))

@@ -2,8 +2,9 @@
 --     levels_hold   the levels of the rules are such
 --     one_level_lem     there are no others
 -- Assumes nothing.
-use Rattle.laws.proofs.Common.{ℕ, zero, suc, ◌+◌, ◌<◌, ◌≤◌, Bool, true, false, ◌&&◌, ◌||◌, List, [], ◌∷◌, ◌≡◌, refl, sym, ap}
-use Rattle.laws.proofs.Common.{arith, eqb-true, eq-eqb, eqb, leb, get_or, if◌then◌else◌, if_keeps, clash, by_test, and_left}
+use Rattle.std.specs.Prelude.{◌+◌, ◌<◌, ◌≤◌, ◌&&◌, ◌||◌, ◌∷◌, ◌≡◌}
+use Rattle.laws.proofs.Common.{ℕ, zero, suc, Bool, true, false, List, [], refl, sym, ap}
+use Rattle.laws.proofs.Common.{arith, eqb-true, eq-eqb, eqb, leb, get_or, when◌then◌else◌, if_keeps, clash, by_test, and_left}
 use Rattle.laws.proofs.Common.{and_right, and_both, or_rest}
 use Rattle.trace_rules.specs.declared.Entry.{Entry}
 use Rattle.trace_rules.specs.Trace.{is_play, plays_any, higher, highest_player, levels_below, section_level}
@@ -29,6 +30,7 @@ or_second false b e = e
 
 pub in_plays : (k : ℕ) (es : List Entry) → Plays k es → plays_any es k ≡ true
 unfolding plays_any is_play
+in_plays k [] p = elim p [ ]
 in_plays k (e ∷ es) (here v is) =
     ap (λ (x : Bool). x || plays_any es k)
     (and_both (eqb e.kind 5) _ (eq-eqb e.kind 5 (ap (λ (x : Entry). x.kind) is)) (eq-eqb e.argument k (ap (λ (x : Entry). x.argument) is)))
@@ -49,7 +51,7 @@ module _ (s : ℕ → List Entry) where
   highest levels k zero = nobody refl
   highest levels k (suc n) =
       let before : Highest s levels k (suc n) (highest_player s levels k n) = one_more_lem levels k n _ (highest levels k n) in
-      if_keeps (λ (h : ℕ). Highest s levels k (suc n) h) (leb (highest_player s levels k n) (if plays_any (s n) k then get_or levels n 0 else 0)) _ _
+      if_keeps (λ (h : ℕ). Highest s levels k (suc n) h) (leb (highest_player s levels k n) (when plays_any (s n) k then get_or levels n 0 else 0)) _ _
       (λ up. if_keeps (λ (h : ℕ). Highest s levels k (suc n) h) (plays_any (s n) k) _ _
       (λ plays. someone n (omega arith) (plays_in k (s n) plays) refl)
       (λ none. nobody refl))

@@ -5,7 +5,8 @@
 --     records_from_lem                                 bytes are the records at their places
 --     section_is                                   a section's records
 -- Assumes nothing.
-use Rattle.laws.proofs.Common.{ℕ, zero, suc, ◌+◌, ◌*◌, ◌/◌, ◌%◌, ◌<◌, ◌≤◌, List, [], ◌∷◌, ◌≡◌, refl, sym, ap, ap₂, ◌∙◌, arith}
+use Rattle.std.specs.Prelude.{◌+◌, ◌*◌, ◌/◌, ◌%◌, ◌<◌, ◌≤◌, ◌∷◌, ◌≡◌}
+use Rattle.laws.proofs.Common.{ℕ, zero, suc, List, [], refl, sym, ap, ap₂, ◌∙◌, arith}
 use Rattle.laws.proofs.Common.{length, take, drop, get_or, get_or-drop, drop-cons}
 use Rattle.trace_rules.specs.Trace.{byte_at, half_at, word_at, section_count, table_end, start_of, size_of, place_of, body_of, entries_in, entries_of}
 use Rattle.trace_rules.specs.TraceDemands.{spell, number_at, sections, start, size, fields, record_at, records_from, section, end_before, Whole}

@@ -3,9 +3,10 @@
 --     right_in, in_right     a record is right exactly as the page says
 --     each_right             the records at places, one by one
 -- Assumes nothing.
-use Rattle.laws.proofs.Common.{ℕ, zero, suc, ◌+◌, ◌*◌, ◌<◌, ◌≤◌, Bool, true, false, not, ◌&&◌, List, ◌≡◌, refl, sym, ap}
+use Rattle.std.specs.Prelude.{◌+◌, ◌*◌, ◌<◌, ◌≤◌, ◌&&◌, ◌≡◌}
+use Rattle.laws.proofs.Common.{ℕ, zero, suc, Bool, true, false, not, List, refl, sym, ap}
 use Rattle.laws.proofs.Common.{subst, ◌∙◌, arith, leb-true, le-leb, ltb-true, lt-ltb, eqb-true, not-true, eqb, leb, ltb}
-use Rattle.laws.proofs.Common.{if◌then◌else◌, if_false, clash, by_test, and_left, and_right, and_both}
+use Rattle.laws.proofs.Common.{when◌then◌else◌, if_false, clash, by_test, and_left, and_right, and_both}
 use Rattle.module_types.specs.declared.Call.{Call}
 use Rattle.trace_rules.specs.declared.Entry.{Entry}
 use Rattle.trace_rules.specs.Trace.{is_play, wire_in, right_record, all_right, call_of}
@@ -13,7 +14,7 @@ use Rattle.trace_rules.specs.TraceDemands.{fields, record_at, records_from, wire
 
 -- An argument below 8 is its three wires, and the wires of such an argument are its bits.
 wires_back : (a : ℕ) → a < 8 → a ≡ wires (wire_in a 1) (wire_in a 2) (wire_in a 4)
-unfolding wire_in if◌then◌else◌
+unfolding wire_in when◌then◌else◌
 wires_back zero h = refl
 wires_back (suc zero) h = refl
 wires_back (suc (suc zero)) h = refl
@@ -31,7 +32,7 @@ record Wires (a : ℕ) (sdi sck ss : Bool) : Type 0 where
   ss-is : wire_in a 4 ≡ ss
 
 wires_are : (sdi sck ss : Bool) → Wires (wires sdi sck ss) sdi sck ss
-unfolding wire_in if◌then◌else◌
+unfolding wire_in when◌then◌else◌
 wires_are true true true = record { below = refl; sdi-is = refl; sck_is = refl; ss-is = refl }
 wires_are true true false = record { below = refl; sdi-is = refl; sck_is = refl; ss-is = refl }
 wires_are true false true = record { below = refl; sdi-is = refl; sck_is = refl; ss-is = refl }
@@ -43,7 +44,7 @@ wires_are false false false = record { below = refl; sdi-is = refl; sck_is = ref
 
 -- The call of a record that makes one.
 pub makes_call : (e : Entry) (c : Call) → Makes e c → call_of e ≡ c
-unfolding call_of if◌then◌else◌
+unfolding call_of when◌then◌else◌
 makes_call e c (write register v low is) = ap call_of is
 makes_call e c (read register low is) = ap call_of is
 makes_call e c (tick sdi ss is) = let w = wires_are sdi false ss in ap call_of is ∙ cc (w.sdi-is, w.ss-is)
@@ -80,7 +81,7 @@ module _ (count level k : ℕ) where
       ∙ if_false (eqb e.kind 3) _ _ d ∙ if_false (eqb e.kind 4) _ _ g ∙ if_false (eqb e.kind 5) _ _ h
 
   pub right_in : (e : Entry) → right_record count level k e ≡ true → Right count level k e
-  unfolding right_record is_play if◌then◌else◌
+  unfolding right_record is_play when◌then◌else◌
   right_in e right =
       by_test (eqb e.kind 0)
       (λ is.
@@ -130,7 +131,7 @@ module _ (count level k : ℕ) where
       (λ no5. clash (right_record count level k e) right (no_kind e no0 no1 no2 no3 no4 no5)))))))
 
   makes-right : (e : Entry) (c : Call) → Makes e c → right_record count level k e ≡ true
-  unfolding right_record is_play if◌then◌else◌
+  unfolding right_record is_play when◌then◌else◌
   makes-right e c (write register v low is) = ap (right_record count level k) is ∙ le-leb register 3 low
   makes-right e c (read register low is) = ap (right_record count level k) is ∙ and_both (leb register 3) _ (le-leb register 3 low) refl
   makes-right e c (tick sdi ss is) = let w = wires_are sdi false ss in ap (right_record count level k) is ∙ cc (w.below, w.sck_is)
@@ -138,7 +139,7 @@ module _ (count level k : ℕ) where
   makes-right e c (clear is) = ap (right_record count level k) is
 
   pub in_right : (e : Entry) → Right count level k e → right_record count level k e ≡ true
-  unfolding right_record is_play if◌then◌else◌
+  unfolding right_record is_play when◌then◌else◌
   in_right e (call c makes) = makes-right e c makes
   in_right e (play j v is up exists low) =
       ap (right_record count level k) is

@@ -2,8 +2,9 @@
 --     runs_hold   they are those of its sections, played one within the other
 --     one_run_lem     there are no others
 -- Assumes nothing.
-use Rattle.laws.proofs.Common.{ℕ, zero, suc, ◌+◌, ◌*◌, ◌<◌, ◌≤◌, Bool, true, false, ◌&&◌, ◌||◌, List, [], ◌∷◌, ◌++◌, ◌≡◌}
-use Rattle.laws.proofs.Common.{refl, sym, ap, ap₂, subst, ◌∙◌, arith, eq-eqb, ne_eqb, eqb, if◌then◌else◌, and_left, and_right}
+use Rattle.std.specs.Prelude.{◌+◌, ◌*◌, ◌<◌, ◌≤◌, ◌&&◌, ◌||◌, ◌∷◌, ◌++◌, ◌≡◌}
+use Rattle.laws.proofs.Common.{ℕ, zero, suc, Bool, true, false, List, []}
+use Rattle.laws.proofs.Common.{refl, sym, ap, ap₂, subst, ◌∙◌, arith, eq-eqb, ne_eqb, eqb, when◌then◌else◌, and_left, and_right}
 use Rattle.laws.proofs.Common.{and_both}
 use Rattle.module_types.specs.declared.Call.{Call}
 use Rattle.trace_rules.specs.declared.Entry.{Entry}
@@ -24,9 +25,9 @@ module _ (s : ℕ → List Entry) (sub : ℕ → List Call) (counts : ℕ → �
   -- One right record, before others.
   run_one : (count level k : ℕ) (e : Entry) (es : List Entry) (cs : List Call) (n : ℕ) →
       ((j : ℕ) → (is_play e && eqb e.argument j) ≡ true → Runs s (s j) (sub j) (counts j)) → Right count level k e → Runs s es cs n →
-      Runs s (e ∷ es) ((if is_play e then times e.value (sub e.argument) else call_of e ∷ []) ++ cs)
-      ((if is_play e then e.value * (1 + counts e.argument) else 1) + n)
-  unfolding is_play if◌then◌else◌
+      Runs s (e ∷ es) ((when is_play e then times e.value (sub e.argument) else call_of e ∷ []) ++ cs)
+      ((when is_play e then e.value * (1 + counts e.argument) else 1) + n)
+  unfolding is_play when◌then◌else◌
   run_one count level k e es cs n played (call c makes) rest =
       let other : eqb e.kind 5 ≡ false = ne_eqb e.kind 5 (λ five. omega (arith, five, makes_kind e c makes)) in
       rw (other, makes_call e c makes) (calls makes rest)

@@ -15,9 +15,10 @@
 --     nothing_made                 a file that counts nothing makes no call
 --     plays_refused, plays_made    what a refused play comes to, and one that is made
 -- Assumes nothing.
-use Rattle.laws.proofs.Common.{ℕ, zero, suc, ◌+◌, ◌*◌, ◌-◌, ◌/◌, ◌%◌, ◌<◌, ◌≤◌, Bool, true, false, List, [], ◌∷◌, ◌++◌, ◌≡◌}
+use Rattle.std.specs.Prelude.{◌+◌, ◌*◌, ◌-◌, ◌/◌, ◌%◌, ◌<◌, ◌≤◌, ◌∷◌, ◌++◌, ◌≡◌}
+use Rattle.laws.proofs.Common.{ℕ, zero, suc, Bool, true, false, List, []}
 use Rattle.laws.proofs.Common.{refl, sym, ap, ap₂, ◌∙◌, suc-mul, arith, ltb-true, ltb-false, eqb-false, eq-eqb, ne_eqb, ltb}
-use Rattle.laws.proofs.Common.{eqb, length, get_or, if◌then◌else◌, so, not_so, by_case, if_keeps, if_true, if_false, by_test}
+use Rattle.laws.proofs.Common.{eqb, length, get_or, when◌then◌else◌, so, not_so, by_case, if_keeps, if_true, if_false, by_test}
 use Rattle.laws.proofs.Common.{clash, and_left, and_right}
 use Rattle.module_rules.proofs.Types.{Module, Call, Read, Write, Tick, Pin, Clear, Outcome}
 use Rattle.module_rules.specs.Calls.{refuse, powered_up, read_of, perform_of, after_calls}
@@ -41,25 +42,25 @@ module _ (e : Entry) where
   of_kind n is = ap (λ (k : ℕ). call_of (record { kind = k; argument = e.argument; value = e.value })) is
 
   pub is_write : e.kind ≡ 0 → call_of e ≡ Write e.argument e.value
-  unfolding call_of if◌then◌else◌
+  unfolding call_of when◌then◌else◌
   is_write is = of_kind 0 is
 
   pub is_read : e.kind ≡ 1 → call_of e ≡ Read e.argument
-  unfolding call_of if◌then◌else◌
+  unfolding call_of when◌then◌else◌
   is_read is = of_kind 1 is
 
   -- Bit 0 has the weight 1.
   pub is_tick_lem : e.kind ≡ 2 → call_of e ≡ Tick (eqb (e.argument % 2) 1) (eqb (e.argument / 4 % 2) 1)
-  unfolding call_of wire_in if◌then◌else◌
+  unfolding call_of wire_in when◌then◌else◌
   is_tick_lem is = let bit_0 : e.argument ≡ e.argument / 1 = omega arith in cc (of_kind 2 is)
 
   pub is_pin : e.kind ≡ 3 →
       call_of e ≡ Pin (eqb (e.argument / 2 % 2) 1) (eqb (e.argument % 2) 1) (eqb (e.argument / 4 % 2) 1)
-  unfolding call_of wire_in if◌then◌else◌
+  unfolding call_of wire_in when◌then◌else◌
   is_pin is = let bit_0 : e.argument ≡ e.argument / 1 = omega arith in cc (of_kind 3 is)
 
   pub is_clear_lem : (e.kind ≡ 0 → ⊥) → (e.kind ≡ 1 → ⊥) → (e.kind ≡ 2 → ⊥) → (e.kind ≡ 3 → ⊥) → call_of e ≡ Clear
-  unfolding call_of if◌then◌else◌
+  unfolding call_of when◌then◌else◌
   is_clear_lem w r t p = rw (ne_eqb _ 0 w, ne_eqb _ 1 r, ne_eqb _ 2 t, ne_eqb _ 3 p)
 
 past_two : {A : Type 0} (a : ℕ) → a ≤ 3 → (a ≡ 0 → ⊥) → (a ≡ 1 → ⊥) → (a ≡ 2 → ⊥) → (a ≡ 3 → ⊥) → A
@@ -272,7 +273,7 @@ never e = clash false (ap is_made e) refl
 
 pub made_right : (f : List ℕ) (count : ℕ) → played_of f ≡ Made count →
     (contents_right f ≡ true) × (records_right f ≡ true) × (file_count f ≡ count)
-unfolding played_of if◌then◌else◌
+unfolding played_of when◌then◌else◌
 made_right f count made =
     by_test (contents_right f)
     (λ contents.

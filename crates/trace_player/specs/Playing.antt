@@ -1,6 +1,6 @@
 -- Playing a trace file over a module in memory.
 use Rattle.std.specs.Prelude.{ℕ, false, List, [], ◌∷◌, ◌≡◌}
-use Rattle.laws.specs.Choice.{if◌then◌else◌}
+use Rattle.laws.specs.Choice.{when◌then◌else◌}
 use Rattle.module_types.specs.declared.Call.{Call}
 use Rattle.trace_rules.specs.declared.Entry.{Entry}
 use Rattle.trace_rules.specs.declared.Played.{Played}
@@ -9,7 +9,7 @@ use Rattle.module_memory.specs.Memory.{module_in}
 
 -- The calls of one record, with so many levels left for the section that it may play.
 unfoldable pub entry_calls : List ℕ → ℕ → Entry → List Call
-entry_calls f left e = if is_play e then times e.value (play_calls f left e.argument) else call_of e ∷ []
+entry_calls f left e = when is_play e then times e.value (play_calls f left e.argument) else call_of e ∷ []
 
 -- What a play answers, and memory before and after it: the module is the one that the rules say, and a refused play leaves every
 -- number as it was.

@@ -1,4 +1,6 @@
 // Plays a trace file over a module in memory: the calls of section 0, with those of each section that it plays.
+#![tactic(auto)]
+
 ghost use Rattle.std.specs.Prelude.{◌<◌, true, ◌≡◌};
 ghost use Rattle.module_rules.specs.Calls.{perform_of, after_calls};
 ghost use Rattle.trace_rules.specs.Trace.{section_count, contents_right, records_right, is_play, call_of, play_calls, file_calls, fault_number_of};

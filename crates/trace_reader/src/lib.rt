@@ -1,12 +1,14 @@
 // A reader carries a trace file and its place in it. Each function takes it apart, and the work is done by functions over the
 // file's slice.
+#![tactic(auto)]
+
 ghost use Rattle.std.specs.Prelude.{◌≡◌};
 ghost use Rattle.trace_rules.specs.Trace.{body_of};
 ghost use Rattle.trace_numbers.specs.Places.{entry_at};
 
 use trace_rules::Entry;
 
-#[derive(Drop)]
+#[derive(Clone, Copy)]
 pub struct Reader<'a> {
     pub file: &'a [u8],
     pub at: usize,

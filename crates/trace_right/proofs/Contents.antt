@@ -3,8 +3,9 @@
 --     no_end, some_end      a table that is wrong, and one that is whole and gapless
 --     other_end, own_end    right contents, by where the last section ends
 -- Assumes nothing.
-use Rattle.laws.proofs.Common.{ℕ, ◌+◌, ◌*◌, ◌<◌, ◌≤◌, Bool, true, false, ◌&&◌, and-true, List, ◌≡◌, refl, sym, ap, ◌∙◌, arith}
-use Rattle.laws.proofs.Common.{eq-eqb, ne_eqb, eqb, leb, length, if◌then◌else◌, so_le, not_so_le, if_true, if_false, by_test}
+use Rattle.std.specs.Prelude.{◌+◌, ◌*◌, ◌<◌, ◌≤◌, ◌&&◌, ◌≡◌}
+use Rattle.laws.proofs.Common.{ℕ, Bool, true, false, and-true, List, refl, sym, ap, ◌∙◌, arith}
+use Rattle.laws.proofs.Common.{eq-eqb, ne_eqb, eqb, leb, length, when◌then◌else◌, so_le, not_so_le, if_true, if_false, by_test}
 use Rattle.laws.proofs.Common.{and-false}
 use Rattle.trace_rules.specs.Trace.{section_count, table_end, place_of, in_fours, table_right, contents_right}
 use Rattle.trace_page.proofs.TraceContents.{place_below}
@@ -15,16 +16,16 @@ pub and_skip : (a b : Bool) → a ≡ true → (a && b) ≡ b
 and_skip a b e = rw e
 
 -- A choice by a conjunction is a choice after a choice.
-if_and : (a b : Bool) (x y : ℕ) → (if a && b then x else y) ≡ (if a then if b then x else y else y)
-unfolding if◌then◌else◌
+if_and : (a b : Bool) (x y : ℕ) → (when a && b then x else y) ≡ (when a then when b then x else y else y)
+unfolding when◌then◌else◌
 if_and true b x y = refl
 if_and false b x y = refl
 
 module _ (f : List ℕ) where
   by_tests : {z : ℕ} →
       z
-      ≡ (if leb (length f) 65535 then if leb 1 (section_count f) then if leb (section_count f) 64 then
-      if leb (2 + 8 * section_count f) (length f) then gapless_end f (section_count f) else 0 else 0 else 0 else 0) →
+      ≡ (when leb (length f) 65535 then when leb 1 (section_count f) then when leb (section_count f) 64 then
+      when leb (2 + 8 * section_count f) (length f) then gapless_end f (section_count f) else 0 else 0 else 0 else 0) →
       z ≡ stated_end f
   unfolding stated_end table_right table_end
   by_tests e = simp if_and e

@@ -5,10 +5,11 @@
 --     play_low                    a right play record stands below level 8
 --     record_right_lem                each record of a right file is right
 -- Assumes nothing.
-use Rattle.laws.proofs.Common.{ℕ, zero, suc, ◌+◌, ◌*◌, ◌-◌, ◌/◌, ◌%◌, ◌<◌, ◌≤◌, Bool, true, false, ◌&&◌, ◌||◌, List, [], ◌∷◌}
-use Rattle.laws.proofs.Common.{◌++◌, ◌≡◌, refl, sym, ap, ap₂, ◌∙◌, arith, ltb-true, leb-true, leb-false, eq-eqb, ne_eqb, eqb}
+use Rattle.std.specs.Prelude.{◌+◌, ◌*◌, ◌-◌, ◌/◌, ◌%◌, ◌<◌, ◌≤◌, ◌&&◌, ◌||◌, ◌∷◌, ◌++◌, ◌≡◌}
+use Rattle.laws.proofs.Common.{ℕ, zero, suc, Bool, true, false, List, []}
+use Rattle.laws.proofs.Common.{refl, sym, ap, ap₂, ◌∙◌, arith, ltb-true, leb-true, leb-false, eq-eqb, ne_eqb, eqb}
 use Rattle.laws.proofs.Common.{leb, ltb, length, get_or, set, length-set, List·getD-append, replicate, length-replicate}
-use Rattle.laws.proofs.Common.{get_or-replicate, if◌then◌else◌, so, not_so, so_eq, not_so_eq, if_keeps, if_true, if_false}
+use Rattle.laws.proofs.Common.{get_or-replicate, when◌then◌else◌, so, not_so, so_eq, not_so_eq, if_keeps, if_true, if_false}
 use Rattle.laws.proofs.Common.{by_test, and_left, and_right, and_both, and_first, and-false}
 use Prim.Native.Nat.{max}
 use lib.Seq.{set-get_or}
@@ -54,14 +55,14 @@ module _ (level : ℕ) (ls : List ℕ) (e : Entry) where
   one_length = if_keeps (λ (l : List ℕ). length l ≡ length ls) (is_play e) _ _ (λ play. length-set ls e.argument _) (λ call. refl)
 
   one_at : (j : ℕ) → j < length ls →
-      get_or (raised_one level ls e) j 0 ≡ (if is_play e && eqb e.argument j then higher (get_or ls j 0) (level + 1) else get_or ls j 0)
+      get_or (raised_one level ls e) j 0 ≡ (when is_play e && eqb e.argument j then higher (get_or ls j 0) (level + 1) else get_or ls j 0)
   unfolding raised_one
   one_at j h =
       if_keeps
-      (λ (l : List ℕ). get_or l j 0 ≡ (if is_play e && eqb e.argument j then higher (get_or ls j 0) (level + 1) else get_or ls j 0))
+      (λ (l : List ℕ). get_or l j 0 ≡ (when is_play e && eqb e.argument j then higher (get_or ls j 0) (level + 1) else get_or ls j 0))
       (is_play e) _ _
       (λ play.
-      set_each (λ (i m : ℕ). m ≡ (if is_play e && eqb e.argument i then higher (get_or ls i 0) (level + 1) else get_or ls i 0)) ls
+      set_each (λ (i m : ℕ). m ≡ (when is_play e && eqb e.argument i then higher (get_or ls i 0) (level + 1) else get_or ls i 0)) ls
       e.argument _
       (so _ _ _ (and_both (is_play e) _ play (eq-eqb e.argument e.argument refl)) refl)
       (λ i other. not_so _ _ _ (and-false (is_play e) _ (ne_eqb e.argument i (λ same. other (sym same)))) refl)
@@ -70,8 +71,8 @@ module _ (level : ℕ) (ls : List ℕ) (e : Entry) where
 
 -- Raised twice by one level is raised once.
 twice : (x y : Bool) (a b : ℕ) →
-    (if y then higher (if x then higher a b else a) b else (if x then higher a b else a)) ≡ (if x || y then higher a b else a)
-unfolding if◌then◌else◌
+    (when y then higher (when x then higher a b else a) b else (when x then higher a b else a)) ≡ (when x || y then higher a b else a)
+unfolding when◌then◌else◌
 twice true true a b = omega (arith, higher_is a b, higher_is (higher a b) b)
 twice true false a b = refl
 twice false true a b = refl
@@ -84,17 +85,17 @@ raised_length level ls [] = refl
 raised_length level ls (e ∷ es) = raised_length level (raised_one level ls e) es ∙ one_length level ls e
 
 raised_at : (level : ℕ) (ls : List ℕ) (es : List Entry) (j : ℕ) → j < length ls →
-    get_or (raised_by level ls es) j 0 ≡ (if plays_any es j then higher (get_or ls j 0) (level + 1) else get_or ls j 0)
+    get_or (raised_by level ls es) j 0 ≡ (when plays_any es j then higher (get_or ls j 0) (level + 1) else get_or ls j 0)
 unfolding raised_by plays_any
 raised_at level ls [] j h = sym (if_false false _ _ refl)
 raised_at level ls (e ∷ es) j h =
     raised_at level (raised_one level ls e) es j (omega (arith, one_length level ls e))
-    ∙ ap (λ (x : ℕ). if plays_any es j then higher x (level + 1) else x) (one_at level ls e j h)
+    ∙ ap (λ (x : ℕ). when plays_any es j then higher x (level + 1) else x) (one_at level ls e j h)
     ∙ twice (is_play e && eqb e.argument j) (plays_any es j) (get_or ls j 0) (level + 1)
 
 -- One above the highest player, with one more that may play.
-above : (b : Bool) (x y : ℕ) → 1 + higher x (if b then y else 0) ≡ (if b then higher (1 + x) (y + 1) else 1 + x)
-unfolding if◌then◌else◌
+above : (b : Bool) (x y : ℕ) → 1 + higher x (when b then y else 0) ≡ (when b then higher (1 + x) (y + 1) else 1 + x)
+unfolding when◌then◌else◌
 above true x y = omega (arith, higher_is x y, higher_is (1 + x) (y + 1))
 above false x y = omega (arith, higher_is x 0)
 
@@ -104,18 +105,18 @@ module _ (s : ℕ → List Entry) where
   unfolding highest_player
   players_same ls more j zero h = refl
   players_same ls more j (suc n) h =
-      ap₂ (λ (a b : ℕ). higher a (if plays_any (s n) j then b else 0))
+      ap₂ (λ (a b : ℕ). higher a (when plays_any (s n) j then b else 0))
       (players_same ls more j n (omega arith))
       (List·getD-append ls more 0 n (omega arith))
 
   -- One section more.
   player-next : (k j : ℕ) →
       1 + highest_player s (levels_below s (suc k)) j (suc k)
-      ≡ (if plays_any (s k) j then higher (1 + highest_player s (levels_below s k) j k) (section_level s k + 1)
+      ≡ (when plays_any (s k) j then higher (1 + highest_player s (levels_below s k) j k) (section_level s k + 1)
       else 1 + highest_player s (levels_below s k) j k)
   unfolding highest_player levels_below
   player-next k j =
-      ap₂ (λ (x y : ℕ). 1 + higher x (if plays_any (s k) j then y else 0))
+      ap₂ (λ (x y : ℕ). 1 + higher x (when plays_any (s k) j then y else 0))
       (players_same (levels_below s k) _ j k (omega (arith, levels_length s k)))
       (level_below s (suc k) k (omega arith))
       ∙ above (plays_any (s k) j) (highest_player s (levels_below s k) j k) (section_level s k)
@@ -130,7 +131,7 @@ module _ (s : ℕ → List Entry) where
         all = raised_length (section_level s k) ls (s k) ∙ at.all;
         each = λ j h.
             raised_at (section_level s k) ls (s k) j (omega (arith, at.all))
-            ∙ ap (λ (x : ℕ). if plays_any (s k) j then higher x (section_level s k + 1) else x) (at.each j h)
+            ∙ ap (λ (x : ℕ). when plays_any (s k) j then higher x (section_level s k + 1) else x) (at.each j h)
             ∙ sym (player-next k j)
             ∙ ap (λ (i : ℕ). 1 + highest_player s (levels_below s i) j i) (let same : suc k ≡ k + 1 = omega arith in same);
       }
@@ -172,7 +173,7 @@ module _ {f first levels : List ℕ} {k level at left : ℕ} (g : Looking f k le
 
   -- The next record, whether it is right, and the levels behind it.
   module _ {e : Entry} {r : Bool} {next : List ℕ} (more : 0 < left) (reads : e ≡ entry_at f at)
-      (is : r ≡ right_record (section_count f) level k e) (after : next ≡ (if r then raised_one level levels e else levels)) where
+      (is : r ≡ right_record (section_count f) level k e) (after : next ≡ (when r then raised_one level levels e else levels)) where
     here : entries_at f left at ≡ e ∷ entries_at f (left - 1) (at + 4)
     here = entries_more f left at more ∙ ap (λ (x : Entry). x ∷ entries_at f (left - 1) (at + 4)) (sym reads)
 

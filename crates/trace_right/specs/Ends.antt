@@ -1,12 +1,12 @@
 -- Where a table of contents says that the sections end.
 use Rattle.std.specs.Prelude.{ℕ, List}
-use Rattle.laws.specs.Choice.{if◌then◌else◌}
+use Rattle.laws.specs.Choice.{when◌then◌else◌}
 use Rattle.trace_rules.specs.Trace.{section_count, place_of, gapless, table_right}
 
 -- Where the first `n` sections end, if none lies behind a gap; and where the last one does, if the table of contents is whole and gapless.
 -- Else 0.
 abbrev pub gapless_end : List ℕ → ℕ → ℕ
-gapless_end f n = if gapless f n then place_of f n else 0
+gapless_end f n = when gapless f n then place_of f n else 0
 
 unfoldable pub stated_end : List ℕ → ℕ
-stated_end f = if table_right f then place_of f (section_count f) else 0
+stated_end f = when table_right f then place_of f (section_count f) else 0

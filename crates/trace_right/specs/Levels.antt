@@ -1,13 +1,13 @@
 -- What is known of the sections' levels while a file is gone through, record by record.
 use Rattle.std.specs.Prelude.{ℕ, ◌+◌, ◌<◌, List, [], ◌∷◌, ◌≡◌, length, get_or, set}
-use Rattle.laws.specs.Choice.{if◌then◌else◌}
+use Rattle.laws.specs.Choice.{when◌then◌else◌}
 use Rattle.trace_rules.specs.declared.Entry.{Entry}
 use Rattle.trace_rules.specs.Trace.{is_play, higher, highest_player, levels_below}
 
 -- Levels, a number for each section: a play record in a section of some level raises the section that it names above that level.
 unfoldable pub raised_one : ℕ → List ℕ → Entry → List ℕ
 raised_one level levels e =
-    if is_play e then set levels e.argument (higher (get_or levels e.argument 0) (level + 1)) else levels
+    when is_play e then set levels e.argument (higher (get_or levels e.argument 0) (level + 1)) else levels
 
 unfoldable pub raised_by : ℕ → List ℕ → List Entry → List ℕ
 raised_by level levels [] = levels

@@ -1,6 +1,8 @@
 // Whether a trace file is right: its contents, and its records with the levels of their sections.
+#![tactic(auto)]
+
 ghost use Rattle.std.specs.Prelude.{◌<◌, true, ◌&&◌, ◌≡◌, get_or};
-ghost use Rattle.laws.specs.Choice.{if◌then◌else◌};
+ghost use Rattle.laws.specs.Choice.{when◌then◌else◌};
 ghost use Rattle.trace_rules.specs.Trace.{section_count, in_fours, contents_right, entries_of, is_play, section_level, right_record, all_of, records_right};
 ghost use Rattle.trace_right.specs.Ends.{gapless_end, stated_end};
 ghost use Rattle.trace_right.specs.Levels.{raised_one, raised_by};
@@ -127,7 +129,7 @@ fn raise(levels: &mut [u8; 256], level: u8, e: Entry)
 // Whether a record of a section of some level is right. If so, the section that it plays is raised above that level.
 pub fn take_record(f: &[u8], k: u16, levels: &mut [u8; 256], level: u8, e: Entry) -> bool
     ensures value { result ≡ right_record (section_count f.now) level k e }
-    ensures levels_after { levels.new ≡ (if result then raised_one level levels.old e else levels.old) }
+    ensures levels_after { levels.new ≡ (when result then raised_one level levels.old e else levels.old) }
 {
     if !record_right(f, k, level, e) {
         return false;
@@ -176,7 +178,7 @@ fn records_right(f: &[u8]) -> bool
 }
 
 // What of a file is right: its contents, and if they are, its records.
-#[derive(Drop)]
+#[derive(Clone, Copy)]
 pub struct Right {
     pub contents: bool,
     pub records: bool,

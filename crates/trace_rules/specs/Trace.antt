@@ -1,7 +1,7 @@
 -- Document 02, Five: a trace file. A file is a list of bytes. It has a table of contents and sections of records; a record is a
 -- call, or plays another section. Playing section 0 on a fresh module makes the file's calls in order.
 use Rattle.std.specs.Prelude.{ℕ, zero, suc, ◌+◌, ◌*◌, ◌/◌, ◌%◌, Bool, true, false, not, ◌&&◌, ◌||◌, List, [], ◌∷◌, ◌++◌, eqb, leb, ltb, length, take, drop, get_or}
-use Rattle.laws.specs.Choice.{if◌then◌else◌}
+use Rattle.laws.specs.Choice.{when◌then◌else◌}
 use Rattle.module_types.specs.declared.Module.{Module}
 use Rattle.module_types.specs.declared.Call.{Call}
 use Rattle.module_types.specs.declared.Call.TheVariants.{Read, Write, Tick, Pin, Clear}
@@ -125,12 +125,12 @@ plays_any (e ∷ es) k = (is_play e && eqb e.argument k) || plays_any es k
 -- The level of a section is one more than the highest among the lower-numbered ones that play it, zero times included, or 1 if
 -- none does. `s` are the sections' records, by number; `levels` are the levels of the sections below `n`.
 unfoldable pub higher : ℕ → ℕ → ℕ
-higher a b = if leb a b then b else a
+higher a b = when leb a b then b else a
 
 unfoldable pub highest_player : (ℕ → List Entry) → List ℕ → ℕ → ℕ → ℕ
 highest_player s levels k zero = 0
 highest_player s levels k (suc j) =
-    higher (highest_player s levels k j) (if plays_any (s j) k then get_or levels j 0 else 0)
+    higher (highest_player s levels k j) (when plays_any (s j) k then get_or levels j 0 else 0)
 
 unfoldable pub levels_below : (ℕ → List Entry) → ℕ → List ℕ
 levels_below s zero = []
@@ -148,12 +148,12 @@ wire_in argument weight = eqb (argument / weight % 2) 1
 -- level 8. No other kind is right.
 unfoldable pub right_record : ℕ → ℕ → ℕ → Entry → Bool
 right_record count level k e =
-    if eqb e.kind write_kind then leb e.argument 3
-    else if eqb e.kind read_kind then leb e.argument 3 && eqb e.value 0
-    else if eqb e.kind tick_kind then (ltb e.argument 8 && not (wire_in e.argument 2)) && eqb e.value 0
-    else if eqb e.kind pins_kind then ltb e.argument 8 && eqb e.value 0
-    else if eqb e.kind clear_kind then eqb e.argument 0 && eqb e.value 0
-    else if is_play e then ltb k e.argument && (ltb e.argument count && ltb level most_levels)
+    when eqb e.kind write_kind then leb e.argument 3
+    else when eqb e.kind read_kind then leb e.argument 3 && eqb e.value 0
+    else when eqb e.kind tick_kind then (ltb e.argument 8 && not (wire_in e.argument 2)) && eqb e.value 0
+    else when eqb e.kind pins_kind then ltb e.argument 8 && eqb e.value 0
+    else when eqb e.kind clear_kind then eqb e.argument 0 && eqb e.value 0
+    else when is_play e then ltb k e.argument && (ltb e.argument count && ltb level most_levels)
     else false
 
 unfoldable pub all_right : ℕ → ℕ → ℕ → List Entry → Bool
@@ -174,10 +174,10 @@ records_right f = all_below (λ k. all_of f k (entries_of f k)) (section_count f
 -- The call of a record that is one.
 unfoldable pub call_of : Entry → Call
 call_of e =
-    if eqb e.kind write_kind then Write e.argument e.value
-    else if eqb e.kind read_kind then Read e.argument
-    else if eqb e.kind tick_kind then Tick (wire_in e.argument 1) (wire_in e.argument 4)
-    else if eqb e.kind pins_kind then Pin (wire_in e.argument 2) (wire_in e.argument 1) (wire_in e.argument 4)
+    when eqb e.kind write_kind then Write e.argument e.value
+    else when eqb e.kind read_kind then Read e.argument
+    else when eqb e.kind tick_kind then Tick (wire_in e.argument 1) (wire_in e.argument 4)
+    else when eqb e.kind pins_kind then Pin (wire_in e.argument 2) (wire_in e.argument 1) (wire_in e.argument 4)
     else Clear
 
 -- A list so many times over.
@@ -189,7 +189,7 @@ times (suc n) cs = cs ++ times n cs
 -- has one level fewer.
 unfoldable pub calls_by : (ℕ → List Call) → List Entry → List Call
 calls_by sub [] = []
-calls_by sub (e ∷ es) = (if is_play e then times e.value (sub e.argument) else call_of e ∷ []) ++ calls_by sub es
+calls_by sub (e ∷ es) = (when is_play e then times e.value (sub e.argument) else call_of e ∷ []) ++ calls_by sub es
 
 unfoldable pub play_calls : List ℕ → ℕ → ℕ → List Call
 play_calls f zero k = []
@@ -198,7 +198,7 @@ play_calls f (suc left) k = calls_by (play_calls f left) (entries_of f k)
 -- What counts: each call, and each repeat of a play before its calls.
 unfoldable pub count_by : (ℕ → ℕ) → List Entry → ℕ
 count_by sub [] = 0
-count_by sub (e ∷ es) = (if is_play e then e.value * (1 + sub e.argument) else 1) + count_by sub es
+count_by sub (e ∷ es) = (when is_play e then e.value * (1 + sub e.argument) else 1) + count_by sub es
 
 unfoldable pub play_count : List ℕ → ℕ → ℕ → ℕ
 play_count f zero k = 0
@@ -223,9 +223,9 @@ fault_number_of TooManyCalls = 19
 -- Playing a file: 17, then 18, then 19; else the calls that counted.
 unfoldable pub played_of : List ℕ → Played
 played_of f =
-    if not (contents_right f) then Refused BadContents
-    else if not (records_right f) then Refused BadRecord
-    else if ltb most_calls (file_count f) then Refused TooManyCalls
+    when not (contents_right f) then Refused BadContents
+    else when not (records_right f) then Refused BadRecord
+    else when ltb most_calls (file_count f) then Refused TooManyCalls
     else Made (file_count f)
 
 -- The module after it: a fresh one after the file's calls. A refused play leaves the module of before.
@@ -234,4 +234,4 @@ is_made (Refused w) = false
 is_made (Made count) = true
 
 unfoldable pub played_module : Module → List ℕ → Module
-played_module m f = if is_made (played_of f) then after_calls powered_up (file_calls f) else m
+played_module m f = when is_made (played_of f) then after_calls powered_up (file_calls f) else m

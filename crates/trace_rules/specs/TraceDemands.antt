@@ -5,7 +5,7 @@ use Rattle.module_types.specs.declared.Module.{Module}
 use Rattle.module_types.specs.declared.Call.{Call}
 use Rattle.module_types.specs.declared.Call.TheVariants.{Read, Write, Tick, Pin, Clear}
 use Rattle.module_types.specs.declared.Depth.TheVariants.{Eight}
-use Rattle.module_rules.specs.Lives.{powerUp, life}
+use Rattle.module_rules.specs.Lives.{power_up, life}
 use Rattle.trace_rules.specs.declared.Entry.{Entry}
 use Rattle.trace_rules.specs.declared.Played.{Played}
 use Rattle.trace_rules.specs.declared.Played.TheVariants.{Refused, Made}
@@ -152,11 +152,11 @@ pub data Outcome (m : Module) (f : List ℕ) : ℕ → ℕ → Module → Type 0
   -- the contents or the file's length are wrong
   wrong_contents : (Whole f → ⊥) → Outcome m f 17 0 m
   -- a record is wrong
-  wrongRecord : Whole f → (AllRight f → ⊥) → Outcome m f 18 0 m
+  wrong_record : Whole f → (AllRight f → ⊥) → Outcome m f 18 0 m
   -- the next call would be number 65,536
   too_many_calls : {cs : List Call} {n : ℕ} → Whole f → AllRight f → Runs (section f) (section f 0) cs n → most_calls < n → Outcome m f 19 0 m
   played : {cs : List Call} {n : ℕ} → Whole f → AllRight f → Runs (section f) (section f 0) cs n → n ≤ most_calls →
-      Outcome m f 0 n (life (powerUp Eight) cs).now
+      Outcome m f 0 n (life (power_up Eight) cs).now
 
 -- The numbers of an answer.
 abbrev pub number_in : Played → ℕ

@@ -5,3 +5,4 @@ pub mod SalvageKeeps
 pub mod SalvageFile
 pub mod SalvageOne
 pub mod SalvageDemandsHold
+pub mod Tables

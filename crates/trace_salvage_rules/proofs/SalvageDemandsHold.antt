@@ -1,12 +1,13 @@
 -- The demands on salvaged traces of specs/SalvageDemands.antt, all of them.
 --     salvages_hold   what the buyer signs for, of salvaged traces
 -- Assumes nothing.
-use Rattle.laws.proofs.Common.{ℕ, zero, suc, ◌-◌, ◌<◌, ◌≤◌, true, false, not, List, ◌++◌, ◌≡◌, refl, sym, ap, ap₂, subst, ◌∙◌}
-use Rattle.laws.proofs.Common.{arith, ltb-true, ltb-false, lt-ltb, le-ltb, ltb, length, take, drop, if◌then◌else◌, if_true}
+use Rattle.std.specs.Prelude.{◌-◌, ◌<◌, ◌≤◌, ◌++◌, ◌≡◌}
+use Rattle.laws.proofs.Common.{ℕ, zero, suc, true, false, not, List, refl, sym, ap, ap₂, subst, ◌∙◌}
+use Rattle.laws.proofs.Common.{arith, ltb-true, ltb-false, lt-ltb, le-ltb, ltb, length, take, drop, when◌then◌else◌, if_true}
 use Rattle.laws.proofs.Common.{if_false, clash, by_test}
 use Rattle.trace_rules.specs.Trace.{section_count, size_of}
 use Rattle.trace_rules.specs.TraceBytes.{Bytes, placed}
-use Rattle.trace_rules.specs.TraceDemands.{sections, size, Whole, AllRight}
+use Rattle.trace_rules.specs.TraceDemands.{sections, Whole, AllRight}
 use Rattle.trace_page.proofs.TraceContents.{Laid, laid_placed}
 use Rattle.trace_page.proofs.TracePlaces.{count_spelled, size_spelled, whole_laid}
 use Rattle.trace_page.proofs.TraceDemandsHold.{all_right_lem}
@@ -14,7 +15,7 @@ use Rattle.trace_bytes.proofs.TraceFiles.{placed_file, placed_behind, placed_len
 use Rattle.trace_salvage_rules.specs.declared.Salvaged.{Salvaged}
 use Rattle.trace_salvage_rules.specs.declared.Salvaged.TheVariants.{BadContents, NoRoom, Written}
 use Rattle.trace_salvage_rules.specs.Salvage.{salvageable, salvaged_file, sum_below, fell_in, sections_cut, bytes_lost, answer_with, salvaged_of, salvage_number_of, is_written, buffer_after}
-use Rattle.trace_salvage_rules.specs.SalvageDemands.{Tabled, fell, lengths, Outcome, wrong_contents, noRoom, salvaged, cut_in, lost_in, length_in, Salvages}
+use Rattle.trace_salvage_rules.specs.SalvageDemands.{Tabled, fell, lengths, Outcome, wrong_contents, no_room, salvaged, cut_in, lost_in, length_in, Salvages}
 use Rattle.trace_salvage_rules.proofs.SalvageExamplesHold.{salvage_examples_hold}
 use Rattle.trace_salvage_rules.proofs.SalvageTables.{table_is, table_end_lem, is_table, table_tabled, tabled_table}
 use Rattle.trace_salvage_rules.proofs.SalvageFile.{new_laid, own, twice}
@@ -69,16 +70,16 @@ after_is f buffer ok fits =
 -- Salvaging has the outcome that the page says.
 module _ (f buffer : List ℕ) where
   outcome_is : (a : Salvaged) → salvaged_of f (length buffer) ≡ a →
-      Outcome f buffer (salvage_number_of a) (cut_in a) (lost_in a) (length_in a) (if is_written a then placed (salvaged_file f) buffer else buffer) →
+      Outcome f buffer (salvage_number_of a) (cut_in a) (lost_in a) (length_in a) (when is_written a then placed (salvaged_file f) buffer else buffer) →
       let b = salvaged_of f (length buffer) in Outcome f buffer (salvage_number_of b) (cut_in b) (lost_in b) (length_in b) (buffer_after f buffer)
   unfolding buffer_after
   outcome_is a e =
       subst
-      (λ (b : Salvaged). Outcome f buffer (salvage_number_of b) (cut_in b) (lost_in b) (length_in b) (if is_written b then placed (salvaged_file f) buffer else buffer))
+      (λ (b : Salvaged). Outcome f buffer (salvage_number_of b) (cut_in b) (lost_in b) (length_in b) (when is_written b then placed (salvaged_file f) buffer else buffer))
       (sym e)
 
   answers : let a = salvaged_of f (length buffer) in Outcome f buffer (salvage_number_of a) (cut_in a) (lost_in a) (length_in a) (buffer_after f buffer)
-  unfolding salvage_number_of if◌then◌else◌
+  unfolding salvage_number_of when◌then◌else◌
   answers =
       by_test (salvageable f)
       (λ ok.
@@ -86,7 +87,7 @@ module _ (f buffer : List ℕ) where
       by_test (ltb (length buffer) (length (salvaged_file f)))
       (λ small.
       let short : length buffer < length (salvaged_file f) = ltb-true (length buffer) (length (salvaged_file f)) small in
-      outcome_is NoRoom (answers-20 f (length buffer) ok short) (noRoom tabled (new_salvage f ok) short))
+      outcome_is NoRoom (answers-20 f (length buffer) ok short) (no_room tabled (new_salvage f ok) short))
       (λ large.
       let fits : length (salvaged_file f) ≤ length buffer = ltb-false (length buffer) (length (salvaged_file f)) large in
       outcome_is _ (answers_new f (length buffer) ok fits)
@@ -99,13 +100,13 @@ module _ (f buffer : List ℕ) where
   one_outcome_lem : Bytes f → {a b c d x y z w : ℕ} {u v : List ℕ} → Outcome f buffer a b c d u → Outcome f buffer x y z w v →
       (a ≡ x) × (b ≡ y) × (c ≡ z) × (d ≡ w) × (u ≡ v)
   one_outcome_lem small (wrong_contents n) (wrong_contents o) = (refl, refl, refl, refl, refl)
-  one_outcome_lem small (wrong_contents n) (noRoom t s o) = absurd (n t)
+  one_outcome_lem small (wrong_contents n) (no_room t s o) = absurd (n t)
   one_outcome_lem small (wrong_contents n) (salvaged t s o) = absurd (n t)
-  one_outcome_lem small (noRoom t s n) (wrong_contents o) = absurd (o t)
-  one_outcome_lem small (noRoom t s n) (noRoom r q o) = (refl, refl, refl, refl, refl)
-  one_outcome_lem small (noRoom {new = g} t s n) (salvaged {new = h} r q o) = absurd (omega (arith, ap length (one_new f g h s q small)))
+  one_outcome_lem small (no_room t s n) (wrong_contents o) = absurd (o t)
+  one_outcome_lem small (no_room t s n) (no_room r q o) = (refl, refl, refl, refl, refl)
+  one_outcome_lem small (no_room {new = g} t s n) (salvaged {new = h} r q o) = absurd (omega (arith, ap length (one_new f g h s q small)))
   one_outcome_lem small (salvaged t s n) (wrong_contents o) = absurd (o t)
-  one_outcome_lem small (salvaged {new = g} t s n) (noRoom {new = h} r q o) = absurd (omega (arith, ap length (one_new f g h s q small)))
+  one_outcome_lem small (salvaged {new = g} t s n) (no_room {new = h} r q o) = absurd (omega (arith, ap length (one_new f g h s q small)))
   one_outcome_lem small (salvaged {new = g} t s n) (salvaged {new = h} r q o) =
       let same : g ≡ h = one_new f g h s q small in (
         refl,

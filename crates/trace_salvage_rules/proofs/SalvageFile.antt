@@ -4,7 +4,8 @@
 --     new_laid, new_right, new_bytes               its contents and its records are right, and bytes stay bytes
 --     own, twice                    a right file of bytes is its own salvage, and a new file is
 -- Assumes nothing.
-use Rattle.laws.proofs.Common.{ℕ, zero, suc, ◌*◌, ◌%◌, ◌<◌, ◌≤◌, true, List, [], ◌≡◌, sym, ap, subst, ◌∙◌, arith, length}
+use Rattle.std.specs.Prelude.{◌*◌, ◌%◌, ◌<◌, ◌≤◌, ◌≡◌}
+use Rattle.laws.proofs.Common.{ℕ, zero, suc, true, List, [], sym, ap, subst, ◌∙◌, arith, length}
 use Rattle.laws.proofs.Common.{take, drop, get_or, length-take, length-take-le}
 use Rattle.trace_rules.specs.declared.Entry.{Entry}
 use Rattle.trace_rules.specs.Trace.{section_count, table_end, start_of, size_of, place_of, body_of, entries_in, entries_of, section_level, all_right, all_of, records_right}

@@ -5,8 +5,9 @@
 --     kept_at                      each section, by its level among all that is kept
 --     kept_whole                   right sections are kept whole
 -- Assumes nothing.
-use Rattle.laws.proofs.Common.{ℕ, zero, suc, ◌<◌, ◌≤◌, true, false, List, [], ◌∷◌, ◌≡◌, refl, sym, ap, ◌∙◌, arith, ltb-true}
-use Rattle.laws.proofs.Common.{ltb-false, ltb, length, take, get_or, length-append, List·getD-append, if◌then◌else◌, if_true}
+use Rattle.std.specs.Prelude.{◌<◌, ◌≤◌, ◌∷◌, ◌≡◌}
+use Rattle.laws.proofs.Common.{ℕ, zero, suc, true, false, List, [], refl, sym, ap, ◌∙◌, arith, ltb-true}
+use Rattle.laws.proofs.Common.{ltb-false, ltb, length, take, get_or, length-append, List·getD-append, when◌then◌else◌, if_true}
 use Rattle.laws.proofs.Common.{if_false, and_left, and_right, and_both, by_test}
 use lib.Seq.{get_or_at}
 use Rattle.trace_rules.specs.declared.Entry.{Entry}
@@ -26,7 +27,7 @@ module _ (count level k : ℕ) where
 
   -- What is kept is right,
   pub beginning_right : (es : List Entry) → all_right count level k (beginning count level k es) ≡ true
-  unfolding beginning all_right if◌then◌else◌
+  unfolding beginning all_right when◌then◌else◌
   beginning_right [] = refl
   beginning_right (e ∷ es) =
       by_test (right_record count level k e)
@@ -35,14 +36,14 @@ module _ (count level k : ℕ) where
 
   -- a beginning,
   pub beginning_take : (es : List Entry) → take (length (beginning count level k es)) es ≡ beginning count level k es
-  unfolding beginning if◌then◌else◌
+  unfolding beginning when◌then◌else◌
   beginning_take [] = refl
   beginning_take (e ∷ es) =
       by_test (right_record count level k e) (λ right. rw right (ap (λ (kept : List Entry). e ∷ kept) (beginning_take es)))
       (λ wrong. rw wrong)
 
   pub beginning_length : (es : List Entry) → length (beginning count level k es) ≤ length es
-  unfolding beginning if◌then◌else◌
+  unfolding beginning when◌then◌else◌
   beginning_length [] = omega arith
   beginning_length (e ∷ es) =
       by_test (right_record count level k e) (λ right. rw right (omega (arith, beginning_length es)))

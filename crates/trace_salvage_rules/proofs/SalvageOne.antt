@@ -2,7 +2,8 @@
 --     new_salvage   the file that the rules make meets it
 --     one_new       and no other file of bytes does
 -- Assumes nothing.
-use Rattle.laws.proofs.Common.{ℕ, zero, suc, ◌+◌, ◌*◌, ◌/◌, ◌%◌, ◌<◌, ◌≤◌, true, false, List, ◌≡◌, sym, ap, ap₂, ◌∙◌, arith}
+use Rattle.std.specs.Prelude.{◌+◌, ◌*◌, ◌/◌, ◌%◌, ◌<◌, ◌≤◌, ◌≡◌}
+use Rattle.laws.proofs.Common.{ℕ, zero, suc, true, false, List, sym, ap, ap₂, ◌∙◌, arith}
 use Rattle.laws.proofs.Common.{ltb-true, ltb-false, ltb, length, take, drop, get_or, length-take, length-drop, take-take}
 use Rattle.laws.proofs.Common.{by_test, clash}
 use Rattle.trace_rules.specs.Trace.{section_count, start_of, size_of, body_of, entries_in, entries_of, section_level, right_record}

@@ -2,7 +2,8 @@
 --     table_is, table_end_lem, is_table   by what the rules read of the table of contents
 --     table_tabled, tabled_table      and by the page
 -- Assumes nothing.
-use Rattle.laws.proofs.Common.{ℕ, ◌≤◌, true, List, ◌≡◌, sym, ap, ◌∙◌, arith, leb-true, le-leb, and_left, and_right, and_both}
+use Rattle.std.specs.Prelude.{◌≤◌, ◌≡◌}
+use Rattle.laws.proofs.Common.{ℕ, true, List, sym, ap, ◌∙◌, arith, leb-true, le-leb, and_left, and_right, and_both}
 use Rattle.trace_rules.specs.Trace.{section_count, table_end, place_of, table_right}
 use Rattle.trace_rules.specs.TraceDemands.{sections, end_before}
 use Rattle.trace_page.proofs.TraceContents.{Placed, table_placed, placed_table}

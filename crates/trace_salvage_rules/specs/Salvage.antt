@@ -1,7 +1,7 @@
 -- Document 02, Fourteen: from a trace file that broke off, a new file that Five refuses neither with 17 nor with 18, at the start of a
 -- buffer that the caller lends. What a right record is, and a section's level, are Five's own, over the records kept.
 use Rattle.std.specs.Prelude.{ℕ, zero, suc, ◌+◌, ◌-◌, ◌*◌, Bool, true, false, not, ◌&&◌, List, [], ◌∷◌, ◌++◌, leb, ltb, length, take, get_or}
-use Rattle.laws.specs.Choice.{if◌then◌else◌}
+use Rattle.laws.specs.Choice.{when◌then◌else◌}
 use Rattle.trace_rules.specs.declared.Entry.{Entry}
 use Rattle.trace_rules.specs.Trace.{most_bytes, section_count, size_of, place_of, table_right, body_of, entries_of, section_level, right_record}
 use Rattle.trace_rules.specs.TraceBytes.{file, sections_from, placed}
@@ -16,7 +16,7 @@ salvageable f = table_right f && leb (place_of f (section_count f)) most_bytes
 -- A section is cut before its first wrong record. One that runs past the section's or the file's end is none of its records anyway.
 unfoldable pub beginning : ℕ → ℕ → ℕ → List Entry → List Entry
 beginning count level k [] = []
-beginning count level k (e ∷ es) = if right_record count level k e then e ∷ beginning count level k es else []
+beginning count level k (e ∷ es) = when right_record count level k e then e ∷ beginning count level k es else []
 
 -- What the first `n` sections keep, in file order: each next one by the level that it has over the records kept so far. `s` are the
 -- sections' records, by number.
@@ -51,7 +51,7 @@ sum_below of zero = 0
 sum_below of (suc n) = sum_below of n + of n
 
 unfoldable pub fell_in : List ℕ → List ℕ → ℕ → ℕ
-fell_in f new k = if ltb (size_of new k) (size_of f k) then 1 else 0
+fell_in f new k = when ltb (size_of new k) (size_of f k) then 1 else 0
 
 unfoldable pub sections_cut : List ℕ → List ℕ → ℕ
 sections_cut f new = sum_below (fell_in f new) (section_count f)
@@ -61,10 +61,10 @@ bytes_lost f new = sum_below (size_of f) (section_count f) - sum_below (size_of 
 
 -- The answer: 17, then 20, else what was lost and the new file's length.
 unfoldable pub answer_with : List ℕ → List ℕ → ℕ → Salvaged
-answer_with f new room = if ltb room (length new) then NoRoom else Written (sections_cut f new) (bytes_lost f new) (length new)
+answer_with f new room = when ltb room (length new) then NoRoom else Written (sections_cut f new) (bytes_lost f new) (length new)
 
 unfoldable pub salvaged_of : List ℕ → ℕ → Salvaged
-salvaged_of f room = if not (salvageable f) then BadContents else answer_with f (salvaged_file f) room
+salvaged_of f room = when not (salvageable f) then BadContents else answer_with f (salvaged_file f) room
 
 unfoldable pub salvage_number_of : Salvaged → ℕ
 -- the section count is wrong, the contents are not whole or gapless, or the file or its last stated end passes 65,535
@@ -81,4 +81,4 @@ is_written NoRoom = false
 is_written (Written cut lost n) = true
 
 unfoldable pub buffer_after : List ℕ → List ℕ → List ℕ
-buffer_after f buffer = if is_written (salvaged_of f (length buffer)) then placed (salvaged_file f) buffer else buffer
+buffer_after f buffer = when is_written (salvaged_of f (length buffer)) then placed (salvaged_file f) buffer else buffer

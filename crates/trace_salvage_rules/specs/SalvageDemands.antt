@@ -2,7 +2,7 @@
 -- contents, right records and levels are those of the page of trace files, and files are spoken of by their bytes, so that no rule is
 -- its own judge.
 use Rattle.std.specs.Prelude.{ℕ, zero, suc, ◌+◌, ◌-◌, ◌<◌, ◌≤◌, true, List, ◌++◌, ◌≡◌, ltb, length, take, drop}
-use Rattle.laws.specs.Choice.{if◌then◌else◌}
+use Rattle.laws.specs.Choice.{when◌then◌else◌}
 use Rattle.trace_rules.specs.TraceBytes.{Bytes}
 use Rattle.trace_rules.specs.TraceDemands.{most_bytes, most_sections, sections, start, size, record_at, end_before, Whole, Right, AllRight}
 use Rattle.trace_salvage_rules.specs.declared.Salvaged.{Salvaged}
@@ -44,7 +44,7 @@ pub record Salvage (f new : List ℕ) : Type 0 where
 -- The sections below number `n` whose length fell, and the lengths of those, together.
 abbrev pub fell : List ℕ → List ℕ → ℕ → ℕ
 fell f new zero = 0
-fell f new (suc n) = fell f new n + (if ltb (size new n) (size f n) then 1 else 0)
+fell f new (suc n) = fell f new n + (when ltb (size new n) (size f n) then 1 else 0)
 
 abbrev pub lengths : List ℕ → ℕ → ℕ
 lengths f zero = 0
@@ -57,7 +57,7 @@ pub data Outcome (f buffer : List ℕ) : ℕ → ℕ → ℕ → ℕ → List �
   -- the contents are not whole or gapless, or the file or its last stated end passes 65,535
   wrong_contents : (Tabled f → ⊥) → Outcome f buffer 17 0 0 0 buffer
   -- the buffer is too small
-  noRoom : {new : List ℕ} → Tabled f → Salvage f new → length buffer < length new → Outcome f buffer 20 0 0 0 buffer
+  no_room : {new : List ℕ} → Tabled f → Salvage f new → length buffer < length new → Outcome f buffer 20 0 0 0 buffer
   salvaged : {new : List ℕ} → Tabled f → Salvage f new → length new ≤ length buffer →
       Outcome f buffer 0 (fell f new (sections f)) (lengths f (sections f) - lengths new (sections f)) (length new)
       (new ++ drop (length new) buffer)

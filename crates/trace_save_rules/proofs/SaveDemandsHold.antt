@@ -2,13 +2,13 @@
 --     saves_hold      what the buyer signs for, of saved sessions
 --     buffer_length   the buffer stays as long as it is
 -- Assumes nothing.
-use Rattle.laws.proofs.Common.{ℕ, ◌+◌, ◌*◌, ◌≤◌, Bool, true, false, not, ◌&&◌, ◌||◌, List, [], ◌∷◌, ◌++◌, ◌≡◌, refl, sym, ap}
+use Rattle.std.specs.Prelude.{◌+◌, ◌*◌, ◌≤◌, ◌&&◌, ◌||◌, ◌∷◌, ◌++◌, ◌≡◌}
+use Rattle.laws.proofs.Common.{ℕ, Bool, true, false, not, List, [], refl, sym, ap}
 use Rattle.laws.proofs.Common.{◌∙◌, arith, leb-true, leb, ltb, length, take, drop, length-append, length-drop, take_at}
-use Rattle.laws.proofs.Common.{drop_at, if◌then◌else◌, if_true, if_false, and_left, and_right, by_test}
+use Rattle.laws.proofs.Common.{drop_at, when◌then◌else◌, if_true, if_false, and_left, and_right, by_test}
 use Rattle.module_rules.proofs.Types.{Module, Call}
 use Rattle.module_rules.specs.RefusalTable.{row, first_number}
 use Rattle.module_rules.specs.Calls.{powered_up, after_calls}
-use Rattle.module_rules.specs.Examples.{paper_examples}
 use Rattle.script_rules.specs.Script.{read_from, lines_of, script_calls, script_end}
 use Rattle.trace_rules.specs.declared.Played.TheVariants.{Made}
 use Rattle.trace_rules.specs.Trace.{section_count, file_calls, played_of, is_made, played_module}
@@ -21,8 +21,8 @@ use Rattle.trace_save_rules.proofs.SaveLines.{at_most, kept_calls_lem, all_kept_
 
 -- The row of the table.
 rows_law : (long narrow : Bool) (n : ℕ) →
-    saved_number_of (if not long && not narrow then Written n else NoRoom) ≡ first_number (row 20 (long || narrow) ∷ [])
-unfolding if◌then◌else◌ saved_number_of
+    saved_number_of (when not long && not narrow then Written n else NoRoom) ≡ first_number (row 20 (long || narrow) ∷ [])
+unfolding when◌then◌else◌ saved_number_of
 rows_law true narrow n = refl
 rows_law false true n = refl
 rows_law false false n = refl
@@ -73,7 +73,7 @@ module _ (input : List ℕ) where
         saved_number_of (saved_of input room) ≡ first_number (row 20 (ltb 65535 (file_size input) || ltb room (file_size input)) ∷ [])
     unfolding saved_of
     refused_exactly_lem =
-        ap (λ (t : Bool). saved_number_of (if t then Written (length (saved_file input)) else NoRoom)) fits-is
+        ap (λ (t : Bool). saved_number_of (when t then Written (length (saved_file input)) else NoRoom)) fits-is
         ∙ rows_law (ltb 65535 (file_size input)) (ltb room (file_size input)) (length (saved_file input))
 
     written : has_room (saved_file input) room ≡ true → saved_of input room ≡ Written (length (saved_file input))

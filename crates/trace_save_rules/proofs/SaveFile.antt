@@ -5,8 +5,9 @@
 --     file_played    it is played, and counts its calls
 --     file_calls_lem     and makes them in order
 -- Assumes nothing.
-use Rattle.laws.proofs.Common.{ℕ, zero, suc, ◌+◌, ◌*◌, ◌≤◌, Bool, true, false, not, ◌&&◌, List, [], ◌∷◌, ◌++◌, append-nil}
-use Rattle.laws.proofs.Common.{◌≡◌, refl, ap, ◌∙◌, arith, le-ltb, leb-true, ltb, length, length-append, if◌then◌else◌}
+use Rattle.std.specs.Prelude.{◌+◌, ◌*◌, ◌≤◌, ◌&&◌, ◌∷◌, ◌++◌, ◌≡◌}
+use Rattle.laws.proofs.Common.{ℕ, zero, suc, Bool, true, false, not, List, [], append-nil}
+use Rattle.laws.proofs.Common.{refl, ap, ◌∙◌, arith, le-ltb, leb-true, ltb, length, length-append, when◌then◌else◌}
 use Rattle.laws.proofs.Common.{if_false, and_left, and_right, and_both, clash}
 use Rattle.module_rules.proofs.Types.{Call, Read, Write, Tick, Pin, ClockStep, Clear}
 use Rattle.trace_rules.specs.declared.Entry.{Entry}
@@ -107,8 +108,8 @@ unfolding entries_of file_of
 section cs k = ap entries_in (file_body (record_bytes cs ∷ []) 0 (omega arith)) ∙ records_entries cs k
 
 -- The wires of an argument are those of the page.
-weight : (b : Bool) (n : ℕ) → (if b then n else 0) ≡ n * page.bit b
-unfolding if◌then◌else◌
+weight : (b : Bool) (n : ℕ) → (when b then n else 0) ≡ n * page.bit b
+unfolding when◌then◌else◌
 weight true n = omega arith
 weight false n = omega arith
 

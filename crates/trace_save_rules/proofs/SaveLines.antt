@@ -5,8 +5,9 @@
 --     all_kept_lem       each of them is one that a record can hold
 --     kept_ends      lines that are left out leave the module as it was
 -- Assumes nothing.
-use Rattle.laws.proofs.Common.{ℕ, Bool, true, false, not, List, [], ◌∷◌, ◌++◌, ◌≡◌, refl, sym, ap, ◌∙◌, ltb-true, ltb-false}
-use Rattle.laws.proofs.Common.{lt-ltb, leb-false, le-leb, lt-leb, leb, ltb, if◌then◌else◌, if_not, if_keeps, if_true, by_test}
+use Rattle.std.specs.Prelude.{◌∷◌, ◌++◌, ◌≡◌}
+use Rattle.laws.proofs.Common.{ℕ, Bool, true, false, not, List, [], refl, sym, ap, ◌∙◌, ltb-true, ltb-false}
+use Rattle.laws.proofs.Common.{lt-ltb, leb-false, le-leb, lt-leb, leb, ltb, when◌then◌else◌, if_not, if_keeps, if_true, by_test}
 use Rattle.laws.proofs.Common.{and_both, clash}
 use Rattle.module_rules.proofs.Types.{Module, Call, Outcome, Read, Write, Tick, Pin, ClockStep, Clear}
 use Rattle.module_rules.specs.RefusalTable.{asks, is_clock_step}
@@ -53,7 +54,7 @@ keeps_is Clear p = refl
 one_kept : (line : Line) → plain line ≡ true → kept_of line ≡ line_kept line
 unfolding kept_of
 one_kept Unreadable p = refl
-one_kept (Asked c) p = ap (λ (b : Bool). if b then c ∷ [] else []) (keeps_is c p) ∙ if_not (ltb 3 (asks c).register) (c ∷ []) []
+one_kept (Asked c) p = ap (λ (b : Bool). when b then c ∷ [] else []) (keeps_is c p) ∙ if_not (ltb 3 (asks c).register) (c ∷ []) []
 
 pub kept_calls_lem : (lines : List (List ℕ)) → kept_from lines ≡ lines_kept lines
 unfolding kept_from

@@ -1,7 +1,7 @@
 -- Document 02, Six: a script session is saved as a trace file of one section, at the start of a buffer that the caller lends. The
 -- session is what the script program reads of its input.
 use Rattle.std.specs.Prelude.{ℕ, ◌+◌, Bool, true, false, ◌&&◌, List, [], ◌∷◌, ◌++◌, leb, length}
-use Rattle.laws.specs.Choice.{if◌then◌else◌}
+use Rattle.laws.specs.Choice.{when◌then◌else◌}
 use Rattle.module_types.specs.declared.Call.{Call}
 use Rattle.module_types.specs.declared.Call.TheVariants.{Read, Write, Tick, Pin, ClockStep, Clear}
 use Rattle.script_rules.specs.declared.Line.{Line}
@@ -23,7 +23,7 @@ keeps Clear = true
 
 unfoldable pub kept_of : Line → List Call
 kept_of Unreadable = []
-kept_of (Asked c) = if keeps c then c ∷ [] else []
+kept_of (Asked c) = when keeps c then c ∷ [] else []
 
 unfoldable pub kept_from : List (List ℕ) → List Call
 kept_from [] = []
@@ -34,7 +34,7 @@ kept_calls input = kept_from (lines_of (read_from input))
 
 -- The levels of the wires as an argument: bit 0 is SDI, bit 1 SCK, bit 2 SS.
 unfoldable pub wires : Bool → Bool → Bool → ℕ
-wires sdi sck ss = (if sdi then 1 else 0) + (if sck then 2 else 0) + (if ss then 4 else 0)
+wires sdi sck ss = (when sdi then 1 else 0) + (when sck then 2 else 0) + (when ss then 4 else 0)
 
 -- A call as a record: kinds 0 to 4 are write, read, tick, pins and clear. What a kind does not use is 0.
 unfoldable pub record_of : Call → List ℕ
@@ -62,11 +62,11 @@ has_room f room = leb (length f) 65535 && leb (length f) room
 
 -- The answer: the file's length, or 20.
 unfoldable pub saved_of : List ℕ → ℕ → Saved
-saved_of input room = if has_room (saved_file input) room then Written (length (saved_file input)) else NoRoom
+saved_of input room = when has_room (saved_file input) room then Written (length (saved_file input)) else NoRoom
 
 -- The buffer after it: the file, and behind it the bytes of before. A refused save leaves all of them.
 unfoldable pub buffer_after : List ℕ → List ℕ → List ℕ
-buffer_after input buffer = if has_room (saved_file input) (length buffer) then placed (saved_file input) buffer else buffer
+buffer_after input buffer = when has_room (saved_file input) (length buffer) then placed (saved_file input) buffer else buffer
 
 -- The numbers of an answer: that of the refusal, 0 if saved; and the file's length, 0 if refused.
 unfoldable pub saved_number_of : Saved → ℕ

@@ -1,6 +1,6 @@
 -- The customer's demands on saved sessions. The record Saves holds every statement, and proofs/SaveDemandsHold.antt proves it.
 use Rattle.std.specs.Prelude.{ℕ, ◌+◌, ◌*◌, true, ◌||◌, List, [], ◌∷◌, ◌++◌, ◌≡◌, ltb, length, take, drop}
-use Rattle.laws.specs.Choice.{if◌then◌else◌}
+use Rattle.laws.specs.Choice.{when◌then◌else◌}
 use Rattle.module_types.specs.declared.Module.{Module}
 use Rattle.module_types.specs.declared.Call.{Call}
 use Rattle.module_rules.specs.RefusalTable.{row, first_number, asks}
@@ -16,7 +16,7 @@ use Rattle.trace_save_rules.specs.SaveExamples.{save_examples}
 -- The call of a line that is kept. A line that cannot be read, which gets 9, is left out, and so is one that names a register above 3.
 abbrev pub line_kept : Line → List Call
 line_kept Unreadable = []
-line_kept (Asked c) = if ltb 3 (asks c).register then [] else c ∷ []
+line_kept (Asked c) = when ltb 3 (asks c).register then [] else c ∷ []
 
 -- The calls of the lines of a session that are kept, in order.
 abbrev pub lines_kept : List (List ℕ) → List Call

@@ -6,7 +6,8 @@
 --     too_long_lem, too_large, fitting    whether it has_room, by the bytes of its records
 --     refused, saved                  what a save answers, and the buffer after it
 -- Assumes nothing.
-use Rattle.laws.proofs.Common.{ℕ, ◌+◌, ◌*◌, ◌≤◌, ◌<◌, true, false, List, [], ◌++◌, append-nil, ◌≡◌, refl, sym, ap, ap₂, ◌∙◌}
+use Rattle.std.specs.Prelude.{◌+◌, ◌*◌, ◌≤◌, ◌<◌, ◌++◌, ◌≡◌}
+use Rattle.laws.proofs.Common.{ℕ, true, false, List, [], append-nil, refl, sym, ap, ap₂, ◌∙◌}
 use Rattle.laws.proofs.Common.{arith, le-leb, lt-leb, leb, length, take, drop, get_or, so, not_so, and_both, and-false}
 use Rattle.laws.proofs.Common.{and_first}
 use Rattle.module_types.specs.declared.Call.{Call}

@@ -7,7 +7,8 @@
 --     kept_at_most                      no more lines are kept than there are bytes
 --     records_append                    the records of calls one behind the other
 -- Assumes nothing.
-use Rattle.laws.proofs.Common.{ℕ, ◌+◌, ◌≤◌, ◌<◌, true, false, List, [], ◌∷◌, ◌++◌, append_assoc, ◌≡◌, refl, sym, ap, ◌∙◌}
+use Rattle.std.specs.Prelude.{◌+◌, ◌≤◌, ◌<◌, ◌∷◌, ◌++◌, ◌≡◌}
+use Rattle.laws.proofs.Common.{ℕ, true, false, List, [], append_assoc, refl, sym, ap, ◌∙◌}
 use Rattle.laws.proofs.Common.{arith, leb-true, length, drop, drop_of_length-le, length-append, length-drop, drop-drop}
 use Rattle.laws.proofs.Common.{if_keeps, if_true, if_false}
 use Rattle.module_rules.proofs.Types.{Call, Read, Write}

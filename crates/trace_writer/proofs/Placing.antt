@@ -6,7 +6,8 @@
 --     Heading              what holds besides of the loop that writes a table of contents
 --     parts_from            what is left of the sections
 -- Assumes nothing.
-use Rattle.laws.proofs.Common.{ℕ, zero, suc, ◌+◌, ◌-◌, ◌*◌, ◌<◌, ◌≤◌, List, [], ◌∷◌, ◌++◌, ◌≡◌, refl, sym, ap, ◌∙◌, arith}
+use Rattle.std.specs.Prelude.{◌+◌, ◌-◌, ◌*◌, ◌<◌, ◌≤◌, ◌∷◌, ◌++◌, ◌≡◌}
+use Rattle.laws.proofs.Common.{ℕ, zero, suc, List, [], refl, sym, ap, ◌∙◌, arith}
 use Rattle.laws.proofs.Common.{length, drop, get_or, set, length-append}
 use native.Mathlib.Numerals.{add-one}
 use lib.Seq.{sets, sets-eq}

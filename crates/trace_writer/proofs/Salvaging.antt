@@ -7,9 +7,10 @@
 --     refused_17, refused_20         a refusal leaves the buffer
 --     new_within, salvaged           the new file, written in two parts
 -- Assumes nothing.
-use Rattle.laws.proofs.Common.{ℕ, zero, suc, ◌+◌, ◌-◌, ◌*◌, ◌/◌, ◌<◌, ◌≤◌, Bool, true, false, not, List, [], ◌∷◌, ◌++◌, ◌≡◌}
+use Rattle.std.specs.Prelude.{◌+◌, ◌-◌, ◌*◌, ◌/◌, ◌<◌, ◌≤◌, ◌∷◌, ◌++◌, ◌≡◌}
+use Rattle.laws.proofs.Common.{ℕ, zero, suc, Bool, true, false, not, List, []}
 use Rattle.laws.proofs.Common.{refl, sym, ap, ap₂, subst, ◌∙◌, arith, le-leb, lt-leb, ltb, length, take, get_or, set}
-use Rattle.laws.proofs.Common.{length-set, length-append, replicate, take_all, length-take-le, if◌then◌else◌, so, not_so}
+use Rattle.laws.proofs.Common.{length-set, length-append, replicate, take_all, length-take-le, when◌then◌else◌, so, not_so}
 use Rattle.laws.proofs.Common.{so_lt, if_true, if_false, and_both, and_first, and-false}
 use Rattle.script_rules.specs.Texts.{put, Written}
 use Rattle.trace_rules.specs.declared.Entry.{Entry}
@@ -78,7 +79,7 @@ module _ {count level k : ℕ} {body first levels : List ℕ} {at : ℕ} (g : Go
 
   -- The next record, whether it is right, and the levels behind it.
   module _ {e : Entry} {r : Bool} {next : List ℕ} (more : at + 4 ≤ length body) (reads : e ≡ entry_at body at)
-      (is : r ≡ right_record count level k e) (after : next ≡ (if r then raised_one level levels e else levels)) where
+      (is : r ≡ right_record count level k e) (after : next ≡ (when r then raised_one level levels e else levels)) where
     here : entries_at body ((length body - at) / 4) at ≡ e ∷ entries_at body ((length body - (at + 4)) / 4) (at + 4)
     here =
         entries_more body ((length body - at) / 4) at (omega arith)
@@ -179,7 +180,7 @@ module _ (f : List ℕ) (ok : salvageable f ≡ true) {n : ℕ} {sizes levels : 
 
   pub keeping_goes_on : (body raised sizes' : List ℕ) (size fell : ℕ) → body ≡ body_of f k →
       Told (section_count f) (get_or levels k 0) k body levels raised size →
-      fell ≡ (if ltb size (size_of f k) then 1 else 0) → fell ≤ 1 → sizes' ≡ set sizes k size →
+      fell ≡ (when ltb size (size_of f k) then 1 else 0) → fell ≤ 1 → sizes' ≡ set sizes k size →
       Keeping f n sizes' raised (cut + fell) (end + size) (k + 1)
   unfolding sum_below fell_in
   keeping_goes_on body raised sizes' size fell is (kept, raises) falls one put_in =
@@ -194,7 +195,7 @@ module _ (f : List ℕ) (ok : salvageable f ≡ true) {n : ℕ} {sizes levels : 
             subst (LevelsAt (among (kept_of f)) (k + 1))
             (sym (raises ∙ ap₂ (λ (l : ℕ) (es : List Entry). raised_by l levels es) level (keeps_that body is)))
             (levels_next (among (kept_of f)) k levels h.levelled);
-        cuts = ap₂ (λ (a b : ℕ). a + b) h.cuts (falls ∙ ap (λ (m : ℕ). if ltb m (size_of f k) then 1 else 0) that) ∙ sym next;
+        cuts = ap₂ (λ (a b : ℕ). a + b) h.cuts (falls ∙ ap (λ (m : ℕ). when ltb m (size_of f k) then 1 else 0) that) ∙ sym next;
         few = omega (arith, h.few);
         ends = omega (arith, h.ends, that, new_next f ok k);
         sized =

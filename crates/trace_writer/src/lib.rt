@@ -1,7 +1,9 @@
 // Trace files written at the start of a lent buffer: a script session that is saved, and what is salvaged of a cut file. In both the
 // sizes of the sections are counted first, and only if the file fits, its table of contents and its sections are written.
+#![tactic(auto)]
+
 ghost use Rattle.std.specs.Prelude.{◌+◌, ◌*◌, ◌≤◌, ◌<◌, true, [], ◌∷◌, ◌≡◌, ltb, length, get_or};
-ghost use Rattle.laws.specs.Choice.{if◌then◌else◌};
+ghost use Rattle.laws.specs.Choice.{when◌then◌else◌};
 ghost use Rattle.script_rules.specs.Script.{lines_of};
 ghost use Rattle.script_rules.specs.Texts.{Written};
 ghost use Rattle.trace_rules.specs.Trace.{section_count, entries_in};
@@ -141,7 +143,7 @@ fn put_head(out: &mut [u8], n: u16, sizes: &[u16; 64]) -> usize
 
 // A bit of an argument, if it is set.
 fn weight(bit: bool, w: u8) -> u8
-    ensures { (result ≡ (if bit then w else 0)) × (result ≤ w) }
+    ensures { (result ≡ (when bit then w else 0)) × (result ≤ w) }
 {
     if bit {
         return w;
@@ -248,7 +250,7 @@ fn keep_section(f: &[u8], k: u16, body: &[u8], levels: &mut [u8; 256]) -> usize
 
 // One if a length fell, else none.
 fn fell(now: usize, before: usize) -> u16
-    ensures { (result ≡ (if ltb now before then 1 else 0)) × (result ≤ 1) }
+    ensures { (result ≡ (when ltb now before then 1 else 0)) × (result ≤ 1) }
 {
     if now < before {
         return 1;
@@ -257,7 +259,7 @@ fn fell(now: usize, before: usize) -> u16
 }
 
 // What is known of a new file before it is written: the sections that are cut, and how many bytes it has.
-#[derive(Drop)]
+#[derive(Clone, Copy)]
 struct Tally {
     cut: u16,
     end: usize,

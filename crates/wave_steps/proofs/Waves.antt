@@ -2,7 +2,8 @@
 --     binary_digits    a number in binary is so many digits in base two
 --     buffer_stays     a lent buffer stays as long as it is
 -- Assumes nothing.
-use Rattle.laws.proofs.Common.{ℕ, zero, suc, ◌/◌, ◌%◌, List, ◌≡◌, refl, ap, ◌∙◌, arith, length}
+use Rattle.std.specs.Prelude.{◌/◌, ◌%◌, ◌≡◌}
+use Rattle.laws.proofs.Common.{ℕ, zero, suc, List, refl, ap, ◌∙◌, arith, length}
 use Rattle.script_rules.specs.Texts.{Written}
 use Rattle.script_rules.proofs.Texts.{put_length}
 use Rattle.script_digits.specs.Digits.{digits_of}

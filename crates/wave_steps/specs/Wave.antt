@@ -2,7 +2,7 @@
 -- is the byte that stands for it in the file.
 use Rattle.std.specs.Prelude.{ℕ, zero, suc, ◌+◌, ◌/◌, ◌%◌, Bool, List, [], ◌∷◌, ◌++◌, eqb, ltb}
 use Prim.Native.Char.{code}
-use Rattle.laws.specs.Choice.{if◌then◌else◌}
+use Rattle.laws.specs.Choice.{when◌then◌else◌}
 use Rattle.module_types.specs.declared.Module.{Module}
 use Rattle.module_types.specs.declared.Shift.{Shift}
 use Rattle.module_types.specs.declared.Shift.TheVariants.{Free, Loaded, Begun}
@@ -22,7 +22,7 @@ use Rattle.wave_steps.specs.declared.Shown.{Shown}
 
 -- A level that an enabled module makes or sees; a disabled one does neither.
 unfoldable pub level_if : Bool → Bool → ℕ
-level_if enabled high = if enabled then level_digit high else code "z"
+level_if enabled high = when enabled then level_digit high else code "z"
 
 -- A pin that the module may drive: its level, and another byte where it does not.
 unfoldable pub driven_or : ℕ → Output → ℕ
@@ -110,15 +110,15 @@ binary_of zero n = []
 binary_of (suc places) n = binary_of places (n / 2) ++ ((code "0" + n % 2) ∷ [])
 
 unfoldable pub value_of : ℕ → ℕ → List ℕ
-value_of places n = if ltb 65535 n then code "z" ∷ [] else binary_of places n
+value_of places n = when ltb 65535 n then code "z" ∷ [] else binary_of places n
 
 -- A level that is another than before, and a number, each with the letter by which the file knows it.
 unfoldable pub level_change : ℕ → ℕ → ℕ → List ℕ
-level_change name old new = if eqb old new then [] else new ∷ name ∷ lf ∷ []
+level_change name old new = when eqb old new then [] else new ∷ name ∷ lf ∷ []
 
 unfoldable pub number_change : ℕ → ℕ → ℕ → ℕ → List ℕ
 number_change name places old new =
-    if eqb old new then [] else code "b" ∷ (value_of places new ++ (space ∷ name ∷ lf ∷ []))
+    when eqb old new then [] else code "b" ∷ (value_of places new ++ (space ∷ name ∷ lf ∷ []))
 
 -- All that is another than before, in the order of the file's head.
 unfoldable pub level_changes : Shown → Shown → List ℕ

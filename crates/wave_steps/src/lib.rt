@@ -1,5 +1,7 @@
 // A waveform of a module in the form of a VCD file: what is shown of the module after each call, and the bytes of what changed, step
 // by step into a lent buffer.
+#![tactic(auto)]
+
 ghost use Rattle.std.specs.Prelude.{◌+◌, ◌≤◌, ◌<◌, ◌≡◌, [], ◌∷◌, length};
 ghost use Rattle.script_rules.specs.Script.{level_digit, line_after};
 ghost use Rattle.script_rules.specs.Texts.{Written};
@@ -12,7 +14,7 @@ use script_rules::Line;
 
 // What a waveform shows of a module. A level is its byte in the file: 0, 1, z where nobody drives it, x before it is known. A word that
 // is not there is 65,536.
-#[derive(Drop)]
+#[derive(Clone, Copy)]
 pub struct Shown {
     pub sck: u8,
     pub sdo: u8,
@@ -27,7 +29,7 @@ pub struct Shown {
 }
 
 // What a step returns: what is shown after it, and how many bytes were written.
-#[derive(Drop)]
+#[derive(Clone, Copy)]
 pub struct Stepped {
     pub shown: Shown,
     pub written: usize,

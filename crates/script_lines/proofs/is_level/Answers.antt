@@ -1,0 +1,8 @@
+-- `script_lines::is_level` meets its contract: the test is the definition. Assumes nothing.
+use mathlib.Core.Path.{refl}
+use Rattle.script_rules.specs.Script.{between, fits_place}
+use Rattle.script_lines.proofs.is_level.Goals as goal
+
+pub returns : goal.returns
+unfolding fits_place between
+returns c = refl

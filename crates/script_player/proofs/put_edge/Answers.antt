@@ -1,0 +1,10 @@
+-- A level, a space and what a pin call tells, one behind the other.
+use Rattle.module_rules.specs.Calls.{sck_of}
+use Rattle.script_rules.specs.Script.{edge_text}
+use Rattle.script_rules.proofs.Texts.{written_then}
+use Rattle.script_player.proofs.put_edge.Goals as goal
+
+pub returns : goal.returns
+unfolding edge_text sck_of
+returns c =
+    rw (c.level_letter.ensures, c.pins_in-pins.ensures) at (written_then c.put-second.ensures (written_then c.put-third.ensures c.put_pins.ensures))

@@ -1,0 +1,17 @@
+-- `trace_numbers::word_at` meets its contract: two bytes and two more, or 0 beyond the end. Assumes nothing.
+use Rattle.laws.proofs.Common.{sym, arith}
+use Rattle.trace_rules.specs.Trace.{word_at}
+use Rattle.trace_numbers.proofs.Numbers.{word_beyond}
+use Rattle.trace_numbers.proofs.word_at.Goals as goal
+
+pub returns-then-f-i : goal.returns-then-f-i
+unfolding word_at
+returns-then-f-i c = sym (word_beyond _ _ c.if-f-i.true)
+
+pub returns-then-f-i-lt4 : goal.returns-then-f-i-lt4
+unfolding word_at
+returns-then-f-i-lt4 c = omega arith
+
+pub returns : goal.returns
+unfolding word_at
+returns c = omega arith
