@@ -6,9 +6,10 @@
 --     refuses_list, refuses_module, refuses_not   the board's test, by what it finds
 --     pair_refused                                that of a linked run, by the tests of its two modules
 -- Assumes nothing.
-use Rattle.laws.proofs.Common.{ℕ, ◌<◌, ◌≤◌, ◌*◌, ◌%◌, Bool, true, false, ◌||◌, true≢false, List, [], ◌∷◌, ◌≡◌, refl, sym}
+use Rattle.std.specs.Prelude.{◌<◌, ◌≤◌, ◌*◌, ◌%◌, ◌||◌, ◌∷◌, ◌≡◌}
+use Rattle.laws.proofs.Common.{ℕ, Bool, true, false, true≢false, List, [], refl, sym}
 use Rattle.laws.proofs.Common.{subst, ◌∙◌, arith, lt-ltb, le-ltb, le-leb, lt-leb, eq-eqb, ne_eqb, ltb, leb, eqb}
-use Rattle.laws.proofs.Common.{if◌then◌else◌, not_so_eq, if_true, if_false}
+use Rattle.laws.proofs.Common.{when◌then◌else◌, not_so_eq, if_true, if_false}
 use lib.Ieee.{Float}
 use Rattle.module_types.specs.declared.Call.{Call}
 use Rattle.module_rules.specs.RefusalTable.{row, first_number}
@@ -94,15 +95,15 @@ right {count} h k = rw (le-ltb count 1 h, le-ltb 4 count k) refl
 
 module _ (count owed n : ℕ) where
   pub refuses_list : bad count ≡ true → both_in (owed % 65536) (21 * 65536) ≡ refused_call count owed n
-  unfolding bad call_fault refused_number if◌then◌else◌
+  unfolding bad call_fault refused_number when◌then◌else◌
   refuses_list b = rw b
 
   pub refuses_module : bad count ≡ false → count ≤ n → both_in (owed % 65536) (22 * 65536) ≡ refused_call count owed n
-  unfolding bad call_fault refused_number if◌then◌else◌
+  unfolding bad call_fault refused_number when◌then◌else◌
   refuses_module b h = rw (b, le-leb count n h)
 
   pub refuses_not : bad count ≡ false → n < count → 0 ≡ refused_call count owed n
-  unfolding bad call_fault refused_number if◌then◌else◌
+  unfolding bad call_fault refused_number when◌then◌else◌
   refuses_not b h = rw (b, lt-leb count n h)
 
 -- The test of a linked run, by those of its two modules: what the first refuses is refused so; if it refuses nothing, the same
@@ -111,18 +112,18 @@ module _ (owed : ℕ) where
   abbrev tested : Bool → Bool → ℕ
   tested list missing = refused_number owed (first_number (row 21 list ∷ row 22 missing ∷ []) * 65536)
 
-  stops : (x number other : ℕ) {first r : ℕ} → 1 ≤ number → first ≡ both_in x number → r ≡ (if eqb first 0 then other else first) →
+  stops : (x number other : ℕ) {first r : ℕ} → 1 ≤ number → first ≡ both_in x number → r ≡ (when eqb first 0 then other else first) →
       r ≡ both_in x number
   unfolding both_in
   stops x number other {first} some e h = h ∙ if_false (eqb first 0) _ _ (ne_eqb first 0 (omega arith)) ∙ e
 
-  goes_on : (other : ℕ) {first r : ℕ} → first ≡ 0 → r ≡ (if eqb first 0 then other else first) → r ≡ other
+  goes_on : (other : ℕ) {first r : ℕ} → first ≡ 0 → r ≡ (when eqb first 0 then other else first) → r ≡ other
   goes_on other {first} e h = h ∙ if_true (eqb first 0) _ _ (eq-eqb first 0 e)
 
   pub by_two : (list here there same : Bool) {first r : ℕ} → first ≡ tested list here →
-      r ≡ (if eqb first 0 then if same then both_in (owed % 65536) (22 * 65536) else tested list there else first) →
+      r ≡ (when eqb first 0 then when same then both_in (owed % 65536) (22 * 65536) else tested list there else first) →
       r ≡ tested list (here || (there || same))
-  unfolding refused_number if◌then◌else◌
+  unfolding refused_number when◌then◌else◌
   by_two true here there same e h = stops (owed % 65536) (21 * 65536) _ (omega arith) e h
   by_two false true there same e h = stops (owed % 65536) (22 * 65536) _ (omega arith) e h
   by_two false false true true e h = goes_on _ e h
@@ -131,7 +132,7 @@ module _ (owed : ℕ) where
   by_two false false false false e h = goes_on _ e h
 
 pub pair_refused : (count owed a b : ℕ) {first r : ℕ} → first ≡ refused_call count owed a →
-    r ≡ (if eqb first 0 then if eqb a b then both_in (owed % 65536) (22 * 65536) else refused_call count owed b else first) →
+    r ≡ (when eqb first 0 then when eqb a b then both_in (owed % 65536) (22 * 65536) else refused_call count owed b else first) →
     r ≡ refused_pair count owed a b
 unfolding call_fault pair_fault
 pair_refused count owed a b = by_two owed (ltb count 1 || ltb 4 count) (leb count a) (leb count b) (eqb a b)

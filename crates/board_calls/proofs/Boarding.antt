@@ -3,7 +3,8 @@
 --     refused_leaves, made_answer, made_leaves      a call of one module
 --     pair_refused_leaves, pair_made_is, pair_made_leaves      a linked run of two
 -- Assumes nothing.
-use Rattle.laws.proofs.Common.{ℕ, zero, suc, ◌<◌, ◌≤◌, List, [], ◌∷◌, ◌≡◌, refl, sym, ap, ◌∙◌, arith, length, set}
+use Rattle.std.specs.Prelude.{◌<◌, ◌≤◌, ◌∷◌, ◌≡◌}
+use Rattle.laws.proofs.Common.{ℕ, zero, suc, List, [], refl, sym, ap, ◌∙◌, arith, length, set}
 use Rattle.laws.proofs.Common.{get_or-set_other}
 use lib.Ieee.{Float}
 use Rattle.module_types.specs.declared.Module.{Module}

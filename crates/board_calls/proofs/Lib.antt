@@ -1,6 +1,5 @@
 -- What the proofs of several functions use, here and in crate thurafeqa, and that no two outcomes meet a contract.
 pub mod Asks
 pub mod Boarding
-pub mod Lent
 pub mod Owing
 pub mod OneOutcome

@@ -4,7 +4,8 @@
 --     make_one, join_one            the same over the numbers of the records alone
 --     question_one                  the question
 -- Assumes nothing.
-use Rattle.laws.proofs.Common.{ℕ, Bool, List, [], ◌≡◌, sym, ◌∙◌, replicate, length-replicate}
+use Rattle.std.specs.Prelude.{◌≡◌}
+use Rattle.laws.proofs.Common.{ℕ, Bool, List, [], sym, ◌∙◌, replicate, length-replicate}
 use lib.Ieee.{Float}
 use Rattle.module_types.specs.declared.Module.{Module}
 use Rattle.module_rules.specs.Calls.{powered_up}

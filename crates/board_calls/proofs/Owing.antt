@@ -8,10 +8,10 @@
 --     owed_inside, owed_refused, owed_made     a call of one module of the list
 --     owed_insides, owed_pair_refused, owed_pair_made     a linked run of two
 -- Assumes nothing.
-use Rattle.laws.proofs.Common.{ℕ, ◌+◌, ◌*◌, ◌-◌, ◌%◌, ◌<◌, ◌≤◌, Bool, true, false, not, ◌&&◌, ◌||◌, List, ◌≡◌, refl, sym, ap}
-use Rattle.laws.proofs.Common.{ap₂, ◌∙◌, arith, eqb-true, eqb-false, eq-eqb, ne_eqb, leb-true, leb-false, T, eqb, ltb, leb}
-use Rattle.laws.proofs.Common.{ltb→lt, length, if◌then◌else◌, by_case, if_keeps, if_true, if_false, by_test}
-use lib.Dec.{nltb→le}
+use Rattle.std.specs.Prelude.{◌+◌, ◌*◌, ◌-◌, ◌%◌, ◌<◌, ◌≤◌, ◌&&◌, ◌||◌, ◌≡◌}
+use Rattle.laws.proofs.Common.{ℕ, Bool, true, false, not, List, refl, sym, ap}
+use Rattle.laws.proofs.Common.{ap₂, ◌∙◌, arith, eqb-true, eqb-false, eq-eqb, ne_eqb, leb-true, leb-false, eqb, leb}
+use Rattle.laws.proofs.Common.{length, when◌then◌else◌, by_case, if_keeps, if_true, if_false, by_test}
 use lib.Ieee.{Float}
 use Rattle.module_rules.proofs.Types.{Settings, Progress, Shift, Free, Loaded, Begun, Module}
 use Rattle.module_rules.specs.Settings.{ssen_client}
@@ -35,14 +35,14 @@ use Rattle.board_calls.proofs.Boarding.{as_many, holds_set, holds_at, inside, re
 
 -- A begun word, by the tests one after the other.
 by_tests : (x y : ℕ) (filler host ssen : Bool) →
-    (if filler then x else if host then y else if not host && ssen then x else y) ≡ (if filler || (not host && ssen) then x else y)
-unfolding if◌then◌else◌
+    (when filler then x else when host then y else when not host && ssen then x else y) ≡ (when filler || (not host && ssen) then x else y)
+unfolding when◌then◌else◌
 by_tests x y true host ssen = refl
 by_tests x y false true ssen = refl
 by_tests x y false false ssen = refl
 
 pub begun_counts : (s : Settings) (p : Progress) {sh : Shift} {r : ℕ} → sh ≡ Begun p →
-    r ≡ (if p.filler then 0 else if s.con1.msten then 1 else if ssen_client s then 0 else 1) → r ≡ in_shift s sh
+    r ≡ (when p.filler then 0 else when s.con1.msten then 1 else when ssen_client s then 0 else 1) → r ≡ in_shift s sh
 unfolding in_shift
 begun_counts s p e h = by_case (in_shift s) e (h ∙ by_tests 0 1 p.filler s.con1.msten _)
 
@@ -99,25 +99,25 @@ within_owed owed on = let same = within_counts on in at_most _ (λ h. omega arit
 
 -- The number that the board's test gives: the total and the refusal, or 0.
 module _ (owed number : ℕ) {r : ℕ} (e : r ≡ refused_number owed (number * 65536)) where
-  told_refused : T (ltb 0 r) → (1 ≤ number) × (r ≡ both_in (owed % 65536) (number * 65536))
+  told_refused : 0 < r → (1 ≤ number) × (r ≡ both_in (owed % 65536) (number * 65536))
   unfolding refused_number
   told_refused h =
       by_test (eqb (number * 65536) 0)
-      (λ on. absurd (omega (arith, ltb→lt 0 r h, e ∙ if_true _ _ _ on)))
+      (λ on. absurd (omega (arith, h, e ∙ if_true _ _ _ on)))
       (λ off. (omega (arith, eqb-false (number * 65536) 0 off), e ∙ if_false _ _ _ off))
 
-  told-handed : T (not (ltb 0 r)) → number ≡ 0
+  told-handed : r ≤ 0 → number ≡ 0
   unfolding refused_number both_in
   told-handed h =
       by_test (eqb (number * 65536) 0)
       (λ on. omega (arith, eqb-true (number * 65536) 0 on))
-      (λ off. absurd (omega (arith, nltb→le 0 r h, e ∙ if_false _ _ _ off, eqb-false (number * 65536) 0 off)))
+      (λ off. absurd (omega (arith, h, e ∙ if_false _ _ _ off, eqb-false (number * 65536) 0 off)))
 
 -- A choice by whether a number is 0.
-handed_on : {A : Type 0} {n : ℕ} (x y : A) → n ≡ 0 → (if eqb n 0 then x else y) ≡ x
+handed_on : {A : Type 0} {n : ℕ} (x y : A) → n ≡ 0 → (when eqb n 0 then x else y) ≡ x
 handed_on {n = n} x y e = if_true (eqb n 0) x y (eq-eqb n 0 e)
 
-not_handed : {A : Type 0} {n : ℕ} (x y : A) → 1 ≤ n → (if eqb n 0 then x else y) ≡ y
+not_handed : {A : Type 0} {n : ℕ} (x y : A) → 1 ≤ n → (when eqb n 0 then x else y) ≡ y
 not_handed {n = n} x y h = if_false (eqb n 0) x y (ne_eqb n 0 (omega arith))
 
 -- A call of one module of the list.
@@ -129,10 +129,10 @@ module _ (owed n : ℕ) (cs : List Cells) {r : ℕ} (t : r ≡ refused_call (len
   unfolding call_fault
   tested = t ∙ rw (as_many cs)
 
-  pub owed_inside : T (not (ltb 0 r)) → n < length cs
+  pub owed_inside : r ≤ 0 → n < length cs
   owed_inside h = inside n cs Look (told-handed owed _ tested h)
 
-  pub owed_refused : (c : BoardCall) (floats : List Float) → T (ltb 0 r) → OwedTells owed n c r floats floats cs cs
+  pub owed_refused : (c : BoardCall) (floats : List Float) → 0 < r → OwedTells owed n c r floats floats cs cs
   unfolding refuse_call board_number
   owed_refused c floats h =
       let refused = told_refused owed _ tested h in
@@ -143,7 +143,7 @@ module _ (owed n : ℕ) (cs : List Cells) {r : ℕ} (t : r ≡ refused_call (len
         leaves = refused_leaves n cs c floats refused.0;
       }
 
-  pub owed_made : (c : BoardCall) (x : ℕ) (floats floatsAt : List Float) (ws : List ℕ) → T (not (ltb 0 r)) →
+  pub owed_made : (c : BoardCall) (x : ℕ) (floats floatsAt : List Float) (ws : List ℕ) → r ≤ 0 →
       MakesOwed owed c x floats floatsAt (numbers_at cs n) ws → OwedTells owed n c x floats floatsAt cs (with_numbers cs n ws)
   owed_made c x floats floatsAt ws h m =
       let handed = told-handed owed _ tested h in
@@ -168,10 +168,10 @@ module _ (owed a b limit : ℕ) (cs : List Cells) {r : ℕ} (t : r ≡ refused_p
   unfolding pair_fault
   pair_tested = t ∙ rw (as_many cs)
 
-  pub owed_insides : T (not (ltb 0 r)) → (a < length cs) × ((b < length cs) × (a ≡ b → ⊥))
+  pub owed_insides : r ≤ 0 → (a < length cs) × ((b < length cs) × (a ≡ b → ⊥))
   owed_insides h = insides a b limit cs (told-handed owed _ pair_tested h)
 
-  pub owed_pair_refused : T (ltb 0 r) → OwedPairTells owed a b limit r cs cs
+  pub owed_pair_refused : 0 < r → OwedPairTells owed a b limit r cs cs
   unfolding refuse_pair pair_number
   owed_pair_refused h =
       let refused = told_refused owed _ pair_tested h in
@@ -183,7 +183,7 @@ module _ (owed a b limit : ℕ) (cs : List Cells) {r : ℕ} (t : r ≡ refused_p
         leaves = pair_refused_leaves a b limit cs refused.0;
       }
 
-  pub owed_pair_made : (x : ℕ) (host client : List ℕ) → T (not (ltb 0 r)) →
+  pub owed_pair_made : (x : ℕ) (host client : List ℕ) → r ≤ 0 →
       LinksOwed owed limit x (numbers_at cs a) host (numbers_at cs b) client →
       OwedPairTells owed a b limit x cs (with_numbers (with_numbers cs a host) b client)
   unfolding pair_number ran_of

@@ -1,6 +1,6 @@
 -- The board in memory, and what a caller is told of its calls: answers as numbers, calls by a number for their kind.
 use Rattle.std.specs.Prelude.{ℕ, ◌*◌, ◌%◌, Bool, true, false, List, [], ◌∷◌, ◌≡◌, eqb, Float, get_or, set}
-use Rattle.laws.specs.Choice.{if◌then◌else◌}
+use Rattle.laws.specs.Choice.{when◌then◌else◌}
 use Rattle.module_types.specs.declared.Module.{Module}
 use Rattle.module_types.specs.declared.Call.TheVariants.{Read, Write, Tick, Pin, Clear}
 use Rattle.module_rules.specs.RefusalTable.{first_number}
@@ -39,20 +39,20 @@ with_numbers cs n ws = set cs n (record { numbers = ws })
 -- level and a word of which the low 16 bits count. Any other kind is a look.
 unfoldable pub asked_of : ℕ → ℕ → ℕ → ℕ → BoardCall
 asked_of kind x y z =
-    if eqb kind 0 then PowerUp
-    else if eqb kind 1 then Make (Read x)
-    else if eqb kind 2 then Make (Write x (y % 65536))
-    else if eqb kind 3 then Make (Tick (level_in x) (level_in y))
-    else if eqb kind 4 then Make (Pin (level_in x) (level_in y) (level_in z))
-    else if eqb kind 5 then Make Clear
-    else if eqb kind 6 then Report x
-    else if eqb kind 8 then StepAndLook (level_in x) (level_in y) (level_in z)
-    else if eqb kind 9 then PowerUpAt x
-    else if eqb kind 10 then MakeWord (level_in x) (y % 65536)
+    when eqb kind 0 then PowerUp
+    else when eqb kind 1 then Make (Read x)
+    else when eqb kind 2 then Make (Write x (y % 65536))
+    else when eqb kind 3 then Make (Tick (level_in x) (level_in y))
+    else when eqb kind 4 then Make (Pin (level_in x) (level_in y) (level_in z))
+    else when eqb kind 5 then Make Clear
+    else when eqb kind 6 then Report x
+    else when eqb kind 8 then StepAndLook (level_in x) (level_in y) (level_in z)
+    else when eqb kind 9 then PowerUpAt x
+    else when eqb kind 10 then MakeWord (level_in x) (y % 65536)
     else Look
 
 -- An answer as one number, that of the same call of one module: the upper 16 bits are the refusal number, 0 if it was not refused, the lower 16
--- bits what the call tells; of a word at a time as `wordNumber` has it, which keeps a refusal where it is.
+-- bits what the call tells; of a word at a time as `word_number` has it, which keeps a refusal where it is.
 unfoldable pub board_number : BoardAnswer → ℕ
 board_number (Refused w) = board_number_of w * 65536
 board_number Powered = 0

@@ -1,6 +1,6 @@
 -- Document 02, Eight, in memory: the total goes into a call beside the list, by its low 16 bits, and comes back above the answer.
 use Rattle.std.specs.Prelude.{ℕ, ◌+◌, ◌*◌, ◌%◌, Bool, List, ◌≡◌, eqb, Float, length}
-use Rattle.laws.specs.Choice.{if◌then◌else◌}
+use Rattle.laws.specs.Choice.{when◌then◌else◌}
 use Rattle.module_types.specs.declared.Module.{Module}
 use Rattle.module_types.specs.declared.Call.TheVariants.{Tick}
 use Rattle.link_rules.specs.Link.{linked_of}
@@ -33,7 +33,7 @@ pub record TellsOwed (count owed r : ℕ) : Type 0 where
 
 -- The board's test of a call: 0, or the whole number that a refused call returns, with the total as it was.
 unfoldable pub refused_number : ℕ → ℕ → ℕ
-refused_number owed fault = if eqb fault 0 then 0 else both_in (owed % 65536) fault
+refused_number owed fault = when eqb fault 0 then 0 else both_in (owed % 65536) fault
 
 abbrev pub refused_call : ℕ → ℕ → ℕ → ℕ
 refused_call count owed n = refused_number owed (call_fault count n)

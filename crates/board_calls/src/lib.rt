@@ -1,5 +1,7 @@
 // The board in memory: a lent list of module records. What stands here is over one record's numbers, and over numbers alone; the
 // exported calls of crate thurafeqa lend a record of the list to it.
+#![tactic(auto)]
+
 ghost use Rattle.std.specs.Prelude.{◌+◌, ◌-◌, ◌≤◌, ◌≡◌};
 ghost use Rattle.board_rules.specs.Owed.{in_shift, words_owed, at_most65535};
 ghost use Rattle.module_memory.specs.Memory.{module_in};
@@ -11,7 +13,7 @@ use module_types::{Settings, Shift};
 
 // A module's memory as a record of the board.
 #[repr(C)]
-#[derive(Drop)]
+#[derive(Clone, Copy)]
 pub struct Cells {
     pub numbers: [u16; 96],
 }

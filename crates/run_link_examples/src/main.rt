@@ -1,12 +1,12 @@
 // Linked runs, run on the proved call: a pair in each clock mode and width moves a full buffer each way, the limits 544 and
 // 545, and framed ends. A line for a run is the mode (CKP, CKE, width), then the edges used or `E` and the refusal number; the lines
 // under it are the words that the host and the client then read.
-use libc::STDOUT_FILENO;
-use module_types::{Answer, Module};
+#![tactic(auto)]
 
-fn print(text: &[u8]) {
-    io::write_all(STDOUT_FILENO, text);
-}
+use module_types::{Answer, Module};
+use run_text::Output;
+use std::io;
+use std::io::Write;
 
 // One hexadecimal digit, in upper case.
 fn digit(n: u16) -> u8 {
@@ -15,7 +15,7 @@ fn digit(n: u16) -> u8 {
 }
 
 // A space and what a read of BUF answers: four hexadecimal digits, or E.
-fn print_read(a: Answer) {
+fn print_read(a: Answer, to: &mut Output<impl Write>) {
     if let Answer::Value(v) = a {
         let text = [
             b' ',
@@ -24,9 +24,9 @@ fn print_read(a: Answer) {
             digit(v / 16),
             digit(v),
         ];
-        print(&text);
+        to.print(&text);
     } else {
-        print(b" E");
+        to.print(b" E");
     }
 }
 
@@ -56,56 +56,120 @@ fn filled(m: Module, first: u16, step: u16) -> Module {
     for k in 0..8u32 {
         let written = module_by_value::write(now, 3, word);
         now = written.after;
-        word = std::num::wrapping_add_u16(word, step);
+        word = word.wrapping_add(step);
     }
     now
 }
 
 // Nine reads of BUF on one line.
-fn print_reads(m: Module) {
+fn print_reads(m: Module, to: &mut Output<impl Write>) {
     let mut now = m;
     for k in 0..9u32 {
         let read = module_by_value::read(now, 3);
         let answer = read.answer;
-        print_read(answer);
+        print_read(answer, to);
         now = read.after;
     }
-    print(b"\n");
+    to.print(b"\n");
 }
 
 // A linked run of these two, both filled, with this limit: its line, and what both ends then read.
-fn pair(mode: &[u8], host: Module, client: Module, limit: u32) {
+fn pair(mode: &[u8], host: Module, client: Module, limit: u32, to: &mut Output<impl Write>) {
     let full_host = filled(host, 0xA5C3, 0x1111);
     let full_client = filled(client, 0x3C5A, 0x0F0F);
     let run = module_by_value::linked(full_host, full_client, limit);
     let answer = run.answer;
     let said = link_calls::link_said(answer);
-    print(mode);
+    to.print(mode);
     if said.number == 0 {
-        print(b" used ");
-        io::print_decimal(STDOUT_FILENO, said.edges as u64);
+        to.print(b" used ");
+        to.print_decimal(said.edges as u64);
     } else {
-        print(b" E ");
-        io::print_decimal(STDOUT_FILENO, said.number as u64);
+        to.print(b" E ");
+        to.print_decimal(said.number as u64);
     }
-    print(b"\n");
+    to.print(b"\n");
     let sender = run.host;
     let receiver = run.client;
-    print_reads(sender);
-    print_reads(receiver);
+    print_reads(sender, to);
+    print_reads(receiver, to);
 }
 
-fn main() {
-    pair(b"CKP 0 CKE 0 w  8:", enabled(0x0020), enabled(0x0080), 544);
-    pair(b"CKP 0 CKE 1 w  8:", enabled(0x0120), enabled(0x0180), 544);
-    pair(b"CKP 1 CKE 0 w  8:", enabled(0x0060), enabled(0x00C0), 544);
-    pair(b"CKP 1 CKE 1 w  8:", enabled(0x0160), enabled(0x01C0), 544);
-    pair(b"CKP 0 CKE 0 w 16:", enabled(0x0420), enabled(0x0480), 544);
-    pair(b"CKP 0 CKE 1 w 16:", enabled(0x0520), enabled(0x0580), 544);
-    pair(b"CKP 1 CKE 0 w 16:", enabled(0x0460), enabled(0x04C0), 544);
-    pair(b"CKP 1 CKE 1 w 16:", enabled(0x0560), enabled(0x05C0), 544);
-    pair(b"CKP 0 CKE 0 w 16:", enabled(0x0420), enabled(0x0480), 545);
-    pair(b"CKP 0 CKE 0 w 16:", enabled(0x0420), enabled(0x0480), 32);
-    pair(b"framed host:", framed(0x0420), enabled(0x0480), 544);
-    pair(b"framed client:", enabled(0x0420), framed(0x0480), 544);
+fn main(rt: HostRuntime) -> io::Result<()> {
+    let mut output = Output::new(rt.stdout());
+    let to = &mut output;
+    pair(
+        b"CKP 0 CKE 0 w  8:",
+        enabled(0x0020),
+        enabled(0x0080),
+        544,
+        to,
+    );
+    pair(
+        b"CKP 0 CKE 1 w  8:",
+        enabled(0x0120),
+        enabled(0x0180),
+        544,
+        to,
+    );
+    pair(
+        b"CKP 1 CKE 0 w  8:",
+        enabled(0x0060),
+        enabled(0x00C0),
+        544,
+        to,
+    );
+    pair(
+        b"CKP 1 CKE 1 w  8:",
+        enabled(0x0160),
+        enabled(0x01C0),
+        544,
+        to,
+    );
+    pair(
+        b"CKP 0 CKE 0 w 16:",
+        enabled(0x0420),
+        enabled(0x0480),
+        544,
+        to,
+    );
+    pair(
+        b"CKP 0 CKE 1 w 16:",
+        enabled(0x0520),
+        enabled(0x0580),
+        544,
+        to,
+    );
+    pair(
+        b"CKP 1 CKE 0 w 16:",
+        enabled(0x0460),
+        enabled(0x04C0),
+        544,
+        to,
+    );
+    pair(
+        b"CKP 1 CKE 1 w 16:",
+        enabled(0x0560),
+        enabled(0x05C0),
+        544,
+        to,
+    );
+    pair(
+        b"CKP 0 CKE 0 w 16:",
+        enabled(0x0420),
+        enabled(0x0480),
+        545,
+        to,
+    );
+    pair(
+        b"CKP 0 CKE 0 w 16:",
+        enabled(0x0420),
+        enabled(0x0480),
+        32,
+        to,
+    );
+    pair(b"framed host:", framed(0x0420), enabled(0x0480), 544, to);
+    pair(b"framed client:", enabled(0x0420), framed(0x0480), 544, to);
+    output.finish()?;
+    Ok(())
 }

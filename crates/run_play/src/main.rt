@@ -1,13 +1,13 @@
 // The program that plays a trace file: the file from standard input, and to standard output the number of its refusal, or the calls
 // made and the registers and the interrupt flag of the module that they reach. It reads at most 65,536 bytes, one more than a
 // file may have.
-use libc::{STDIN_FILENO, STDOUT_FILENO};
-use module_types::Answer;
-use trace_rules::Played;
+#![tactic(auto)]
 
-fn print(text: &[u8]) {
-    io::write_all(STDOUT_FILENO, text);
-}
+use module_types::Answer;
+use run_text::Output;
+use std::io;
+use std::io::Write;
+use trace_rules::Played;
 
 // One hexadecimal digit, in upper case.
 fn digit(n: u16) -> u8 {
@@ -16,7 +16,7 @@ fn digit(n: u16) -> u8 {
 }
 
 // A number in decimal, and the end of the line.
-fn print_decimal(n: u16) {
+fn print_decimal(n: u16, to: &mut Output<impl Write>) {
     let text = [
         digit(n / 10000),
         digit(n / 1000 % 10),
@@ -26,61 +26,64 @@ fn print_decimal(n: u16) {
         10,
     ];
     if n < 10 {
-        print(&text[4..]);
+        to.print(&text[4..]);
         return;
     }
     if n < 100 {
-        print(&text[3..]);
+        to.print(&text[3..]);
         return;
     }
     if n < 1000 {
-        print(&text[2..]);
+        to.print(&text[2..]);
         return;
     }
     if n < 10000 {
-        print(&text[1..]);
+        to.print(&text[1..]);
         return;
     }
-    print(&text);
+    to.print(&text);
 }
 
 // What a read of a register answers: four hexadecimal digits, and the end of the line.
-fn print_read(a: Answer) {
+fn print_read(a: Answer, to: &mut Output<impl Write>) {
     if let Answer::Value(v) = a {
         let text = [digit(v / 4096), digit(v / 256), digit(v / 16), digit(v), 10];
-        print(&text);
+        to.print(&text);
     }
 }
 
 // The registers and the interrupt flag, a line each.
-fn print_module(w: &mut [u16; 96]) {
-    print(b"STAT ");
-    print_read(module_register_calls::read(w, 0));
-    print(b"CON1 ");
-    print_read(module_register_calls::read(w, 1));
-    print(b"CON2 ");
-    print_read(module_register_calls::read(w, 2));
+fn print_module(w: &mut [u16; 96], to: &mut Output<impl Write>) {
+    to.print(b"STAT ");
+    print_read(module_register_calls::read(w, 0), to);
+    to.print(b"CON1 ");
+    print_read(module_register_calls::read(w, 1), to);
+    to.print(b"CON2 ");
+    print_read(module_register_calls::read(w, 2), to);
     if module_memory_looks::interrupt_in(w) {
-        print(b"interrupt 1\n");
+        to.print(b"interrupt 1\n");
     } else {
-        print(b"interrupt 0\n");
+        to.print(b"interrupt 0\n");
     }
 }
 
-fn main() {
+fn main(rt: HostRuntime) -> io::Result<()> {
     let mut file = [0u8; 65536];
-    let n = io::read_full(STDIN_FILENO, &mut file);
+    let n = run_text::read_full(&mut rt.stdin(), &mut file)?;
+    let mut to = Output::new(rt.stdout());
     let mut spi = [0u16; 96];
     let played = trace_player::play(&file[..n], &mut spi);
     match played {
         Played::Refused(fault) => {
-            print(b"E ");
-            print_decimal(trace_player::fault_number(fault) as u16);
+            to.print(b"E ");
+            print_decimal(trace_player::fault_number(fault) as u16, &mut to);
         }
         Played::Made(count) => {
-            print(b"OK ");
-            print_decimal(count);
-            print_module(&mut spi);
+            to.print(b"OK ");
+            print_decimal(count, &mut to);
+            print_module(&mut spi, &mut to);
         }
     }
+    to.finish()?;
+    Ok(())
 }

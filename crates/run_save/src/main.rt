@@ -1,15 +1,21 @@
 // The program that saves a script session as a trace file: the script from standard input, the file to standard output. It reads
 // at most 65,535 bytes, as the script program does. A session that does not fit a trace file writes nothing.
-use libc::{STDIN_FILENO, STDOUT_FILENO};
+#![tactic(auto)]
+
+use run_text::Output;
+use std::io;
 use trace_save_rules::Saved;
 
-fn main() {
+fn main(rt: HostRuntime) -> io::Result<()> {
     let mut script = [0u8; 65535];
-    let n = io::read_full(STDIN_FILENO, &mut script);
+    let n = run_text::read_full(&mut rt.stdin(), &mut script)?;
+    let mut to = Output::new(rt.stdout());
     let mut file = [0u8; 65535];
     let saved = trace_writer::save(&script[..n], &mut file);
     if let Saved::Written(length) = saved {
         let end = length as usize;
-        io::write_all(STDOUT_FILENO, &file[..end]);
+        to.print(&file[..end]);
     }
+    to.finish()?;
+    Ok(())
 }

@@ -3,7 +3,8 @@
 --     drawn_starts, drawn_goes_on, drawn_ends    none is drawn, one more, all
 --     behind_next                                the place behind the next line
 -- Assumes nothing.
-use Rattle.laws.proofs.Common.{ℕ, ◌+◌, ◌≤◌, ◌<◌, add_assoc, List, ◌∷◌, ◌≡◌, refl, sym, ap, ◌∙◌, arith, length, drop}
+use Rattle.std.specs.Prelude.{◌+◌, ◌≤◌, ◌<◌, ◌∷◌, ◌≡◌}
+use Rattle.laws.proofs.Common.{ℕ, add_assoc, List, refl, sym, ap, ◌∙◌, arith, length, drop}
 use Rattle.laws.proofs.Common.{length-drop, drop_of_length-le, drop-drop, take_all}
 use Rattle.module_types.specs.declared.Module.{Module}
 use Rattle.module_rules.specs.Calls.{powered_up, after_calls}

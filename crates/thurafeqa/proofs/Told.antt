@@ -1,7 +1,8 @@
 -- What a caller is told of a file that is played.
 --     play_told   playing a trace file
 -- Assumes nothing.
-use Rattle.laws.proofs.Common.{ℕ, List, ◌≡◌, ◌∙◌, ap}
+use Rattle.std.specs.Prelude.{◌≡◌}
+use Rattle.laws.proofs.Common.{ℕ, List, ◌∙◌, ap}
 use Rattle.trace_rules.specs.declared.Played.{Played}
 use Rattle.trace_rules.specs.Trace.{is_made}
 use Rattle.trace_player.specs.Playing.{Plays}

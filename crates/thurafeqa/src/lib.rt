@@ -1,5 +1,7 @@
 // The model for a program in C or Rust to link: the calls of one module, linked runs, clock reports and trace files over memory that the
 // caller holds, 96 numbers of 16 bits a module. Only numbers cross the boundary, and any numbers are answered.
+#![tactic(auto)]
+
 ghost use Rattle.std.specs.Prelude.{◌%◌, ◌≡◌};
 ghost use Rattle.module_rules.specs.Calls.{powered_up, power_up_of, read_of, write_of, tick_of, pins_of, clock_step_of, clear_of};
 ghost use Rattle.word_rules.specs.Word.{word_of, edges_owed};
