@@ -14,10 +14,11 @@ use module_types::Settings;
 pub fn bit(word: u16, i: u16) -> bool
     ensures { result ≡ bit_of word i }
 {
-    if i < 16 { (word >> i) % 2 == 1 } else { false }
+    i < 16 && (word >> i) % 2 == 1
 }
 
 // The top bit of a word at the present width.
+#[tactic(auto, using(module_rules::proofs::Sizes::width_least))]
 pub fn top_bit(s: Settings, word: u16) -> bool
     ensures { result ≡ bit_of word (width_of s - 1) }
 {
@@ -47,6 +48,7 @@ pub fn is_sampling(cke: bool, edge: u16) -> bool
 }
 
 // A bit enters behind those received before it.
+#[tactic(auto, unfolding(module_rules::specs::Bits::shifted_in))]
 pub fn shift_in(received: u16, sdi: bool) -> u16
     ensures { result ≡ shifted_in received sdi }
 {
@@ -65,13 +67,12 @@ pub fn received_after(s: Settings, edge: u16, sdi: bool, received: u16) -> u16
 }
 
 // The bit that an edge shows when it changes SDO.
+#[tactic(auto, using(module_rules::proofs::Sizes::width_least), unfolding(module_rules::specs::Bits::shown_bit))]
 fn shown_bit(s: Settings, word: u16, edge: u16) -> bool
     ensures { result ≡ shown_bit s word edge }
 {
     let top = module_settings::width(s) as u16 - 1;
-    let down = edge / 2;
-    let at = if down <= top { top - down } else { 0 };
-    bit(word, at)
+    bit(word, top.saturating_sub(edge / 2))
 }
 
 // The SDO level once an edge short of the last has been given.

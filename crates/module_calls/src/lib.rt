@@ -15,20 +15,18 @@ use module_types::{Answer, Call, Output, Refusal};
 pub fn turn(w: &mut [u16; 96], sdi: bool)
     ensures { Steps (λ s. turned s sdi) w.old w.new }
 {
-    if module_midword::within(w, true, false, sdi, false) {
-        return;
+    if !module_midword::turn_within(w, sdi) {
+        let pins = module_memory_looks::pins_in(w);
+        module_edges::edge(w, !pins.sck, sdi);
     }
-    let pins = module_memory_looks::pins_in(w);
-    module_edges::edge(w, !pins.sck, sdi);
 }
 
 pub fn see(w: &mut [u16; 96], sck: bool, sdi: bool, ss: bool)
     ensures { Steps (λ s. stepped s (levels sck sdi ss)) w.old w.new }
 {
-    if module_midword::within(w, false, sck, sdi, ss) {
-        return;
+    if !module_midword::see_within(w, sck, sdi, ss) {
+        module_edges::see_any(w, sck, sdi, ss);
     }
-    module_edges::see_any(w, sck, sdi, ss);
 }
 
 // What a tick answers for a clock step: one that is done is an edge made.
@@ -36,11 +34,8 @@ fn edge_for(a: Answer) -> Answer
     ensures { result ≡ edge_for a }
 {
     match a {
-        Answer::Refused(r) => Answer::Refused(r),
         Answer::Done => Answer::Edge,
-        Answer::Value(v) => Answer::Value(v),
-        Answer::NoEdge => Answer::NoEdge,
-        Answer::Edge => Answer::Edge,
+        _ => a,
     }
 }
 
@@ -55,11 +50,11 @@ pub fn tick(w: &mut [u16; 96], sdi: bool, ss: bool) -> Answer
     if !module_settings::own_clock(s) {
         return Answer::Refused(Refusal::WrongClock);
     }
-    let answer = module_edges::clock_step(w, false, sdi, ss);
-    edge_for(answer)
+    edge_for(module_edges::clock_step(w, false, sdi, ss))
 }
 
 // The levels SCK, SDI and SS are shown to a module that is clocked from its pin.
+// No one function with `tick`: they refuse opposite roles and tell a step otherwise, and one that is handed the role is no shorter.
 pub fn pins(w: &mut [u16; 96], sck: bool, sdi: bool, ss: bool) -> Answer
     ensures { Answers (pins_of (module_in w.old) sck sdi ss) result w.old w.new }
 {

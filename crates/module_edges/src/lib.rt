@@ -3,49 +3,83 @@
 
 ghost use Rattle.std.specs.Prelude.{true, false, ◌≡◌};
 ghost use Rattle.laws.specs.Choice.{when◌then◌else◌};
-ghost use Rattle.module_types.specs.declared.Shift.TheVariants.{Free, Loaded};
+ghost use Rattle.module_types.specs.declared.Shift.TheVariants.{Free};
 ghost use Rattle.module_types.specs.declared.Answer.TheVariants.{Done, Edge};
 ghost use Rattle.module_rules.specs.Changes.{with_pulse};
 ghost use Rattle.module_rules.specs.Settings.{framed, frame_client, cke_of, ssen_client};
 ghost use Rattle.module_rules.specs.Loading.{is_begun};
 ghost use Rattle.module_rules.specs.Select.{deselected, select_remembered, select_seen};
-ghost use Rattle.module_rules.specs.Edge.{fresh, advanced, advanced_if_begun, pulse_due, pulse_after, levels, stepped};
+ghost use Rattle.module_rules.specs.Edge.{fresh, begun, advanced, advanced_if_begun, pulse_due, pulse_after, levels, stepped};
 ghost use Rattle.module_rules.specs.Calls.{clock_step_of, tick_of, pins_of};
 ghost use Rattle.module_memory.specs.Memory.{settings_in, engine_in, module_in, Steps};
+ghost use Rattle.module_edges.specs.Beginning.{shift_of};
 ghost use Rattle.module_answers.specs.Answered.{Answers, Made, edge_advanced, edge_counted, turned, begins_none, First};
 
 use module_types::{Answer, Progress, Refusal, Settings, Shift};
 
+// A word at its beginning: no edge given, nothing received.
+pub fn fresh(filler: bool, word: u16) -> Progress
+    ensures { result ≡ fresh filler word }
+{
+    Progress {
+        filler,
+        word,
+        edges: 0,
+        received: 0,
+    }
+}
+
+// What is begun where no word is loaded: nothing of a silent module, the first waiting word of an SSEN client if there is one, else a filler.
+fn beginning(w: &[u16; 96]) -> Option<Progress>
+    ensures { shift_of result ≡ begun (settings_in w.now) (engine_in w.now) Free }
+{
+    let s = module_memory_looks::settings_in(w);
+    if module_settings::is_silent(s) {
+        return None;
+    }
+    let count = module_memory_looks::waiting_in(w);
+    let first = module_memory_looks::first_waiting_in(w);
+    if module_settings::ssen_client(s) & (count != 0) {
+        return Some(fresh(false, first));
+    }
+    Some(fresh(true, 0))
+}
+
+// What an edge that may begin a word goes on with: the begun word, else the loaded one, else what begins with none loaded.
+pub fn begun_in(w: &[u16; 96]) -> Option<Progress>
+    ensures { shift_of result ≡ begun (settings_in w.now) (engine_in w.now) (engine_in w.now).shift }
+{
+    match module_memory_looks::shift_in(w) {
+        Shift::Free => beginning(w),
+        Shift::Loaded(word) => Some(fresh(false, word)),
+        Shift::Begun(p) => Some(p),
+    }
+}
+
 // The first edge of a word, by CKE as the edge rules see it: the word begins, and SDI is sampled or SDO shows its top bit.
+// CKE is handed on by a `requires` and in no type: it is a fact of memory that these functions change, and a struct of both would prove it anew
+// after each store.
 fn begin(w: &mut [u16; 96], sdi: bool, cke: bool, filler: bool, word: u16)
     requires { cke ≡ cke_of (settings_in w.old) }
     ensures { Steps (λ s. advanced s sdi (fresh filler word)) w.old w.new }
 {
     let s = module_memory_looks::settings_in(w);
-    if cke {
-        let received = module_bits::shift_in(0, sdi);
-        module_memory_stores::store_begun(
-            w,
-            Progress {
-                filler: filler,
-                word: word,
-                edges: 1,
-                received: received,
-            },
-        );
-        return;
+    let received = if cke {
+        module_bits::shift_in(0, sdi)
+    } else {
+        0
+    };
+    let p = Progress {
+        filler,
+        word,
+        edges: 1,
+        received,
+    };
+    module_memory_stores::store_begun(w, p);
+    if !cke {
+        let sdo = module_bits::top_bit(s, word);
+        module_memory_stores::store_sdo(w, sdo);
     }
-    let sdo = module_bits::top_bit(s, word);
-    module_memory_stores::store_begun(
-        w,
-        Progress {
-            filler: filler,
-            word: word,
-            edges: 1,
-            received: 0,
-        },
-    );
-    module_memory_stores::store_sdo(w, sdo);
 }
 
 // One edge of the word that is begun, by CKE as the edge rules see it: it samples SDI or changes SDO, and the last one
@@ -65,49 +99,12 @@ fn go_on(w: &mut [u16; 96], sdi: bool, cke: bool)
         } else {
             module_word_steps::finish(w, p.filler, received);
         }
+    } else if edge < last {
+        let sdo = module_bits::bit(p.word, (last - 1 - edge) / 2);
+        module_memory_stores::store_gone(w, edge as u8, p.received);
+        module_memory_stores::store_sdo(w, sdo);
     } else {
-        if edge < last {
-            let sdo = module_bits::bit(p.word, (last - 1 - edge) / 2);
-            module_memory_stores::store_gone(w, edge as u8, p.received);
-            module_memory_stores::store_sdo(w, sdo);
-        } else {
-            module_word_steps::finish(w, p.filler, p.received);
-        }
-    }
-}
-
-// An edge to the level `sck` with a word loaded: it begins, unless the edge begins none.
-fn loaded_edge(w: &mut [u16; 96], sck: bool, sdi: bool, none: bool, cke: bool, word: u16)
-    requires { First w.old sck none cke × ((engine_in w.old).shift ≡ Loaded word) }
-    ensures { Steps (λ s. edge_advanced s sck sdi) w.old w.new }
-{
-    module_memory_stores::store_sck(w, sck);
-    if none {
-        return;
-    }
-    begin(w, sdi, cke, false, word);
-}
-
-// An edge to the level `sck` with no word loaded: where one may begin, a silent module begins nothing, an SSEN client the
-// first waiting word if there is one, and any other module a filler.
-fn free_edge(w: &mut [u16; 96], sck: bool, sdi: bool, none: bool, cke: bool)
-    requires { First w.old sck none cke × ((engine_in w.old).shift ≡ Free) }
-    ensures { Steps (λ s. edge_advanced s sck sdi) w.old w.new }
-{
-    let s = module_memory_looks::settings_in(w);
-    let count = module_memory_looks::waiting_in(w);
-    let first = module_memory_looks::first_waiting_in(w);
-    module_memory_stores::store_sck(w, sck);
-    if none {
-        return;
-    }
-    if module_settings::is_silent(s) {
-        return;
-    }
-    if module_settings::ssen_client(s) & !(count == 0) {
-        begin(w, sdi, cke, false, first);
-    } else {
-        begin(w, sdi, cke, true, 0);
+        module_word_steps::finish(w, p.filler, p.received);
     }
 }
 
@@ -116,11 +113,12 @@ fn first_edge(w: &mut [u16; 96], sck: bool, sdi: bool, none: bool, cke: bool)
     requires { First w.old sck none cke × (is_begun (engine_in w.old).shift ≡ false) }
     ensures { Steps (λ s. edge_advanced s sck sdi) w.old w.new }
 {
-    let shift = module_memory_looks::shift_in(w);
-    match shift {
-        Shift::Free => free_edge(w, sck, sdi, none, cke),
-        Shift::Loaded(word) => loaded_edge(w, sck, sdi, none, cke, word),
-        Shift::Begun(_) => {}
+    module_memory_stores::store_sck(w, sck);
+    if none {
+        return;
+    }
+    if let Some(p) = begun_in(w) {
+        begin(w, sdi, cke, p.filler, p.word);
     }
 }
 
@@ -135,7 +133,7 @@ fn pulse_due(s: Settings, count: u8, shift: Shift) -> bool
             if s.con2.frmdly {
                 p.edges == 1
             } else {
-                (p.edges as u16 + 1 == 2 * module_settings::width(s) as u16) & !(count == 0)
+                (p.edges as u16 + 1 == 2 * module_settings::width(s) as u16) & (count != 0)
             }
         }
     }
@@ -176,6 +174,7 @@ fn begins_none(w: &[u16; 96], sck: bool) -> bool
 }
 
 // An edge to the level `sck` of a framed module: its pulse comes last.
+// Two functions and not one that is handed the role, which would ask for CKE of a framed module and for pulses of an unframed one (docs/SPEED.md).
 fn framed_edge(w: &mut [u16; 96], sck: bool, sdi: bool)
     requires { framed (settings_in w.old) ≡ true }
     ensures { Steps (λ s. edge_counted s sck sdi) w.old w.new }
@@ -217,23 +216,6 @@ pub fn edge(w: &mut [u16; 96], sck: bool, sdi: bool)
     }
 }
 
-// An edge to the other level of SCK: of a framed module, and of an unframed one.
-fn framed_turn(w: &mut [u16; 96], sdi: bool)
-    requires { framed (settings_in w.old) ≡ true }
-    ensures { Steps (λ s. turned s sdi) w.old w.new }
-{
-    let pins = module_memory_looks::pins_in(w);
-    framed_edge(w, !pins.sck, sdi);
-}
-
-fn plain_turn(w: &mut [u16; 96], sdi: bool)
-    requires { framed (settings_in w.old) ≡ false }
-    ensures { Steps (λ s. turned s sdi) w.old w.new }
-{
-    let pins = module_memory_looks::pins_in(w);
-    plain_edge(w, !pins.sck, sdi);
-}
-
 // An SSEN client sees its select level high, which aborts the begun word.
 fn deselect(w: &mut [u16; 96])
     requires { ssen_client (settings_in w.old) ≡ true }
@@ -273,7 +255,8 @@ fn see_high(w: &mut [u16; 96], sck: bool, sdi: bool)
     }
 }
 
-// The levels SCK, SDI and SS are seen.
+// The levels SCK, SDI and SS are seen. Three parameters and no struct: the C calls and Call::Pin hand them over so, a tick has two of them, and a
+// struct would be taken apart at once.
 pub fn see_any(w: &mut [u16; 96], sck: bool, sdi: bool, ss: bool)
     ensures { Steps (λ s. stepped s (levels sck sdi ss)) w.old w.new }
 {
@@ -299,16 +282,14 @@ pub fn own_edge(w: &mut [u16; 96], sdi: bool, ss: bool) -> bool
     ensures { Made (tick_of (module_in w.old) sdi ss) Edge result w.old w.new }
 {
     let s = module_memory_looks::settings_in(w);
-    if !(s.spien & !module_settings::is_framed(s)) {
+    if !(s.spien & !module_settings::is_framed(s))
+        || !module_settings::own_clock(s)
+        || module_memory_looks::is_free(w)
+    {
         return false;
     }
-    if !module_settings::own_clock(s) {
-        return false;
-    }
-    if module_memory_looks::is_free(w) {
-        return false;
-    }
-    plain_turn(w, sdi);
+    let pins = module_memory_looks::pins_in(w);
+    plain_edge(w, !pins.sck, sdi);
     true
 }
 
@@ -320,14 +301,10 @@ pub fn low_edge(w: &mut [u16; 96], sck: bool, sdi: bool, ss: bool) -> bool
         return false;
     }
     let s = module_memory_looks::settings_in(w);
-    if !(s.spien & !module_settings::is_framed(s)) {
-        return false;
-    }
-    if module_settings::own_clock(s) {
-        return false;
-    }
-    let pins = module_memory_looks::pins_in(w);
-    if sck == pins.sck {
+    if !(s.spien & !module_settings::is_framed(s))
+        || module_settings::own_clock(s)
+        || sck == module_memory_looks::pins_in(w).sck
+    {
         return false;
     }
     module_memory_stores::store_ss(w, ss);
@@ -348,14 +325,15 @@ pub fn clock_step(w: &mut [u16; 96], sck: bool, sdi: bool, ss: bool) -> Answer
         see_any(w, sck, sdi, ss);
         return Answer::Done;
     }
+    let pins = module_memory_looks::pins_in(w);
     if module_settings::is_framed(s) {
         hear_select(w, ss);
-        framed_turn(w, sdi);
+        framed_edge(w, !pins.sck, sdi);
         return Answer::Done;
     }
     if module_memory_looks::is_free(w) {
         return Answer::NoEdge;
     }
-    plain_turn(w, sdi);
+    plain_edge(w, !pins.sck, sdi);
     Answer::Done
 }

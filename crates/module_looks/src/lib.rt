@@ -8,7 +8,8 @@ ghost use Rattle.module_rules.specs.Calls.{interrupt_of, sck_of, undriven_by, sd
 
 use module_types::{Answer, Module, Output, Pins, Refusal, Said, Settings};
 
-// The paper's number for a refusal.
+// The paper's number for a refusal. No From: it would stand in module_types, below number_of, which this promises.
+#[tactic(auto, unfolding(module_rules::specs::Refusals::number_of))]
 pub fn refusal_number(r: Refusal) -> u8
     ensures { result ≡ number_of r }
 {
@@ -31,45 +32,38 @@ pub fn refusal_number(r: Refusal) -> u8
     }
 }
 
-// An answer in the paper's numbers.
+// An answer in the paper's numbers, of which said_of speaks: no From, for the same reason.
 pub fn said(a: Answer) -> Said
     ensures { result ≡ said_of a }
 {
+    let nothing = Said {
+        kind: 0,
+        number: 0,
+        value: 0,
+        edges: 0,
+    };
     match a {
         Answer::Refused(r) => Said {
-            kind: 0,
             number: refusal_number(r),
-            value: 0,
-            edges: 0,
+            ..nothing
         },
-        Answer::Done => Said {
-            kind: 1,
-            number: 0,
-            value: 0,
-            edges: 0,
-        },
-        Answer::Value(v) => Said {
+        Answer::Done => Said { kind: 1, ..nothing },
+        Answer::Value(value) => Said {
             kind: 2,
-            number: 0,
-            value: v,
-            edges: 0,
+            value,
+            ..nothing
         },
-        Answer::NoEdge => Said {
-            kind: 3,
-            number: 0,
-            value: 0,
-            edges: 0,
-        },
+        Answer::NoEdge => Said { kind: 3, ..nothing },
         Answer::Edge => Said {
             kind: 4,
-            number: 0,
-            value: 0,
             edges: 1,
+            ..nothing
         },
     }
 }
 
 // The interrupt flag.
+#[tactic(auto, unfolding(module_rules::specs::Calls::interrupt_of))]
 pub fn interrupt(m: Module) -> bool
     ensures { result ≡ interrupt_of m }
 {
@@ -77,6 +71,7 @@ pub fn interrupt(m: Module) -> bool
 }
 
 // The remembered clock level.
+#[tactic(auto, unfolding(module_rules::specs::Calls::sck_of))]
 pub fn sck(m: Module) -> bool
     ensures { result ≡ sck_of m }
 {
@@ -88,21 +83,20 @@ pub fn sdo_by(s: Settings, pins: Pins) -> Output
     ensures { result ≡ sdo_by (undriven_by s pins) pins }
 {
     if !s.spien | (s.con1.dissdo | (module_settings::ssen_client(s) & pins.ss)) {
-        return Output::Undriven;
+        Output::Undriven
+    } else if pins.sdo {
+        Output::High
+    } else {
+        Output::Low
     }
-    if pins.sdo {
-        return Output::High;
-    }
-    Output::Low
 }
 
 // The SDO pin of a module.
+#[tactic(auto, unfolding(module_rules::specs::Calls::undriven, module_rules::specs::Calls::sdo_of))]
 pub fn sdo(m: Module) -> Output
     ensures { result ≡ sdo_of m }
 {
-    let s = m.settings;
-    let pins = m.engine.pins;
-    sdo_by(s, pins)
+    sdo_by(m.settings, m.engine.pins)
 }
 
 // The SS pin, by settings and pins: a frame host drives it at FRMPOL's level during a pulse, else at the other one.
@@ -110,10 +104,10 @@ pub fn ss_by(s: Settings, pins: Pins) -> Output
     ensures { result ≡ ss_by s pins }
 {
     if !(s.spien & module_settings::is_frame_host(s)) {
-        return Output::Undriven;
+        Output::Undriven
+    } else if pins.pulse == s.con2.frmpol {
+        Output::High
+    } else {
+        Output::Low
     }
-    if pins.pulse == s.con2.frmpol {
-        return Output::High;
-    }
-    Output::Low
 }

@@ -1,48 +1,19 @@
 // Stores to a module in memory: each puts a part into it and leaves all else. Power-up, and the memory of a module, are made of them.
 #![tactic(auto)]
 
-ghost use Rattle.std.specs.Prelude.{◌+◌, ◌≤◌, true, ◌≡◌, length};
+ghost use Rattle.std.specs.Prelude.{◌+◌, ◌%◌, ◌≤◌, ◌≡◌, [], ◌∷◌, ◌++◌, get_or};
 ghost use Rattle.module_types.specs.declared.Shift.TheVariants.{Free, Loaded, Begun};
 ghost use Rattle.module_rules.specs.Changes.{with_transmit, with_receive, with_shift, with_sck, with_ss, with_sdo, with_pulse, with_spirov, with_interrupt};
 ghost use Rattle.module_rules.specs.Registers.{con1_from, con2_from, stat_settings};
 ghost use Rattle.module_rules.specs.Calls.{powered_at, powered_up, with_con1, with_con2};
-ghost use Rattle.module_memory.specs.Memory.{bit_in, byte_in, depth_in, from, module_in, gone_on, with_mark, pushed, popped, arrived, fetched, Steps, Sets};
-ghost use Rattle.laws.specs.Writes.{writes};
+ghost use Rattle.module_memory.specs.Memory.{depth_in, module_in, gone_on, with_mark, pushed, popped, arrived, fetched, Steps, Sets};
+ghost use Rattle.laws.specs.Writes.{at, writes};
 ghost use Rattle.module_memory.specs.Writes.{words_written};
 
+use module_buffers::{RECEIVE, TRANSMIT};
 use module_types::{Depth, Engine, Module, Progress, Receive, Settings, Shift, Transmit};
 
-// A level or a flag as a number.
-fn number(b: bool) -> u16
-    ensures { bit_in result ≡ b }
-{
-    if b {
-        return 1;
-    }
-    0
-}
-
-// A byte as a number.
-fn byte_number(b: u8) -> u16
-    ensures { byte_in result ≡ b }
-{
-    b as u16
-}
-
-// Memory has 96 numbers. Nothing is done at run time: this is for proofs of stores.
-fn counted(w: [u16; 96]) -> bool
-    ensures { (result ≡ true) × (length w ≡ 96) }
-{
-    true
-}
-
-fn is_whole(w: &[u16; 96]) -> bool
-    ensures { (result ≡ true) × (length w.now ≡ 96) }
-{
-    counted(*w)
-}
-
-// A depth as a number: 8 is 0.
+// A depth as a number: 8 is 0. No From: it would stand below depth_in, which this promises.
 fn depth_number(depth: Depth) -> u16
     ensures { depth_in result ≡ depth }
 {
@@ -72,7 +43,6 @@ pub fn power_up_at(w: &mut [u16; 96], depth: Depth)
 pub fn store_stat(w: &mut [u16; 96], v: u16)
     ensures { Sets (stat_settings v) w.old w.new }
 {
-    is_whole(w);
     w[0] = v;
     w[1] = v / 4 % 8;
 }
@@ -81,7 +51,6 @@ pub fn store_stat(w: &mut [u16; 96], v: u16)
 pub fn store_con1(w: &mut [u16; 96], v: u16)
     ensures { Sets (λ s. with_con1 s (con1_from v)) w.old w.new }
 {
-    is_whole(w);
     w[2] = v;
     w[3] = v / 4 % 8;
     w[4] = v % 4;
@@ -91,110 +60,97 @@ pub fn store_con1(w: &mut [u16; 96], v: u16)
 pub fn store_con2(w: &mut [u16; 96], v: u16)
     ensures { Sets (λ s. with_con2 s (con2_from v)) w.old w.new }
 {
-    is_whole(w);
     w[5] = v;
 }
 
-// The words of the buffer that stands from `first` on.
-fn store_words(w: &mut [u16; 96], first: usize, words: [u16; 16])
-    requires { first + 16 ≤ 96 }
-    ensures { w.new ≡ writes w.old (words_written first words) }
+// The buffer that stands from AT on. AT is a constant, so that the bound which each of these three asks is one between numbers: no type would be
+// plainer.
+fn store_buffer<const AT: usize>(
+    w: &mut [u16; 96],
+    words: &[u16; 16],
+    write: u8,
+    read: u8,
+    count: u8,
+)
+    requires { AT + 19 ≤ 96 }
+    ensures { w.new ≡ writes w.old (words_written AT words.now ++ (at (AT + 16) write ∷ at (AT + 17) read ∷ at (AT + 18) count ∷ [])) }
 {
-    w[first] = words[0];
-    w[first + 1] = words[1];
-    w[first + 2] = words[2];
-    w[first + 3] = words[3];
-    w[first + 4] = words[4];
-    w[first + 5] = words[5];
-    w[first + 6] = words[6];
-    w[first + 7] = words[7];
-    w[first + 8] = words[8];
-    w[first + 9] = words[9];
-    w[first + 10] = words[10];
-    w[first + 11] = words[11];
-    w[first + 12] = words[12];
-    w[first + 13] = words[13];
-    w[first + 14] = words[14];
-    w[first + 15] = words[15];
+    w[AT..AT + 16].copy_from_slice(words);
+    w[AT + 16] = write as u16;
+    w[AT + 17] = read as u16;
+    w[AT + 18] = count as u16;
 }
 
-// The transmit buffer.
+// A word at its write position, which moves on, and another count. No other word is touched.
+fn store_entered<const AT: usize>(w: &mut [u16; 96], word: u16, on: u8, count: u8)
+    requires { AT + 19 ≤ 96 }
+    ensures { w.new ≡ writes w.old (at (AT + get_or w.old (AT + 16) 0 % 16) word ∷ at (AT + 16) on ∷ at (AT + 18) count ∷ []) }
+{
+    let at = (w[AT + 16] % 16) as usize;
+    w[AT + at] = word;
+    w[AT + 16] = on as u16;
+    w[AT + 18] = count as u16;
+}
+
+// Its read position moved on, and another count.
+fn store_left<const AT: usize>(w: &mut [u16; 96], on: u8, count: u8)
+    requires { AT + 19 ≤ 96 }
+    ensures { w.new ≡ writes w.old (at (AT + 17) on ∷ at (AT + 18) count ∷ []) }
+{
+    w[AT + 17] = on as u16;
+    w[AT + 18] = count as u16;
+}
+
+// The transmit buffer: the whole, a word more, and a word less.
 pub fn store_transmit(w: &mut [u16; 96], t: Transmit)
     ensures { Steps (λ _. with_transmit t) w.old w.new }
 {
-    is_whole(w);
-    let words = t.words;
-    store_words(w, 24, words);
-    w[40] = byte_number(t.write.0);
-    w[41] = byte_number(t.read.0);
-    w[42] = byte_number(t.count);
+    store_buffer::<TRANSMIT>(w, &t.words, t.write.0, t.read.0, t.count);
 }
 
-// A word at the write position of the transmit buffer, which moves on, and another count. No other word is touched.
 pub fn store_written(w: &mut [u16; 96], word: u16, on: u8, count: u8)
     ensures { Steps (λ _ n. with_transmit (pushed word on count n.transmit) n) w.old w.new }
 {
-    is_whole(w);
-    let at = (w[40] % 16) as usize;
-    w[24 + at] = word;
-    w[40] = byte_number(on);
-    w[42] = byte_number(count);
+    store_entered::<TRANSMIT>(w, word, on, count);
 }
 
-// The read position of the transmit buffer moved on, and another count.
 pub fn store_departed(w: &mut [u16; 96], on: u8, count: u8)
     ensures { Steps (λ _ n. with_transmit (popped on count n.transmit) n) w.old w.new }
 {
-    is_whole(w);
-    w[41] = byte_number(on);
-    w[42] = byte_number(count);
+    store_left::<TRANSMIT>(w, on, count);
 }
 
-// The same two of the receive buffer.
+// The receive buffer: the whole and its mark, a word more, and a word less.
+pub fn store_receive(w: &mut [u16; 96], r: Receive)
+    ensures { Steps (λ _. with_receive r) w.old w.new }
+{
+    store_buffer::<RECEIVE>(w, &r.words, r.write.0, r.read.0, r.count);
+    w[75] = r.marked as u16;
+}
+
 pub fn store_appended(w: &mut [u16; 96], word: u16, on: u8, count: u8)
     ensures { Steps (λ _ n. with_receive (arrived word on count n.receive) n) w.old w.new }
 {
-    is_whole(w);
-    let at = (w[60] % 16) as usize;
-    w[44 + at] = word;
-    w[60] = byte_number(on);
-    w[62] = byte_number(count);
+    store_entered::<RECEIVE>(w, word, on, count);
 }
 
 pub fn store_taken(w: &mut [u16; 96], on: u8, count: u8)
     ensures { Steps (λ _ n. with_receive (fetched on count n.receive) n) w.old w.new }
 {
-    is_whole(w);
-    w[61] = byte_number(on);
-    w[62] = byte_number(count);
-}
-
-// The receive buffer.
-pub fn store_receive(w: &mut [u16; 96], r: Receive)
-    ensures { Steps (λ _. with_receive r) w.old w.new }
-{
-    is_whole(w);
-    let words = r.words;
-    store_words(w, 44, words);
-    w[60] = byte_number(r.write.0);
-    w[61] = byte_number(r.read.0);
-    w[62] = byte_number(r.count);
-    w[75] = number(r.marked);
+    store_left::<RECEIVE>(w, on, count);
 }
 
 // The mark of the receive buffer: its words stay where they are.
 pub fn store_mark(w: &mut [u16; 96], marked: bool)
     ensures { Steps (λ _. with_mark marked) w.old w.new }
 {
-    is_whole(w);
-    w[75] = number(marked);
+    w[75] = marked as u16;
 }
 
 // A shift register with no word.
 pub fn store_free(w: &mut [u16; 96])
     ensures { Steps (λ _. with_shift Free) w.old w.new }
 {
-    is_whole(w);
     w[64] = 0;
 }
 
@@ -202,7 +158,6 @@ pub fn store_free(w: &mut [u16; 96])
 pub fn store_loaded(w: &mut [u16; 96], word: u16)
     ensures { Steps (λ _. with_shift (Loaded word)) w.old w.new }
 {
-    is_whole(w);
     w[64] = 1;
     w[66] = word;
 }
@@ -211,11 +166,10 @@ pub fn store_loaded(w: &mut [u16; 96], word: u16)
 pub fn store_begun(w: &mut [u16; 96], p: Progress)
     ensures { Steps (λ _. with_shift (Begun p)) w.old w.new }
 {
-    is_whole(w);
     w[64] = 2;
-    w[65] = number(p.filler);
+    w[65] = p.filler as u16;
     w[66] = p.word;
-    w[67] = byte_number(p.edges);
+    w[67] = p.edges as u16;
     w[68] = p.received;
 }
 
@@ -223,74 +177,63 @@ pub fn store_begun(w: &mut [u16; 96], p: Progress)
 pub fn store_gone(w: &mut [u16; 96], edges: u8, received: u16)
     ensures { Steps (λ _. gone_on edges received) w.old w.new }
 {
-    is_whole(w);
-    w[67] = byte_number(edges);
+    w[67] = edges as u16;
     w[68] = received;
 }
 
-// The level of SCK.
+// The level of SCK. Each level and flag has a store of its own, one line long, and none is generic over its place: an instance would be as long.
 pub fn store_sck(w: &mut [u16; 96], sck: bool)
     ensures { Steps (λ _. with_sck sck) w.old w.new }
 {
-    is_whole(w);
-    w[69] = number(sck);
+    w[69] = sck as u16;
 }
 
 // The level of SS.
 pub fn store_ss(w: &mut [u16; 96], ss: bool)
     ensures { Steps (λ _. with_ss ss) w.old w.new }
 {
-    is_whole(w);
-    w[70] = number(ss);
+    w[70] = ss as u16;
 }
 
 // The level of SDO.
 pub fn store_sdo(w: &mut [u16; 96], sdo: bool)
     ensures { Steps (λ _. with_sdo sdo) w.old w.new }
 {
-    is_whole(w);
-    w[71] = number(sdo);
+    w[71] = sdo as u16;
 }
 
 // Whether a frame pulse stands.
 pub fn store_pulse(w: &mut [u16; 96], pulse: bool)
     ensures { Steps (λ _. with_pulse pulse) w.old w.new }
 {
-    is_whole(w);
-    w[74] = number(pulse);
+    w[74] = pulse as u16;
 }
 
 // SPIROV.
 pub fn store_spirov(w: &mut [u16; 96], spirov: bool)
     ensures { Steps (λ _. with_spirov spirov) w.old w.new }
 {
-    is_whole(w);
-    w[72] = number(spirov);
+    w[72] = spirov as u16;
 }
 
 // The interrupt flag.
 pub fn store_interrupt(w: &mut [u16; 96], flag: bool)
     ensures { Steps (λ _. with_interrupt flag) w.old w.new }
 {
-    is_whole(w);
-    w[73] = number(flag);
+    w[73] = flag as u16;
 }
 
 // All settings, of any record.
 fn store_settings(w: &mut [u16; 96], s: Settings)
     ensures { Sets (λ _. s) w.old w.new }
 {
-    is_whole(w);
-    let con1 = s.con1;
-    let con2 = s.con2;
-    let depth = s.depth;
-    w[0] = module_registers::weigh(s.spien, 32768) + module_registers::weigh(s.spisidl, 8192);
-    w[1] = byte_number(s.sisel);
-    w[2] = module_registers::con1_value(con1);
-    w[3] = byte_number(con1.spre);
-    w[4] = byte_number(con1.ppre);
-    w[5] = module_registers::con2_value(con2);
-    w[6] = depth_number(depth);
+    w[0] = lent::weigh(s.spien, 32768) + lent::weigh(s.spisidl, 8192);
+    w[1] = s.sisel as u16;
+    w[2] = module_registers::con1_value(s.con1);
+    w[3] = s.con1.spre as u16;
+    w[4] = s.con1.ppre as u16;
+    w[5] = module_registers::con2_value(s.con2);
+    w[6] = depth_number(s.depth);
 }
 
 // A shift register in any state.
@@ -308,12 +251,9 @@ fn store_shift(w: &mut [u16; 96], shift: Shift)
 fn store_engine(w: &mut [u16; 96], n: Engine)
     ensures { Steps (λ _ _. n) w.old w.new }
 {
-    let t = n.transmit;
-    let r = n.receive;
-    let shift = n.shift;
-    store_transmit(w, t);
-    store_receive(w, r);
-    store_shift(w, shift);
+    store_transmit(w, n.transmit);
+    store_receive(w, n.receive);
+    store_shift(w, n.shift);
     store_sck(w, n.pins.sck);
     store_ss(w, n.pins.ss);
     store_sdo(w, n.pins.sdo);
@@ -326,10 +266,8 @@ fn store_engine(w: &mut [u16; 96], n: Engine)
 pub fn memory_of(m: Module) -> [u16; 96]
     ensures { module_in result ≡ m }
 {
-    let settings = m.settings;
-    let engine = m.engine;
     let mut w = [0; 96];
-    store_settings(&mut w, settings);
-    store_engine(&mut w, engine);
+    store_settings(&mut w, m.settings);
+    store_engine(&mut w, m.engine);
     w
 }

@@ -141,9 +141,8 @@ ticks_within {a} on sdi ss own deaf begun step = tick_answers on sdi ss own deaf
 -- The short way of either kind is a clock step's.
 module _ {a b : List ℕ} {made : Bool} (on : (settings_in a).spien ≡ true) (sck sdi ss : Bool) where
   pub own_shortly : own_clock (settings_in a) ≡ true →
-      Shortens (λ s n. when true then turned s sdi n else stepped s (levels sck sdi ss) n) made a b →
+      Shortens (λ s. turned s sdi) made a b →
       Shortly (clock_step_of (module_in a) sck sdi ss) Done made a b
-  unfolding when◌then◌else◌
   own_shortly own h =
       record {
         taken = λ e. own_answers on sck sdi ss own (and_first _ _ (h.plain e)) (begun_busy (engine_in a).shift (h.begun e)) (h.steps e);
@@ -152,9 +151,8 @@ module _ {a b : List ℕ} {made : Bool} (on : (settings_in a).spien ≡ true) (s
       }
 
   pub pin_shortly : own_clock (settings_in a) ≡ false →
-      Shortens (λ s n. when false then turned s sdi n else stepped s (levels sck sdi ss) n) made a b →
+      Shortens (λ s. stepped s (levels sck sdi ss)) made a b →
       Shortly (clock_step_of (module_in a) sck sdi ss) Done made a b
-  unfolding when◌then◌else◌
   pin_shortly pin h =
       record { taken = λ e. pin_answers on sck sdi ss pin (h.steps e); goes = h.goes; left = h.left }
 

@@ -19,10 +19,7 @@ fn is_midword(w: &[u16; 96]) -> bool
 {
     let s = module_memory_looks::settings_in(w);
     let p = module_memory_looks::progress_in(w);
-    if !module_memory_looks::is_begun(w) {
-        return false;
-    }
-    module_bits::goes_on(s, p.edges)
+    module_memory_looks::is_begun(w) && module_bits::goes_on(s, p.edges)
 }
 
 fn go_within(w: &mut [u16; 96], sck: bool, sdi: bool)
@@ -50,33 +47,30 @@ fn go_within(w: &mut [u16; 96], sck: bool, sdi: bool)
     }
 }
 
-// The levels SCK, SDI and SS are given to an unframed module, as a tick if it has its own clock and else as a pin call: if they
-// make an edge within a word and no select acts, it is made. Whether it was.
-pub fn within(w: &mut [u16; 96], own: bool, sck: bool, sdi: bool, ss: bool) -> bool
-    ensures { Shortens (λ s n. when own then turned s sdi n else stepped s (levels sck sdi ss) n) result w.old w.new }
+// An edge to the other level of SCK of an unframed module: if it is one within a word, it is made. Whether it was.
+pub fn turn_within(w: &mut [u16; 96], sdi: bool) -> bool
+    ensures { Shortens (λ s. turned s sdi) result w.old w.new }
 {
     let s = module_memory_looks::settings_in(w);
     let pins = module_memory_looks::pins_in(w);
-    if own {
-        if module_settings::is_framed(s) {
-            return false;
-        }
-        if !is_midword(w) {
-            return false;
-        }
-        go_within(w, !pins.sck, sdi);
-        return true;
-    }
-    if module_settings::is_deselected(s, ss) {
+    if module_settings::is_framed(s) || !is_midword(w) {
         return false;
     }
-    if sck == pins.sck {
-        return false;
-    }
-    if module_settings::is_framed(s) {
-        return false;
-    }
-    if !is_midword(w) {
+    go_within(w, !pins.sck, sdi);
+    true
+}
+
+// The levels SCK, SDI and SS are seen by an unframed module: if they make an edge within a word and no select acts, it is made. Whether it was.
+pub fn see_within(w: &mut [u16; 96], sck: bool, sdi: bool, ss: bool) -> bool
+    ensures { Shortens (λ s. stepped s (levels sck sdi ss)) result w.old w.new }
+{
+    let s = module_memory_looks::settings_in(w);
+    let pins = module_memory_looks::pins_in(w);
+    if module_settings::is_deselected(s, ss)
+        || sck == pins.sck
+        || module_settings::is_framed(s)
+        || !is_midword(w)
+    {
         return false;
     }
     module_memory_stores::store_ss(w, ss);
@@ -93,9 +87,10 @@ pub fn step_within(w: &mut [u16; 96], sck: bool, sdi: bool, ss: bool) -> bool
         return false;
     }
     if module_settings::own_clock(s) {
-        return within(w, true, sck, sdi, ss);
+        turn_within(w, sdi)
+    } else {
+        see_within(w, sck, sdi, ss)
     }
-    within(w, false, sck, sdi, ss)
 }
 
 // The same for a host with its own clock alone, and for any other module alone.
@@ -104,26 +99,20 @@ pub fn own_within(w: &mut [u16; 96], sck: bool, sdi: bool, ss: bool) -> bool
     ensures w_value { result ≡ true → own_clock (settings_in w.old) ≡ true }
 {
     let s = module_memory_looks::settings_in(w);
-    if !(s.spien & !module_settings::is_framed(s)) {
+    if !(s.spien & !module_settings::is_framed(s)) || !module_settings::own_clock(s) {
         return false;
     }
-    if !module_settings::own_clock(s) {
-        return false;
-    }
-    within(w, true, sck, sdi, ss)
+    turn_within(w, sdi)
 }
 
 pub fn pins_within(w: &mut [u16; 96], sck: bool, sdi: bool, ss: bool) -> bool
     ensures { Shortly (pins_of (module_in w.old) sck sdi ss) Done result w.old w.new }
 {
     let s = module_memory_looks::settings_in(w);
-    if !s.spien {
+    if !s.spien || module_settings::own_clock(s) {
         return false;
     }
-    if module_settings::own_clock(s) {
-        return false;
-    }
-    within(w, false, sck, sdi, ss)
+    see_within(w, sck, sdi, ss)
 }
 
 // A pin call with SS low, which deselects no module, by the short way.
@@ -134,13 +123,10 @@ pub fn low_within(w: &mut [u16; 96], sck: bool, sdi: bool, ss: bool) -> bool
         return false;
     }
     let s = module_memory_looks::settings_in(w);
-    if !(s.spien & !module_settings::is_framed(s)) {
+    if !(s.spien & !module_settings::is_framed(s)) || module_settings::own_clock(s) {
         return false;
     }
-    if module_settings::own_clock(s) {
-        return false;
-    }
-    within(w, false, sck, sdi, ss)
+    see_within(w, sck, sdi, ss)
 }
 
 // A tick by the short way.
@@ -155,10 +141,9 @@ fn end_pulse(w: &mut [u16; 96], sck: bool)
     ensures { Steps (λ s n. with_pulse (when beq sck s.con1.ckp then n.pins.pulse else false) n) w.old w.new }
 {
     let s = module_memory_looks::settings_in(w);
-    if sck == s.con1.ckp {
-        return;
+    if sck != s.con1.ckp {
+        module_memory_stores::store_pulse(w, false);
     }
-    module_memory_stores::store_pulse(w, false);
 }
 
 // A tick of a frame host by its short way, which leaves the edges at which a pulse may begin: a word's first and its last two.
@@ -168,22 +153,13 @@ pub fn frame_within(w: &mut [u16; 96], sdi: bool, ss: bool) -> bool
     let s = module_memory_looks::settings_in(w);
     let p = module_memory_looks::progress_in(w);
     let pins = module_memory_looks::pins_in(w);
-    if !s.spien {
-        return false;
-    }
-    if !module_settings::own_clock(s) {
-        return false;
-    }
-    if !module_settings::is_frame_host(s) {
-        return false;
-    }
-    if !is_midword(w) {
-        return false;
-    }
-    if p.edges < 1 {
-        return false;
-    }
-    if 2 * module_settings::width(s) as u16 <= p.edges as u16 + 2 {
+    if !s.spien
+        || !module_settings::own_clock(s)
+        || !module_settings::is_frame_host(s)
+        || !is_midword(w)
+        || p.edges == 0
+        || 2 * module_settings::width(s) as u16 <= p.edges as u16 + 2
+    {
         return false;
     }
     let sck = !pins.sck;

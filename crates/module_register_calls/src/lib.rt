@@ -45,25 +45,17 @@ fn stat(w: &[u16; 96]) -> u16
     module_registers::stat_value(s, waiting, unread, free, spirov)
 }
 
-// A read of a register.
+// A read of a register, and below a write. No enum of registers: read_of and write_of speak of any number, and the last arm refuses the others.
 pub fn read(w: &mut [u16; 96], register: u32) -> Answer
     ensures { Answers (read_of (module_in w.old) register) result w.old w.new }
 {
-    if 3 < register {
-        return Answer::Refused(Refusal::NoSuchRegister);
+    match register {
+        0 => Answer::Value(stat(w)),
+        1 => Answer::Value(module_registers::con1_value(module_memory_looks::con1_in(w))),
+        2 => Answer::Value(module_registers::con2_value(module_memory_looks::con2_in(w))),
+        3 => read_buf(w),
+        _ => Answer::Refused(Refusal::NoSuchRegister),
     }
-    if register == 0 {
-        return Answer::Value(stat(w));
-    }
-    if register == 1 {
-        let c = module_memory_looks::con1_in(w);
-        return Answer::Value(module_registers::con1_value(c));
-    }
-    if register == 2 {
-        let c = module_memory_looks::con2_in(w);
-        return Answer::Value(module_registers::con2_value(c));
-    }
-    read_buf(w)
 }
 
 // A write of BUF: refused when disabled or with the transmit buffer full.
@@ -89,17 +81,15 @@ fn stat_written(w: &mut [u16; 96], v: u16)
     ensures { Steps (λ s. stat_written s v) w.old w.new }
 {
     let s = module_memory_looks::settings_in(w);
-    let on = v / 32768 % 2 == 1;
-    let spirov = module_memory_looks::spirov_in(w) & (v / 64 % 2 == 1);
+    let on = module_bits::bit(v, 15);
+    let spirov = module_memory_looks::spirov_in(w) & module_bits::bit(v, 6);
     module_memory_stores::store_spirov(w, spirov);
     if !s.spien & on {
         module_memory_stores::store_sck(w, s.con1.ckp);
         module_memory_stores::store_ss(w, true);
         module_memory_stores::store_sdo(w, false);
         module_memory_stores::store_pulse(w, false);
-        return;
-    }
-    if s.spien & !on {
+    } else if s.spien & !on {
         module_memory_stores::store_free(w);
         module_memory_stores::store_receive(w, module_buffers::empty_receive());
         module_memory_stores::store_transmit(w, module_buffers::empty_transmit());
@@ -111,8 +101,8 @@ fn write_stat(w: &mut [u16; 96], v: u16) -> Answer
     ensures { Answers (write_stat (module_in w.old) v) result w.old w.new }
 {
     let s = module_memory_looks::settings_in(w);
-    let on = v / 32768 % 2 == 1;
-    if (!s.spien & on) & module_settings::are_bad(s) {
+    let on = module_bits::bit(v, 15);
+    if !s.spien & on & module_settings::are_bad(s) {
         return Answer::Refused(module_settings::first_cause(s));
     }
     stat_written(w, v);
@@ -121,6 +111,7 @@ fn write_stat(w: &mut [u16; 96], v: u16) -> Answer
 }
 
 // A write of CON1: refused while enabled.
+// No one function with `write_con2` over a closure that stores: tried, and the proof of `write` could not cite what such a closure had stored.
 fn write_con1(w: &mut [u16; 96], v: u16) -> Answer
     ensures { Answers (configured (module_in w.old) (with_con1 (settings_in w.old) (con1_from v))) result w.old w.new }
 {
@@ -148,19 +139,13 @@ fn write_con2(w: &mut [u16; 96], v: u16) -> Answer
 pub fn write(w: &mut [u16; 96], register: u32, v: u16) -> Answer
     ensures { Answers (write_of (module_in w.old) register v) result w.old w.new }
 {
-    if 3 < register {
-        return Answer::Refused(Refusal::NoSuchRegister);
+    match register {
+        0 => write_stat(w, v),
+        1 => write_con1(w, v),
+        2 => write_con2(w, v),
+        3 => write_buf(w, v),
+        _ => Answer::Refused(Refusal::NoSuchRegister),
     }
-    if register == 0 {
-        return write_stat(w, v);
-    }
-    if register == 1 {
-        return write_con1(w, v);
-    }
-    if register == 2 {
-        return write_con2(w, v);
-    }
-    write_buf(w, v)
 }
 
 // The interrupt flag is cleared.
@@ -171,21 +156,16 @@ pub fn clear(w: &mut [u16; 96]) -> Answer
     Answer::Done
 }
 
-// Power-up with a depth.
+// Power-up with a depth. No TryFrom for Depth: it would stand in module_types, below power_up_of, which says what is a depth.
 pub fn power_up_with(w: &mut [u16; 96], words: u32) -> Answer
     ensures { Answers (power_up_of (module_in w.old) words) result w.old w.new }
 {
-    if words == 4 {
-        module_memory_stores::power_up_at(w, Depth::Four);
-        return Answer::Done;
-    }
-    if words == 8 {
-        module_memory_stores::power_up_at(w, Depth::Eight);
-        return Answer::Done;
-    }
-    if words == 16 {
-        module_memory_stores::power_up_at(w, Depth::Sixteen);
-        return Answer::Done;
-    }
-    Answer::Refused(Refusal::NoSuchDepth)
+    let depth = match words {
+        4 => Depth::Four,
+        8 => Depth::Eight,
+        16 => Depth::Sixteen,
+        _ => return Answer::Refused(Refusal::NoSuchDepth),
+    };
+    module_memory_stores::power_up_at(w, depth);
+    Answer::Done
 }

@@ -4,38 +4,34 @@
 ghost use Rattle.std.specs.Prelude.{◌≡◌, ◌≤◌};
 ghost use Rattle.laws.specs.Choice.{when◌then◌else◌};
 ghost use Rattle.module_types.specs.declared.Module.{Module};
-ghost use Rattle.module_rules.specs.Registers.{weighed, con1_from, con1_value, con2_from, con2_value, at_most7, stat_value};
+ghost use Rattle.module_rules.specs.Registers.{con1_from, con1_value, con2_from, con2_value, at_most7, stat_value};
 ghost use Rattle.module_registers.specs.Shown.{enhanced_shown, Shows};
 
+use lent::weigh;
+use module_bits::bit;
 use module_types::{Con1, Con2, Settings};
 
-// The weight if the bit is set, else 0.
-pub fn weigh(bit: bool, weight: u16) -> u16
-    ensures value { result ≡ weighed bit weight }
-    ensures bound { result ≤ weight }
-{
-    if bit { weight } else { 0 }
-}
-
 // CON1 as a write sets it.
+#[tactic(auto, unfolding(module_rules::specs::Registers::con1_from))]
 pub fn con1_from(v: u16) -> Con1
     ensures { result ≡ con1_from v }
 {
     Con1 {
-        dissck: v / 4096 % 2 == 1,
-        dissdo: v / 2048 % 2 == 1,
-        mode16: v / 1024 % 2 == 1,
-        smp: v / 512 % 2 == 1,
-        cke: v / 256 % 2 == 1,
-        ssen: v / 128 % 2 == 1,
-        ckp: v / 64 % 2 == 1,
-        msten: v / 32 % 2 == 1,
+        dissck: bit(v, 12),
+        dissdo: bit(v, 11),
+        mode16: bit(v, 10),
+        smp: bit(v, 9),
+        cke: bit(v, 8),
+        ssen: bit(v, 7),
+        ckp: bit(v, 6),
+        msten: bit(v, 5),
         spre: (v / 4 % 8) as u8,
         ppre: (v % 4) as u8,
     }
 }
 
 // CON1 as a read shows it.
+#[tactic(auto, unfolding(module_rules::specs::Registers::weighed, module_rules::specs::Registers::con1_value))]
 pub fn con1_value(c: Con1) -> u16
     ensures { result ≡ con1_value c }
 {
@@ -52,19 +48,21 @@ pub fn con1_value(c: Con1) -> u16
 }
 
 // CON2 as a write sets it.
+#[tactic(auto, unfolding(module_rules::specs::Registers::con2_from))]
 pub fn con2_from(v: u16) -> Con2
     ensures { result ≡ con2_from v }
 {
     Con2 {
-        frmen: v / 32768 % 2 == 1,
-        spifsd: v / 16384 % 2 == 1,
-        frmpol: v / 8192 % 2 == 1,
-        frmdly: v / 2 % 2 == 1,
-        spiben: v / 1 % 2 == 1,
+        frmen: bit(v, 15),
+        spifsd: bit(v, 14),
+        frmpol: bit(v, 13),
+        frmdly: bit(v, 1),
+        spiben: bit(v, 0),
     }
 }
 
 // CON2 as a read shows it.
+#[tactic(auto, unfolding(module_rules::specs::Registers::weighed, module_rules::specs::Registers::con2_value))]
 pub fn con2_value(c: Con2) -> u16
     ensures { result ≡ con2_value c }
 {
@@ -75,23 +73,13 @@ pub fn con2_value(c: Con2) -> u16
         + weigh(c.spiben, 1)
 }
 
-// A count as three bits show it.
-fn at_most_7(count: u8) -> u8
-    ensures value { result ≡ at_most7 count }
-    ensures bound { result ≤ 7 }
-{
-    if count < 7 { count } else { 7 }
-}
-
-// SPIBEC in enhanced operation: the words that wait (host) or are unread (client).
+// SPIBEC in enhanced operation: the words that wait (host) or are unread (client), as three bits show them.
 fn spibec_value(s: Settings, waiting: u8, unread: u8) -> u8
     ensures value { result ≡ at_most7 (when s.con1.msten then waiting else unread) }
     ensures bound { result ≤ 7 }
 {
-    if s.con1.msten {
-        return at_most_7(waiting);
-    }
-    at_most_7(unread)
+    let words = if s.con1.msten { waiting } else { unread };
+    words.min(7)
 }
 
 // What STAT shows of enhanced operation, while enabled: SPIBEC, SRMPT (no word is loaded or begun) and SRXMPT (nothing is unread).
@@ -99,13 +87,11 @@ fn enhanced_value(s: Settings, waiting: u8, unread: u8, free: bool) -> u16
     ensures value { result ≡ enhanced_shown s waiting unread free }
     ensures bound { result ≤ 1952 }
 {
-    if !s.con2.spiben {
-        return 0;
+    if s.spien & s.con2.spiben {
+        spibec_value(s, waiting, unread) as u16 * 256 + weigh(free, 128) + weigh(unread == 0, 32)
+    } else {
+        0
     }
-    if !s.spien {
-        return 0;
-    }
-    spibec_value(s, waiting, unread) as u16 * 256 + weigh(free, 128) + weigh(unread == 0, 32)
 }
 
 // STAT as a read shows it, by the settings, the words waiting and unread, whether no word is loaded or begun, and SPIROV.

@@ -15,7 +15,7 @@ pub fn width(s: Settings) -> u8
     if s.con1.mode16 { 16 } else { 8 }
 }
 
-// How many words each buffer holds in enhanced operation.
+// How many words each buffer holds in enhanced operation. No From: it would stand below words_of, which this promises.
 fn words(depth: Depth) -> u8
     ensures { result ≡ words_of depth }
 {
@@ -30,8 +30,7 @@ fn words(depth: Depth) -> u8
 pub fn depth(s: Settings) -> u8
     ensures { result ≡ depth_of s }
 {
-    let chosen = s.depth;
-    if s.con2.spiben { words(chosen) } else { 1 }
+    if s.con2.spiben { words(s.depth) } else { 1 }
 }
 
 // Whether the module is framed.
@@ -67,9 +66,10 @@ pub fn is_silent(s: Settings) -> bool
     ensures { result ≡ silent s }
 {
     if s.con2.frmen {
-        return !s.con2.spifsd;
+        !s.con2.spifsd
+    } else {
+        s.con1.msten
     }
-    s.con1.msten
 }
 
 // Whether the module is an unframed client that watches its select pin.
@@ -83,10 +83,7 @@ pub fn ssen_client(s: Settings) -> bool
 pub fn is_deselected(s: Settings, ss: bool) -> bool
     ensures { result ≡ deselected s ss }
 {
-    if ss {
-        return ssen_client(s);
-    }
-    false
+    ssen_client(s) & ss
 }
 
 // Whether the module is a host with its own clock.
@@ -129,10 +126,10 @@ pub fn first_cause(s: Settings) -> Refusal
     ensures { result ≡ first_given (causes s) }
 {
     if is_undivided(s) {
-        return Refusal::Undivided;
+        Refusal::Undivided
+    } else if samples_late(s) {
+        Refusal::LateSampling
+    } else {
+        Refusal::UnselectedCke
     }
-    if samples_late(s) {
-        return Refusal::LateSampling;
-    }
-    Refusal::UnselectedCke
 }

@@ -20,6 +20,7 @@ pub struct CpuRead(pub u8);
 pub struct SpiWrite(pub u8);
 
 // The words waiting to be sent: `count` of them, the first at `read`.
+// An array and a count, no Vec: a module is fixed memory. Two types, not one generic: the rules of specs/ name each one's own positions and mark.
 #[derive(Clone, Copy)]
 pub struct Transmit {
     pub words: [u16; 16],
@@ -162,6 +163,7 @@ pub enum Refusal {
 }
 
 // What a call answers: a refusal, nothing to tell, a register's value, no edge, or one edge made.
+// No Result: the five stand side by side in the rules, as said_of lists them; a Result would put four of them a level below the first.
 #[derive(Clone, Copy)]
 pub enum Answer {
     Refused(Refusal),
@@ -173,6 +175,7 @@ pub enum Answer {
 
 // An answer in the paper's numbers: the refusal number, 0 if not refused; the register value, 0 if none is told; and
 // how many edges a tick made. said_of in specs/Refusals.antt gives them for each answer.
+// Numbers and no enum: this is the paper's own form of an answer, of which said_of and its examples speak.
 #[derive(Clone, Copy)]
 pub struct Said {
     pub kind: u8,
@@ -201,6 +204,7 @@ pub enum Call {
 }
 
 // A pin that the module may drive, SDO or SS, as others see it.
+// No Option<bool>: three names say what `None` and `Some(true)` would leave to a comment.
 #[derive(Clone, Copy)]
 pub enum Output {
     Low,

@@ -5,14 +5,14 @@
 --     word_made_lem                 the values stored are those of the closed form
 --     speaks, speaks_as         what is told then
 --     has_word_is, short_here   whether there is a word, and that it is short of its last edge
---     step_level_is, stepped_so   one step
+--     stepped_so                one step
 --     told_so                   the number that is told
 --     next_is                   the word that would go out next
---     owes_some, owed_fits      the edges owed
+--     owes_some                 the edges owed
 -- Assumes nothing.
 use Rattle.std.specs.Prelude.{◌+◌, ◌*◌, ◌-◌, ◌/◌, ◌%◌, ◌^◌, ◌<◌, ◌≤◌, ◌&&◌, ◌≡◌}
 use Rattle.laws.proofs.Common.{ℕ, Bool, true, false, not, List, refl, sym}
-use Rattle.laws.proofs.Common.{ap, ◌∙◌, mul-le-mul, arith, ltb, when◌then◌else◌, if_keeps, if_true, if_false, if_not, so}
+use Rattle.laws.proofs.Common.{ap, ◌∙◌, arith, ltb, when◌then◌else◌, if_keeps, if_true, if_false, if_not, so}
 use mir.Val.{bool_byte}
 use Rattle.laws.proofs.Keeps.{if_and}
 use Rattle.module_rules.proofs.Types.{Settings, Engine, Module, Progress, Answer, Done, Outcome}
@@ -122,16 +122,7 @@ module _ (m : Module) (ss : Bool) where
       p.edges < word_edges t
   short_here has same is = rw (same, is) (started m ss has).short
 
--- One step, and the level of SCK in it.
-pub step_level_is : (m : Module) (ss : Bool) {r : Bool} →
-    r
-    ≡ (when framed m.settings then not m.engine.pins.sck
-    else when resting m.settings ss m.engine then m.engine.pins.sck
-    else not m.engine.pins.sck) →
-    r ≡ step_level m ss
-unfolding step_level
-step_level_is m ss h = h ∙ sym (if_and _ _ _ _ ∙ if_not _ _ _)
-
+-- One step.
 pub stepped_so : {w after : List ℕ} {a : Answer} {count shown : ℕ} (ss : Bool) (word : ℕ) →
     Answers (clock_step_of (module_in w) (step_level (module_in w) ss) (bit_of word 0) ss) a w after →
     count ≡ bool_byte ((settings_in w).spien && framed (settings_in w)) →
@@ -182,6 +173,3 @@ pub owes_some : (m : Module) {width words given : ℕ} →
     2 * width * words - given ≡ edges_owed m
 unfolding edges_owed
 owes_some m host bits all gone = so _ _ _ host (rw (bits, all, gone))
-
-pub owed_fits : (width words : ℕ) → width ≤ 16 → words ≤ 256 → 2 * width * words ≤ 8192
-owed_fits width words few some = mul-le-mul {n₂ = 32} {m₂ = 256} (omega arith) some

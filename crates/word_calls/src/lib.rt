@@ -4,7 +4,6 @@
 
 ghost use Rattle.std.specs.Prelude.{◌+◌, ◌*◌, ◌%◌, ◌^◌, ◌<◌, ◌≤◌, true, false, ◌≡◌};
 ghost use Rattle.word_order.specs.Bits.{bit_of};
-ghost use Rattle.module_types.specs.declared.Shift.TheVariants.{Free};
 ghost use Rattle.module_rules.specs.Changes.{with_sdo};
 ghost use Rattle.module_rules.specs.Finish.{finished};
 ghost use Rattle.module_rules.specs.Edge.{word_edges};
@@ -24,16 +23,26 @@ pub struct Spoken {
     pub levels: u32,
 }
 
+impl Spoken {
+    // The answer as one number, as the C call hands it out.
+    fn number(self) -> u32
+        ensures { result ≡ word_number self.answer self.count self.levels }
+    {
+        let told = self.levels % 65536 + (self.count % 32) as u32 * 16777216;
+        match self.answer {
+            Answer::Refused(r) => module_looks::refusal_number(r) as u32 * 65536,
+            Answer::NoEdge => 536870912,
+            Answer::Done | Answer::Value(_) | Answer::Edge => told,
+        }
+    }
+}
+
 // The bits of a word that are not sampled after so many edges.
 fn bits_left(s: Settings, edges: u8) -> u8
     ensures { (result ≡ bits_left s edges) × (result ≤ 16) }
 {
-    let w = module_settings::width(s);
     let gone = (edges as u16 + module_settings::cke(s) as u16) / 2;
-    if gone < w as u16 {
-        return w - gone as u8;
-    }
-    0
+    (module_settings::width(s) as u16).saturating_sub(gone) as u8
 }
 
 // The low bits of a number behind another one.
@@ -67,53 +76,11 @@ fn last_sdo(s: Settings, p: Progress, sdo: bool) -> bool
     sdo
 }
 
-// What begins where no word is loaded: the first waiting word of an SSEN client, or a filler. Of a silent module nothing does.
-fn beginning(w: &[u16; 96]) -> Progress
-    requires { (engine_in w.now).shift ≡ Free }
-    ensures { result ≡ current (settings_in w.now) (engine_in w.now) }
-{
-    let s = module_memory_looks::settings_in(w);
-    let count = module_memory_looks::waiting_in(w);
-    let first = module_memory_looks::first_waiting_in(w);
-    if module_settings::is_silent(s) {
-        return Progress {
-            filler: false,
-            word: 0,
-            edges: 0,
-            received: 0,
-        };
-    }
-    if module_settings::ssen_client(s) & !(count == 0) {
-        return Progress {
-            filler: false,
-            word: first,
-            edges: 0,
-            received: 0,
-        };
-    }
-    Progress {
-        filler: true,
-        word: 0,
-        edges: 0,
-        received: 0,
-    }
-}
-
-// The word that the next edges belong to.
+// The word that the next edges belong to: the one begun, else the one that would begin; where there is none its numbers do not count.
 pub fn current_in(w: &[u16; 96]) -> Progress
     ensures { result ≡ current (settings_in w.now) (engine_in w.now) }
 {
-    let shift = module_memory_looks::shift_in(w);
-    match shift {
-        Shift::Free => beginning(w),
-        Shift::Loaded(word) => Progress {
-            filler: false,
-            word: word,
-            edges: 0,
-            received: 0,
-        },
-        Shift::Begun(p) => p,
-    }
+    module_edges::begun_in(w).unwrap_or(module_edges::fresh(false, 0))
 }
 
 // Whether nothing is to be clocked.
@@ -149,7 +116,7 @@ fn idle_first(w: &[u16; 96]) -> bool
 {
     let s = module_memory_looks::settings_in(w);
     let pins = module_memory_looks::pins_in(w);
-    !module_memory_looks::is_begun(w) & !(pins.sck == s.con1.ckp)
+    !module_memory_looks::is_begun(w) & (pins.sck != s.con1.ckp)
 }
 
 // The select level is remembered, but by a host with its own clock.
@@ -195,7 +162,7 @@ fn make_word(w: &mut [u16; 96], ss: bool, word: u16) -> Spoken
     Spoken {
         answer: Answer::Done,
         count: left,
-        levels: levels,
+        levels,
     }
 }
 
@@ -257,13 +224,11 @@ fn step_level(w: &[u16; 96], ss: bool) -> bool
 {
     let s = module_memory_looks::settings_in(w);
     let pins = module_memory_looks::pins_in(w);
-    if module_settings::is_framed(s) {
-        return !pins.sck;
+    if !module_settings::is_framed(s) & is_resting(w, ss) {
+        pins.sck
+    } else {
+        !pins.sck
     }
-    if is_resting(w, ss) {
-        return pins.sck;
-    }
-    !pins.sck
 }
 
 // That step.
@@ -276,7 +241,7 @@ fn make_step(w: &mut [u16; 96], ss: bool, word: u16) -> Spoken
     let sck = step_level(w, ss);
     let answer = module_edges::clock_step(w, sck, module_bits::bit(word, 0), ss);
     Spoken {
-        answer: answer,
+        answer,
         count: shows as u8,
         levels: (shows & pins.sdo) as u32,
     }
@@ -292,20 +257,6 @@ fn word(w: &mut [u16; 96], ss: bool, word: u16) -> Spoken
     make_step(w, ss, word)
 }
 
-// Its answer as one number.
-fn word_number(a: Answer, count: u8, levels: u32) -> u32
-    ensures { result ≡ word_number a count levels }
-{
-    let told = levels % 65536 + (count % 32) as u32 * 16777216;
-    match a {
-        Answer::Refused(r) => module_looks::refusal_number(r) as u32 * 65536,
-        Answer::Done => told,
-        Answer::Value(_) => told,
-        Answer::NoEdge => 536870912,
-        Answer::Edge => told,
-    }
-}
-
 // The call answered by that number.
 pub fn told(w: &mut [u16; 96], ss: bool, incoming: u16) -> u32
     ensures { WordTells (word_of (module_in w.old) ss incoming) result w.old w.new }
@@ -313,12 +264,10 @@ pub fn told(w: &mut [u16; 96], ss: bool, incoming: u16) -> u32
     if is_at_start(w) {
         return told_first(w, ss, incoming);
     }
-    let spoken = word(w, ss, incoming);
-    let answer = spoken.answer;
-    word_number(answer, spoken.count, spoken.levels)
+    word(w, ss, incoming).number()
 }
 
-// The word that would go out next, if any.
+// The word that would go out next, if any, as one number: the C call hands it out.
 pub fn next(w: &[u16; 96]) -> u32
     ensures { result ≡ next_number (module_in w.now) }
 {
@@ -343,12 +292,7 @@ fn words_in(shift: Shift) -> u32
     match shift {
         Shift::Free => 0,
         Shift::Loaded(_) => 1,
-        Shift::Begun(p) => {
-            if p.filler {
-                return 0;
-            }
-            1
-        }
+        Shift::Begun(p) => !p.filler as u32,
     }
 }
 
@@ -356,8 +300,7 @@ fn edges_in(shift: Shift) -> u32
     ensures { (result ≡ edges_in shift) × (result ≤ 255) }
 {
     match shift {
-        Shift::Free => 0,
-        Shift::Loaded(_) => 0,
+        Shift::Free | Shift::Loaded(_) => 0,
         Shift::Begun(p) => p.edges as u32,
     }
 }
@@ -372,9 +315,5 @@ pub fn edges_owed(w: &[u16; 96]) -> u32
     }
     let words = words_in(shift) + module_memory_looks::waiting_in(w) as u32;
     let all = 2 * module_settings::width(s) as u32 * words;
-    let given = edges_in(shift);
-    if all < given {
-        return 0;
-    }
-    all - given
+    all.saturating_sub(edges_in(shift))
 }

@@ -1,10 +1,8 @@
 -- By the short way, or whole.
-use Rattle.laws.proofs.Common.{when◌then◌else◌}
 use Rattle.module_calls.proofs.see.Goals as goal
 
-pub returns-then-within : goal.returns-then-within
-unfolding when◌then◌else◌
-returns-then-within c = c.within.ensures.steps c.if-within.true
+pub returns-else-not-see_within : goal.returns-else-not-see_within
+returns-else-not-see_within c = c.see_within.ensures.steps c.if-not-see_within.false
 
-pub returns : goal.returns
-returns c = rw (c.within.ensures.left c.if-within.false) at c.see_any.ensures
+pub returns-then-not-see_within : goal.returns-then-not-see_within
+returns-then-not-see_within c = rw (c.see_within.ensures.left c.if-not-see_within.true) at c.see_any.ensures

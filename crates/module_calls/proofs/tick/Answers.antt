@@ -17,5 +17,5 @@ returns-then-not-own_clock c =
 pub returns : goal.returns
 unfolding tick_of
 returns c =
-    likewise (edge-told c.clock_step-answer.ensures c.edge_for.ensures)
+    likewise (edge-told c.clock_step.ensures c.edge_for.ensures)
     (not_so _ _ _ (rw c.settings_in-s.ensures at c.if-not-s.false) (not_so _ _ _ (ap not (rw (c.own_clock.ensures, c.settings_in-s.ensures) at c.if-not-own_clock.false)) refl))

@@ -15,12 +15,6 @@ returns-then-ss c = left_alone
 pub returns-then-not-s-is_framed : goal.returns-then-not-s-is_framed
 returns-then-not-s-is_framed c = left_alone
 
-pub returns-then-own_clock : goal.returns-then-own_clock
-returns-then-own_clock c = left_alone
-
-pub returns-then-sck-pins : goal.returns-then-sck-pins
-returns-then-sck-pins c = left_alone
-
 pub plain_edge-requires : goal.plain_edge-requires
 plain_edge-requires c =
     ap framed c.store_ss.ensures.settings ∙ (plain_on (settings_in c.args.w.now) (ap not (rw (c.is_framed.ensures, c.settings_in-s.ensures) at c.if-not-s-is_framed.false))).1
@@ -32,4 +26,4 @@ returns c =
     made_so
     (pins_answer ready.0 _ _ _ (rw (c.own_clock.ensures, c.settings_in-s.ensures) at c.if-own_clock.false)
     (alike (c.store_ss.ensures then c.plain_edge.ensures)
-    (seen_edge _ _ _ _ _ (and-false (ssen_client (settings_in c.args.w.now)) _ c.if-ss.false) (rw c.pins_in-pins.ensures at c.if-sck-pins.false))))
+    (seen_edge _ _ _ _ _ (and-false (ssen_client (settings_in c.args.w.now)) _ c.if-ss.false) (rw c.pins_in.ensures at c.if-sck-pins_in.false))))

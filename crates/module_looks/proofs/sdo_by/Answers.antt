@@ -8,5 +8,5 @@ returns-then-s-ssen_client c = so _ _ _ (cc) refl
 pub returns-then-pins : goal.returns-then-pins
 returns-then-pins c = not_so _ _ _ (cc) (so _ _ _ (cc) refl)
 
-pub returns : goal.returns
-returns c = not_so _ _ _ (cc) (not_so _ _ _ (cc) refl)
+pub returns-else-pins : goal.returns-else-pins
+returns-else-pins c = not_so _ _ _ (cc) (not_so _ _ _ (cc) refl)

@@ -8,5 +8,5 @@ returns-then-not-s-is_frame_host c = so _ _ _ (cc) refl
 pub returns-then-pins-s : goal.returns-then-pins-s
 returns-then-pins-s c = not_so _ _ _ (cc) (so _ _ _ (cc) refl)
 
-pub returns : goal.returns
-returns c = not_so _ _ _ (cc) (not_so _ _ _ (cc) refl)
+pub returns-else-pins-s : goal.returns-else-pins-s
+returns-else-pins-s c = not_so _ _ _ (cc) (not_so _ _ _ (cc) refl)

@@ -1,16 +1,16 @@
--- Each branch is a value of the choice.
-use Rattle.laws.proofs.Common.{refl, so_eq, not_so_eq}
+-- Each arm is a value of the choice.
+use Rattle.laws.proofs.Common.{refl, arith, so_eq, not_so_eq}
 use Rattle.module_memory.specs.Memory.{depth_in, settings_in}
 use Rattle.module_memory_looks.proofs.depth_in.Goals as goal
 
-pub returns-then-w-eq4 : goal.returns-then-w-eq4
+pub returns-in-4 : goal.returns-in-4
 unfolding depth_in settings_in
-returns-then-w-eq4 c = so_eq _ _ _ _ c.if-w-eq4.true refl
+returns-in-4 c = so_eq _ _ _ _ c.in-4.is refl
 
-pub returns-then-w-eq16 : goal.returns-then-w-eq16
+pub returns-in-16 : goal.returns-in-16
 unfolding depth_in settings_in
-returns-then-w-eq16 c = not_so_eq _ _ _ _ c.if-w-eq4.false (so_eq _ _ _ _ c.if-w-eq16.true refl)
+returns-in-16 c = not_so_eq _ _ _ _ (λ e. omega arith) (so_eq _ _ _ _ c.in-16.is refl)
 
-pub returns : goal.returns
+pub returns-in_default : goal.returns-in_default
 unfolding depth_in settings_in
-returns c = not_so_eq _ _ _ _ c.if-w-eq4.false (not_so_eq _ _ _ _ c.if-w-eq16.false refl)
+returns-in_default c = not_so_eq _ _ _ _ (λ e. omega arith) (not_so_eq _ _ _ _ (λ e. omega arith) refl)

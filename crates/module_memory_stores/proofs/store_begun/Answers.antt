@@ -1,12 +1,14 @@
 -- What is written is read back.
 use Rattle.std.specs.Prelude.{◌∷◌}
-use Rattle.laws.proofs.Common.{refl, [], when◌then◌else◌}
+use Rattle.laws.proofs.Common.{refl, arith, [], when◌then◌else◌}
 use Rattle.module_memory.specs.Memory.{settings_in, engine_in}
 use Rattle.laws.specs.Writes.{at}
 use Rattle.module_memory.proofs.Stored.{engine_step_lem}
+use Rattle.module_memory.proofs.Bytes.{byte_small}
+use Rattle.module_memory_stores.proofs.Numbers.{level_back}
 use Rattle.module_memory_stores.proofs.store_begun.Goals as goal
 
 pub returns : goal.returns
 unfolding when◌then◌else◌ settings_in engine_in
 returns c =
-    engine_step_lem _ (at 64 _ ∷ at 65 _ ∷ at 66 _ ∷ at 67 _ ∷ at 68 _ ∷ []) c.is_whole.ensures.1 refl refl (rw (c.number.ensures, c.byte_number.ensures))
+    engine_step_lem _ (at 64 _ ∷ at 65 _ ∷ at 66 _ ∷ at 67 _ ∷ at 68 _ ∷ []) c.told-w refl refl (rw (level_back c.args.p.filler, byte_small c.args.p.edges (omega arith)))

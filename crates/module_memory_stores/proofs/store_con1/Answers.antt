@@ -12,4 +12,4 @@ use Rattle.module_memory_stores.proofs.store_con1.Goals as goal
 pub returns : goal.returns
 unfolding when◌then◌else◌ con1_from with_con1 settings_in engine_in
 returns c =
-    settings_set _ (at 2 _ ∷ at 3 _ ∷ at 4 _ ∷ []) c.is_whole.ensures.1 refl (rw (byte_small (c.args.v / 4 % 8) (omega arith), byte_small (c.args.v % 4) (omega arith))) refl
+    settings_set _ (at 2 _ ∷ at 3 _ ∷ at 4 _ ∷ []) c.told-w refl (rw (byte_small (c.args.v / 4 % 8) (omega arith), byte_small (c.args.v % 4) (omega arith))) refl

@@ -9,4 +9,4 @@ use Rattle.module_memory_stores.proofs.store_con2.Goals as goal
 
 pub returns : goal.returns
 unfolding when◌then◌else◌ with_con2 settings_in engine_in
-returns c = settings_set _ (at 5 _ ∷ []) c.is_whole.ensures.1 refl refl refl
+returns c = settings_set _ (at 5 _ ∷ []) c.told-w refl refl refl

@@ -8,4 +8,4 @@ use Rattle.module_memory_stores.proofs.store_loaded.Goals as goal
 
 pub returns : goal.returns
 unfolding when◌then◌else◌ settings_in engine_in
-returns c = engine_step_lem _ (at 64 _ ∷ at 66 _ ∷ []) c.is_whole.ensures.1 refl refl (refl)
+returns c = engine_step_lem _ (at 64 _ ∷ at 66 _ ∷ []) c.told-w refl refl (refl)

@@ -4,8 +4,9 @@ use Rattle.laws.proofs.Common.{refl, [], when◌then◌else◌}
 use Rattle.module_memory.specs.Memory.{settings_in, engine_in}
 use Rattle.laws.specs.Writes.{at}
 use Rattle.module_memory.proofs.Stored.{engine_step_lem}
+use Rattle.module_memory_stores.proofs.Numbers.{level_back}
 use Rattle.module_memory_stores.proofs.store_pulse.Goals as goal
 
 pub returns : goal.returns
 unfolding when◌then◌else◌ settings_in engine_in
-returns c = engine_step_lem _ (at 74 _ ∷ []) c.is_whole.ensures.1 refl refl (rw (c.number.ensures))
+returns c = engine_step_lem _ (at 74 _ ∷ []) c.told-w refl refl (rw (level_back c.args.pulse))

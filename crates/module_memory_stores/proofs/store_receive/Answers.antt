@@ -1,15 +1,17 @@
 -- What is written is read back.
 use borrow.Author.Rules.{rules}
 use Rattle.std.specs.Prelude.{◌∷◌, ◌++◌}
-use Rattle.laws.proofs.Common.{refl, [], when◌then◌else◌}
+use Rattle.laws.proofs.Common.{refl, arith, [], when◌then◌else◌}
 use Rattle.module_memory.specs.Memory.{settings_in, engine_in}
 use Rattle.laws.specs.Writes.{at}
 use Rattle.module_memory.specs.Writes.{words_written}
 use Rattle.module_memory.proofs.Stored.{engine_step_lem}
 use Rattle.module_memory.proofs.Rings.{cells_all}
+use Rattle.module_memory.proofs.Bytes.{byte_small}
+use Rattle.module_memory_stores.proofs.Numbers.{level_back}
 use Rattle.module_memory_stores.proofs.store_receive.Goals as goal
 
 pub returns : goal.returns
 unfolding when◌then◌else◌ settings_in engine_in
 returns c =
-    rw c.store_words.ensures (engine_step_lem _ (words_written 44 c.args.r.words ++ at 60 _ ∷ at 61 _ ∷ at 62 _ ∷ at 75 _ ∷ []) c.is_whole.ensures.1 refl refl (rw (cells_all 16 c.args.r.words (search rules), c.byte_number.ensures, c.byte_number-2.ensures, c.byte_number-3.ensures, c.number.ensures)))
+    rw c.store_buffer.ensures (engine_step_lem _ (words_written 44 c.args.r.words ++ at 60 _ ∷ at 61 _ ∷ at 62 _ ∷ at 75 _ ∷ []) c.told-w refl refl (rw (cells_all 16 c.args.r.words (search rules), byte_small c.args.r.write.0 (omega arith), byte_small c.args.r.read.0 (omega arith), byte_small c.args.r.count (omega arith), level_back c.args.r.marked)))

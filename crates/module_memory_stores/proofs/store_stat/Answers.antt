@@ -11,4 +11,4 @@ use Rattle.module_memory_stores.proofs.store_stat.Goals as goal
 pub returns : goal.returns
 unfolding when◌then◌else◌ stat_settings settings_in engine_in
 returns c =
-    settings_set _ (at 0 _ ∷ at 1 _ ∷ []) c.is_whole.ensures.1 refl (rw (byte_small (c.args.v / 4 % 8) (omega arith))) refl
+    settings_set _ (at 0 _ ∷ at 1 _ ∷ []) c.told-w refl (rw (byte_small (c.args.v / 4 % 8) (omega arith))) refl

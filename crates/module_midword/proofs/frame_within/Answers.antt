@@ -12,21 +12,6 @@ use Rattle.module_midword.proofs.frame_within.Goals as goal
 pub returns-then-not-s : goal.returns-then-not-s
 returns-then-not-s c = untold
 
-pub returns-then-not-own_clock : goal.returns-then-not-own_clock
-returns-then-not-own_clock c = untold
-
-pub returns-then-not-is_frame_host : goal.returns-then-not-is_frame_host
-returns-then-not-is_frame_host c = untold
-
-pub returns-then-not-is_midword : goal.returns-then-not-is_midword
-returns-then-not-is_midword c = untold
-
-pub returns-then-p-lt1 : goal.returns-then-p-lt1
-returns-then-p-lt1 c = untold
-
-pub returns-then-width-p : goal.returns-then-width-p
-returns-then-width-p c = untold
-
 pub go_within-requires : goal.go_within-requires
 go_within-requires c = c.is_midword.ensures c.if-not-is_midword.false
 

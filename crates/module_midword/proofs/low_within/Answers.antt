@@ -11,11 +11,8 @@ returns-then-ss c = untold
 pub returns-then-not-s-is_framed : goal.returns-then-not-s-is_framed
 returns-then-not-s-is_framed c = untold
 
-pub returns-then-own_clock : goal.returns-then-own_clock
-returns-then-own_clock c = untold
-
 pub returns : goal.returns
 returns c =
     let pin = rw (c.own_clock.ensures, c.settings_in-s.ensures) at c.if-own_clock.false in
     let on = (plain_on (settings_in c.args.w.now) (ap not (rw (c.is_framed.ensures, c.settings_in-s.ensures) at c.if-not-s-is_framed.false))).0 in
-    pins_shortly _ _ _ pin (pin_shortly on _ _ _ pin c.within.ensures)
+    pins_shortly _ _ _ pin (pin_shortly on _ _ _ pin c.see_within.ensures)

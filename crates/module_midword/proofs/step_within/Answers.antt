@@ -8,8 +8,8 @@ returns-then-not-s c = untold
 
 pub returns-then-own_clock : goal.returns-then-own_clock
 returns-then-own_clock c =
-    own_shortly (not-false _ (rw c.settings_in-s.ensures at c.if-not-s.false)) _ _ _ (rw (c.own_clock.ensures, c.settings_in-s.ensures) at c.if-own_clock.true) c.within.ensures
+    own_shortly (not-false _ (rw c.settings_in-s.ensures at c.if-not-s.false)) _ _ _ (rw (c.own_clock.ensures, c.settings_in-s.ensures) at c.if-own_clock.true) c.turn_within.ensures
 
-pub returns : goal.returns
-returns c =
-    pin_shortly (not-false _ (rw c.settings_in-s.ensures at c.if-not-s.false)) _ _ _ (rw (c.own_clock.ensures, c.settings_in-s.ensures) at c.if-own_clock.false) c.within-2.ensures
+pub returns-else-own_clock : goal.returns-else-own_clock
+returns-else-own_clock c =
+    pin_shortly (not-false _ (rw c.settings_in-s.ensures at c.if-not-s.false)) _ _ _ (rw (c.own_clock.ensures, c.settings_in-s.ensures) at c.if-own_clock.false) c.see_within.ensures

@@ -1,32 +1,27 @@
 -- Each depth, and any other number.
-use Rattle.laws.proofs.Common.{refl, ap, so_eq, not_so_eq}
-use Rattle.module_rules.proofs.Types.{Module, Outcome, Done}
-use Rattle.module_rules.specs.Calls.{refuse, power_up_of}
+use Rattle.laws.proofs.Common.{arith, refl, sym, ap, ◌∙◌, when◌then◌else◌, not_so_eq}
+use Rattle.module_rules.proofs.Types.{Module, Outcome, Done, Depth}
+use Rattle.module_memory.specs.Memory.{module_in}
+use Rattle.module_rules.specs.Calls.{refuse, powered_at, power_up_of}
 use Rattle.module_answers.proofs.Answers.{kept, changed}
 use Rattle.module_register_calls.proofs.power_up_with.Goals as goal
+use Rattle.module_register_calls.proofs.power_up_with.Goals.{in-4, in-8, in-16}
 
 abbrev done : Module → Outcome
 done m = record { answer = Done; after = m }
 
-pub returns-then-words-eq4 : goal.returns-then-words-eq4
-unfolding power_up_of
-returns-then-words-eq4 c = changed refl (so_eq _ _ _ _ c.if-words-eq4.true (ap done c.power_up_at.ensures))
-
-pub returns-then-words-eq8 : goal.returns-then-words-eq8
-unfolding power_up_of
-returns-then-words-eq8 c =
-    changed refl
-    (not_so_eq _ _ _ _ c.if-words-eq4.false (so_eq _ _ _ _ c.if-words-eq8.true (ap done c.power_up_at-then-words-eq8.ensures)))
-
-pub returns-then-words-eq16 : goal.returns-then-words-eq16
-unfolding power_up_of
-returns-then-words-eq16 c =
-    changed refl
-    (not_so_eq _ _ _ _ c.if-words-eq4.false
-    (not_so_eq _ _ _ _ c.if-words-eq8.false (so_eq _ _ _ _ c.if-words-eq16.true (ap done c.power_up_at-then-words-eq16.ensures))))
+pub returns-in_default : goal.returns-in_default
+unfolding power_up_of refuse
+returns-in_default c =
+    kept (not_so_eq c.args.words 4 _ _ (λ e. omega arith) (not_so_eq c.args.words 8 _ _ (λ e. omega arith) (not_so_eq c.args.words 16 _ _ (λ e. omega arith) refl)))
 
 pub returns : goal.returns
-unfolding power_up_of refuse
+unfolding power_up_of when◌then◌else◌
 returns c =
-    kept
-    (not_so_eq _ _ _ _ c.if-words-eq4.false (not_so_eq _ _ _ _ c.if-words-eq8.false (not_so_eq _ _ _ _ c.if-words-eq16.false refl)))
+    changed refl
+    (ap done (c.power_up_at.ensures)
+    ∙ elim c.match-words.branch [
+      | in-4 w ↦ ap (λ (d : Depth). done (powered_at d)) w.depth-is ∙ ap (power_up_of (module_in c.args.w.now)) (sym w.in-4.is)
+      | in-8 w ↦ ap (λ (d : Depth). done (powered_at d)) w.depth-is ∙ ap (power_up_of (module_in c.args.w.now)) (sym w.in-8.is)
+      | in-16 w ↦ ap (λ (d : Depth). done (powered_at d)) w.depth-is ∙ ap (power_up_of (module_in c.args.w.now)) (sym w.in-16.is)
+    ])

@@ -1,14 +1,13 @@
 -- Each branch is a value of the choice.
-use Rattle.laws.proofs.Common.{not-true, not-false, arith}
-use Rattle.module_registers.proofs.Sums.{standard_none, disabled_none, shown}
+use Rattle.laws.proofs.Common.{arith, refl, so, not_so}
+use Rattle.module_rules.specs.Registers.{weighed, shows_enhanced}
+use Rattle.module_registers.specs.Shown.{enhanced_shown}
 use Rattle.module_registers.proofs.enhanced_value.Goals as goal
 
-pub returns-then-not-s : goal.returns-then-not-s
-returns-then-not-s c = record { value = standard_none _ _ _ _ (not-true _ c.if-not-s.true); bound = omega arith }
+pub returns-then-s : goal.returns-then-s
+unfolding weighed enhanced_shown
+returns-then-s c = record { value = so (shows_enhanced c.args.s) _ _ c.if-s.true (cc); bound = omega (arith, c.spibec_value.ensures.bound, c.weigh.ensures.bound, c.weigh-then-s.ensures.bound) }
 
-pub returns-then-not-s-2 : goal.returns-then-not-s-2
-returns-then-not-s-2 c = record { value = disabled_none _ _ _ _ (not-true _ c.if-not-s-2.true); bound = omega arith }
-
-pub returns : goal.returns
-returns c =
-    record { value = shown _ _ _ _ (not-false _ c.if-not-s-2.false) (not-false _ c.if-not-s.false) c.spibec_value.ensures.value c.weigh.ensures.value c.weigh-2.ensures.value; bound = omega (arith, c.spibec_value.ensures.bound, c.weigh.ensures.bound, c.weigh-2.ensures.bound) }
+pub returns-else-s : goal.returns-else-s
+unfolding enhanced_shown
+returns-else-s c = record { value = not_so (shows_enhanced c.args.s) _ _ c.if-s.false refl; bound = omega arith }

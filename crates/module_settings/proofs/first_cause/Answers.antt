@@ -8,5 +8,5 @@ returns-then-is_undivided c = so _ _ _ (cc) (cc)
 pub returns-then-samples_late : goal.returns-then-samples_late
 returns-then-samples_late c = not_so _ _ _ (cc) (so _ _ _ (cc) (cc))
 
-pub returns : goal.returns
-returns c = not_so _ _ _ (cc) (not_so _ _ _ (cc) (cc))
+pub returns-else-samples_late : goal.returns-else-samples_late
+returns-else-samples_late c = not_so _ _ _ (cc) (not_so _ _ _ (cc) (cc))

@@ -5,5 +5,5 @@ use Rattle.module_settings.proofs.is_silent.Goals as goal
 pub returns-then-s : goal.returns-then-s
 returns-then-s c = so _ _ _ (cc) (cc)
 
-pub returns : goal.returns
-returns c = not_so _ _ _ (cc) (cc)
+pub returns-else-s : goal.returns-else-s
+returns-else-s c = not_so _ _ _ (cc) (cc)

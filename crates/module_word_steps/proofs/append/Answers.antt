@@ -14,7 +14,7 @@ returns-then-count-depth c =
     let n = engine_in c.args.w.now in
     alike c.store_appended.ensures
     (ap (λ (b : Receive). with_receive b n)
-    (arrived_appended (depth_of (settings_in c.args.w.now)) n.receive c.args.word _ _ (omega arith) (rw (c.requires, c.spi_write_in-at.ensures) at c.next_position-on.ensures) (ap (λ (x : ℕ). x + 1) c.unread_in-count.ensures)))
+    (arrived_appended (depth_of (settings_in c.args.w.now)) n.receive c.args.word _ _ (omega arith) (rw (c.requires, c.spi_write_in.ensures) at c.next_position-on.ensures) (ap (λ (x : ℕ). x + 1) c.unread_in-count.ensures)))
 
 pub returns-else-count-depth : goal.returns-else-count-depth
 returns-else-count-depth c =

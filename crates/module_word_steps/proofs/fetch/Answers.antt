@@ -12,7 +12,7 @@ use Rattle.module_word_steps.proofs.fetch.Goals as goal
 pub returns-then-count-gt0 : goal.returns-then-count-gt0
 returns-then-count-gt0 c =
     let n = engine_in c.args.w.now in
-    alike c.store_taken.ensures (ap (λ (b : Receive). with_receive b n) (fetched_taken (depth_of (settings_in c.args.w.now)) n.receive _ _ (omega arith) (rw (c.room_in-depth.ensures, c.cpu_read_in-at.ensures) at c.next_position-on.ensures) (ap (λ (x : ℕ). x - 1) c.unread_in-count.ensures)))
+    alike c.store_taken.ensures (ap (λ (b : Receive). with_receive b n) (fetched_taken (depth_of (settings_in c.args.w.now)) n.receive _ _ (omega arith) (rw (c.requires, c.cpu_read_in.ensures) at c.next_position-on.ensures) (ap (λ (x : ℕ). x - 1) c.unread_in-count.ensures)))
 
 pub returns-else-count-gt0 : goal.returns-else-count-gt0
 returns-else-count-gt0 c =

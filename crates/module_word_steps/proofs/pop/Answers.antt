@@ -14,7 +14,7 @@ returns-then-count-gt0 c =
     let n = engine_in c.args.w.now in
     alike c.store_departed.ensures
     (ap (λ (b : Transmit). with_transmit b n)
-    (popped_departed (depth_of (settings_in c.args.w.now)) n.transmit _ _ (omega arith) (rw (c.requires, c.spi_read_in-at.ensures) at c.next_position-on.ensures) (ap (λ (x : ℕ). x - 1) c.waiting_in-count.ensures)))
+    (popped_departed (depth_of (settings_in c.args.w.now)) n.transmit _ _ (omega arith) (rw (c.requires, c.spi_read_in.ensures) at c.next_position-on.ensures) (ap (λ (x : ℕ). x - 1) c.waiting_in-count.ensures)))
 
 pub returns-else-count-gt0 : goal.returns-else-count-gt0
 returns-else-count-gt0 c =

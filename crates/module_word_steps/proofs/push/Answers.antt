@@ -14,7 +14,7 @@ returns-then-count-depth c =
     let n = engine_in c.args.w.now in
     alike c.store_written.ensures
     (ap (λ (b : Transmit). with_transmit b n)
-    (pushed_written (depth_of (settings_in c.args.w.now)) n.transmit c.args.word _ _ (omega arith) (rw (c.requires, c.cpu_write_in-at.ensures) at c.next_position-on.ensures) (ap (λ (x : ℕ). x + 1) c.waiting_in-count.ensures)))
+    (pushed_written (depth_of (settings_in c.args.w.now)) n.transmit c.args.word _ _ (omega arith) (rw (c.requires, c.cpu_write_in.ensures) at c.next_position-on.ensures) (ap (λ (x : ℕ). x + 1) c.waiting_in-count.ensures)))
 
 pub returns-else-count-depth : goal.returns-else-count-depth
 returns-else-count-depth c =

@@ -1,27 +1,18 @@
--- Each arm is the clause of the definition for its case.
-use Rattle.laws.proofs.Common.{refl, sym, ◌∙◌, by_case}
-use Rattle.module_rules.proofs.Types.{Shift}
-use Rattle.module_rules.specs.Edge.{begun}
-use Rattle.module_memory.specs.Memory.{settings_in, engine_in}
+-- What is in progress is what is begun; where nothing is, its numbers do not count.
+use Rattle.std.specs.Prelude.{Option, Some, None, ◌≡◌}
+use Rattle.std.specs.Option.{unwrap_or}
+use Rattle.laws.proofs.Common.{false, refl, ap, ◌∙◌}
+use Rattle.module_rules.proofs.Types.{Progress}
+use Rattle.module_rules.specs.Edge.{fresh}
 use Rattle.word_rules.specs.Word.{in_progress, current}
+use Rattle.module_edges.specs.Beginning.{shift_of}
 use Rattle.word_calls.proofs.current_in.Goals as goal
 
-pub beginning-requires : goal.beginning-requires
-unfolding begun
-beginning-requires c = sym c.shift_in-shift.ensures ∙ c.in-Free.is
+begun_or : (o : Option Progress) → unwrap_or o (fresh false 0) ≡ in_progress (shift_of o)
+begun_or None = refl
+begun_or (Some p) = refl
 
-pub returns-in-Free : goal.returns-in-Free
-unfolding begun
-returns-in-Free c = c.beginning.ensures
-
-pub returns-in-Loaded : goal.returns-in-Loaded
-unfolding begun current
-returns-in-Loaded c =
-    (by_case (λ (x : Shift). in_progress (begun (settings_in c.args.w.now) (engine_in c.args.w.now) x))
-    (sym c.shift_in-shift.ensures ∙ c.in-Loaded.is)) refl
-
-pub returns-in-Begun : goal.returns-in-Begun
-unfolding begun current
-returns-in-Begun c =
-    (by_case (λ (x : Shift). in_progress (begun (settings_in c.args.w.now) (engine_in c.args.w.now) x))
-    (sym c.shift_in-shift.ensures ∙ c.in-Begun.is)) refl
+pub returns : goal.returns
+unfolding current
+returns c =
+    c.unwrap_or.ensures ∙ ap (unwrap_or c.begun_in.result) c.fresh.ensures ∙ begun_or c.begun_in.result ∙ ap in_progress c.begun_in.ensures

@@ -10,4 +10,4 @@ pub returns-then-is_at_start : goal.returns-then-is_at_start
 returns-then-is_at_start c = c.told_first.ensures
 
 pub returns : goal.returns
-returns c = told_so c.word-spoken.ensures c.word_number.ensures
+returns c = told_so c.word.ensures c.number.ensures

@@ -1,10 +1,15 @@
--- Each arm is the clause of the definition for its case.
-use Rattle.laws.proofs.Common.{refl, arith, so, not_so, by_case}
+-- A word that is begun counts, unless it is a filler.
+use Rattle.std.specs.Prelude.{◌≡◌}
+use Rattle.laws.proofs.Common.{Bool, true, false, not, refl, by_case, when◌then◌else◌}
+use mir.Val.{bool_byte}
+use Rattle.word_order.proofs.WordBits.{bit_most}
 use Rattle.word_rules.specs.Word.{words_in}
 use Rattle.word_calls.proofs.words_in.Goals as goal
 
-pub returns-then-p : goal.returns-then-p
-returns-then-p c = (by_case words_in c.in-Begun.is (so _ _ _ c.if-p.true refl), omega arith)
+one_unless : (filler : Bool) → bool_byte (not filler) ≡ (when filler then 0 else 1)
+unfolding when◌then◌else◌
+one_unless true = refl
+one_unless false = refl
 
-pub returns-else-p : goal.returns-else-p
-returns-else-p c = (by_case words_in c.in-Begun.is (not_so _ _ _ c.if-p.false refl), omega arith)
+pub returns-in-Begun : goal.returns-in-Begun
+returns-in-Begun c = (by_case words_in c.in-Begun.is (one_unless c.in-Begun.p.filler), bit_most (not c.in-Begun.p.filler))

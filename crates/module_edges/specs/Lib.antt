@@ -1,0 +1,2 @@
+-- What begins at an edge.
+pub mod Beginning

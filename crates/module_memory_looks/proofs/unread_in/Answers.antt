@@ -1,8 +1,0 @@
--- The definition.
-use Rattle.laws.proofs.Common.{refl}
-use Rattle.module_memory.specs.Memory.{byte_in, engine_in}
-use Rattle.module_memory_looks.proofs.unread_in.Goals as goal
-
-pub returns : goal.returns
-unfolding byte_in engine_in
-returns c = refl

@@ -1,5 +1,0 @@
--- The parts of the test are those of the definition.
-use Rattle.module_settings.proofs.is_undivided.Goals as goal
-
-pub returns : goal.returns
-returns c = cc
