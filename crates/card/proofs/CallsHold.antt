@@ -1,55 +1,48 @@
 -- The calls on a card in memory, by the numbers that they find and write: each law is one way through a call.
 -- Assumes nothing.
-use Rattle.std.specs.Prelude.{◌+◌, ◌*◌, ◌-◌, ◌/◌, ◌%◌, ◌≤◌, ◌<◌, ◌&&◌, ◌||◌, ◌∷◌, ◌≡◌}
+use Rattle.std.specs.Prelude.{◌+◌, ◌*◌, ◌/◌, ◌%◌, ◌<◌, ◌&&◌, ◌||◌, ◌∷◌, ◌++◌, ◌≡◌, Option, Some, None, Result, Ok, Err}
+use Rattle.std.specs.Option.{ok_or}
+use Rattle.std.specs.Result.{MatchResult, IsErrAnd}
+use Rattle.std.proofs.lemmas.Result.{err_from_is_err_and}
 use Rattle.laws.proofs.Common.{ℕ, Bool, true, false, not, List, []}
-use Rattle.laws.proofs.Common.{refl, sym, ap, subst, ◌∙◌, arith, eqb-true, eqb, ltb, length, get_or, set, when◌then◌else◌}
-use Rattle.laws.proofs.Common.{if_keeps, and_left, and_right, clash}
+use Rattle.laws.proofs.Common.{refl, sym, ap, subst, ◌∙◌, arith, eqb-true, eqb, length, set, when◌then◌else◌}
+use Rattle.laws.proofs.Common.{if_keeps, and_left, and_right}
 use Rattle.ring.specs.Ring.{contents}
 use Rattle.card_rules.specs.Settings.{Protocol, named, Settings, shape_of}
-use Rattle.card_rules.specs.Card.{Card, with_waiting, with_unread, emptied}
+use Rattle.card_rules.specs.Card.{Card, with_waiting, with_engine, emptied}
 use Rattle.card_rules.specs.Edge.{is_full}
-use Rattle.card_rules.specs.Calls.{Refusal, is_disabled, is_enabled, transmit_full, receive_empty, not_named, refuse, doing, number_of, resting_pins, set_protocol_of, set_length_of, enable_of, disable_of, sample_of, write_of, read_from, read_of, clear_underrun_of, clear_overflow_of}
-use Rattle.card.specs.Memory.{bit_in, byte_in, protocol_in, bits_in, frame_in, length_number, settings_from, from, cells_at, count_in, samples_at, engine_at, engine_in, head_at, head_in, place_in, card_in}
+use Rattle.card_rules.specs.Calls.{Refusal, is_disabled, is_enabled, transmit_full, receive_empty, not_named, Answer, refused, done, Outcome, refuse, doing, resting_pins, set_protocol_of, set_length_of, enable_of, disable_of, sample_of, write_of, read_from, read_of, clear_underrun_of, clear_overflow_of}
+use Rattle.card.specs.Memory.{bit_in, byte_in, protocol_in, bits_in, frame_in, length_number, settings_from, count_in, samples_at, engine_in, head_in, place_in, card_in}
 use Rattle.laws.specs.Writes.{at}
-use Rattle.card.specs.Answered.{Tells}
-use Rattle.laws.proofs.Stored.{after}
-use Rattle.card.proofs.Stored.{card_read, card_wrote, card_at, bit_on, bit_off, tells_so, tells_not}
-use Rattle.card.proofs.Rings.{below_8, samples_none, samples_full, samples_room, samples_pop, samples_push}
+use Rattle.card.specs.declared.Refusal.{Refusal as Why}
+use Rattle.card.specs.declared.Refusal.TheVariants.{TransmitFull, ReceiveEmpty}
+use Rattle.card.specs.declared.Full.{Full}
+use Rattle.card.specs.Rings.{Pushes, Pops}
+use Rattle.card.specs.Answered.{why_of, done_in, sample_in, Gives}
+use Rattle.card.proofs.Stored.{card_wrote, bit_on, bit_off, moved_card, gives_so, gives_not}
 
 -- A refusal leaves every number.
-pub refusing : (why : Refusal) (w : List ℕ) (r : ℕ) → r ≡ number_of why * 4294967296 + 0 → Tells (refuse why (card_in w)) r w w
-refusing why w r e = record { answer = e; card = refl; untouched = λ f. refl }
+pub refusing : (why : Refusal) (w : List ℕ) → Gives (refuse why (card_in w)) (refused why) w w
+refusing why w = record { answer = refl; card = refl; untouched = λ _ f. refl }
 
 -- What is done is not refused.
-none_refused : {A : Type 0} → ltb 0 0 ≡ true → A
-none_refused e = clash false e refl
+pub done_with : {m : Card} {w later : List ℕ} → card_in later ≡ m → Gives (doing m) done w later
+done_with e = record { answer = refl; card = e; untouched = λ _ f. cc }
 
-done : {m : Card} {w later : List ℕ} → card_in later ≡ m → Tells (doing m) 0 w later
-done e = record { answer = refl; card = e; untouched = λ f. none_refused f }
-
-odd_is : (x : ℕ) → x % 2 ≡ 1 → bit_in x ≡ true
-odd_is x e = bit_on x (λ f. omega arith)
-
-odd_not : (x : ℕ) → (x % 2 ≡ 1 → ⊥) → bit_in x ≡ false
-odd_not x e = bit_off x (omega arith)
+-- What `?` answers where a test refuses.
+pub exits : {o : Outcome} {w later : List ℕ} {given why : Why} (answer : Result (Unit {0}) Why) → IsErrAnd answer (λ e. e ≡ given) → given ≡ why →
+    Gives o (refused (why_of why)) w later → Gives o (done_in answer) w later
+exits answer is same g = let p = err_from_is_err_and answer is in rw (p.1, p.2, same) g
 
 module _ (w : List ℕ) where
   -- Enabled or not.
-  pub on_if : place_in w 0 % 2 ≡ 1 → (head_in w).enabled ≡ true
+  pub on_unless : (place_in w 0 % 2 ≡ 0 → ⊥) → (head_in w).enabled ≡ true
   unfolding head_in
-  on_if e = odd_is (place_in w 0) e
+  on_unless e = bit_on (place_in w 0) e
 
-  pub off_if : (place_in w 0 % 2 ≡ 1 → ⊥) → (head_in w).enabled ≡ false
+  pub off_if : place_in w 0 % 2 ≡ 0 → (head_in w).enabled ≡ false
   unfolding head_in
-  off_if e = odd_not (place_in w 0) e
-
-  pub on_unless : (place_in w 0 % 2 ≡ 0 → ⊥) → not (head_in w).enabled ≡ false
-  unfolding head_in
-  on_unless e = ap not (bit_on (place_in w 0) e)
-
-  pub off_unless : place_in w 0 % 2 ≡ 0 → not (head_in w).enabled ≡ true
-  unfolding head_in
-  off_unless e = ap not (bit_off (place_in w 0) e)
+  off_if e = bit_off (place_in w 0) e
 
   -- The flags.
   pub underrun_cleared : length w ≡ 40 → card_in (set w 11 0) ≡ (clear_underrun_of (card_in w)).after
@@ -61,46 +54,64 @@ module _ (w : List ℕ) where
   overflow_cleared n = card_wrote w (at 12 0 ∷ []) n refl
 
   -- Settings while enabled.
-  pub protocol_refused : (p : Protocol) → place_in w 0 % 2 ≡ 1 → Tells (set_protocol_of (card_in w) p) 12884901888 w w
+  pub protocol_refused : (p : Protocol) → (head_in w).enabled ≡ true → Gives (set_protocol_of (card_in w) p) (refused is_enabled) w w
   unfolding set_protocol_of
-  protocol_refused p e = tells_so (head_in w).enabled _ _ (on_if e) (refusing is_enabled w 12884901888 refl)
+  protocol_refused p e = gives_so (head_in w).enabled _ _ e (refusing is_enabled w)
 
-  pub length_refused : (bits frame : ℕ) → place_in w 0 % 2 ≡ 1 → Tells (set_length_of (card_in w) bits frame) 12884901888 w w
+  pub length_refused : (bits frame : ℕ) → (head_in w).enabled ≡ true → Gives (set_length_of (card_in w) bits frame) (refused is_enabled) w w
   unfolding set_length_of
-  length_refused bits frame e = tells_so (head_in w).enabled _ _ (on_if e) (refusing is_enabled w 12884901888 refl)
+  length_refused bits frame e = gives_so (head_in w).enabled _ _ e (refusing is_enabled w)
 
   -- Enabling what is enabled, and disabling what is disabled.
-  pub enabled_already : place_in w 0 % 2 ≡ 1 → Tells (enable_of (card_in w)) 0 w w
+  pub enabled_already : (place_in w 0 % 2 ≡ 0 → ⊥) → Gives (enable_of (card_in w)) done w w
   unfolding enable_of
-  enabled_already e = tells_so (head_in w).enabled _ _ (on_if e) (done refl)
+  enabled_already e = gives_so (head_in w).enabled _ _ (on_unless e) (done_with refl)
 
-  pub disabled_already : place_in w 0 % 2 ≡ 0 → Tells (disable_of (card_in w)) 0 w w
-  unfolding disable_of head_in
-  disabled_already e = tells_not (head_in w).enabled _ _ (bit_off (place_in w 0) e) (done refl)
+  pub disabled_already : (place_in w 0 % 2 ≡ 1 → ⊥) → Gives (disable_of (card_in w)) done w w
+  unfolding disable_of
+  disabled_already e = gives_not (head_in w).enabled _ _ (off_if (omega arith)) (done_with refl)
 
   -- Samples of a disabled card.
-  pub write_disabled : (v : ℕ) → place_in w 0 % 2 ≡ 0 → Tells (write_of (card_in w) v) 8589934592 w w
+  pub write_disabled : (v : ℕ) → (head_in w).enabled ≡ false → Gives (write_of (card_in w) v) (refused is_disabled) w w
   unfolding write_of
-  write_disabled v e = tells_so (not (head_in w).enabled) _ _ (off_unless e) (refusing is_disabled w 8589934592 refl)
+  write_disabled v e = gives_so (not (head_in w).enabled) _ _ (ap not e) (refusing is_disabled w)
 
-  pub read_disabled : place_in w 0 % 2 ≡ 0 → Tells (read_of (card_in w)) 8589934592 w w
+  pub read_disabled : (head_in w).enabled ≡ false → Gives (read_of (card_in w)) (refused is_disabled) w w
   unfolding read_of
-  read_disabled e = tells_so (not (head_in w).enabled) _ _ (off_unless e) (refusing is_disabled w 8589934592 refl)
+  read_disabled e = gives_so (not (head_in w).enabled) _ _ (ap not e) (refusing is_disabled w)
 
-  -- A full buffer, and an empty one.
-  pub write_full : (v : ℕ) → (place_in w 0 % 2 ≡ 0 → ⊥) → 8 ≤ place_in w 14 → Tells (write_of (card_in w) v) 21474836480 w w
-  unfolding write_of engine_in
-  write_full v on full =
-      tells_not (not (head_in w).enabled) _ _ (on_unless on)
-      (tells_so (is_full (samples_at (place_in w 13) (place_in w 14) (from 24 (place_in w)))) _ _
-      (samples_full (place_in w 13) (place_in w 14) (from 24 (place_in w)) full) (refusing transmit_full w 21474836480 refl))
+  -- Samples of an enabled one, by the rings.
+  pub write_pushed : (v : ℕ) (pushed : Result (Unit {0}) Full) (answer : Result (Unit {0}) Why) (Says : Full → Why → Type 0)
+      {sample : ℕ} {later : List ℕ} →
+      (head_in w).enabled ≡ true → sample ≡ sample_of (bits_in (place_in w 1)) v → Pushes 0 sample w pushed later →
+      ((full : Full) (why : Why) → Says full why → why ≡ TransmitFull) →
+      MatchResult pushed (λ x. answer ≡ Ok x) (λ full. IsErrAnd answer (Says full)) → Gives (write_of (card_in w) v) (done_in answer) w later
+  unfolding write_of head_in settings_from
+  write_pushed v (Ok x) answer Says on same (room, m) says is =
+      rw is
+      (gives_not (not (head_in w).enabled) _ _ (ap not on)
+      (gives_not (is_full (engine_in w).waiting) _ _ room
+      (done_with
+      (moved_card m ∙ ap (λ (x : ℕ). with_engine (with_waiting ((engine_in w).waiting ++ (x ∷ [])) (engine_in w)) (card_in w)) same))))
+  write_pushed v (Err full) answer Says on same (all, stays) says is =
+      let p = err_from_is_err_and answer is in
+      rw (p.1, says full p.0 p.2, stays)
+      (gives_not (not (head_in w).enabled) _ _ (ap not on)
+      (gives_so (is_full (engine_in w).waiting) _ _ all (refusing transmit_full w)))
 
-  pub read_empty : (place_in w 0 % 2 ≡ 0 → ⊥) → count_in (place_in w 16) ≡ 0 → Tells (read_of (card_in w)) 25769803776 w w
-  unfolding read_of engine_in
-  read_empty on none =
-      tells_not (not (head_in w).enabled) _ _ (on_unless on)
-      (subst (λ (q : List ℕ). Tells (read_from (card_in w) q) 25769803776 w w)
-      (sym (samples_none (place_in w 15) (place_in w 16) (from 32 (place_in w)) none)) (refusing receive_empty w 25769803776 refl))
+  -- A read by what is unread.
+  read_by : (unread : List ℕ) {a : Answer} {later : List ℕ} → (head_in w).enabled ≡ true → (engine_in w).unread ≡ unread →
+      Gives (read_from (card_in w) unread) a w later → Gives (read_of (card_in w)) a w later
+  unfolding read_of
+  read_by unread {a = a} {later = later} on is g =
+      gives_not (not (head_in w).enabled) _ _ (ap not on)
+      (subst (λ (q : List ℕ). Gives (read_from (card_in w) q) a w later) (sym is) g)
+
+  pub read_popped : (found : Option ℕ) {later : List ℕ} → (head_in w).enabled ≡ true → Pops 1 w found later →
+      Gives (read_of (card_in w)) (sample_in (ok_or found ReceiveEmpty)) w later
+  read_popped (Some sample) on (rest, some, m) =
+      read_by (sample ∷ rest) on some (record { answer = refl; card = moved_card m; untouched = λ _ f. cc })
+  read_popped None on (none, same) = rw same (read_by [] on none (refusing receive_empty w))
 
 -- The settings in a number.
 pub protocol_low : (x y : ℕ) → x % 4 ≡ y % 4 → protocol_in x ≡ protocol_in y
@@ -119,25 +130,25 @@ settings_read : (w : List ℕ) → length w ≡ 40 → (x : ℕ) → card_in (se
 unfolding when◌then◌else◌ bit_in samples_at head_in engine_in
 settings_read w n x = card_wrote w (at 1 x ∷ []) n refl
 
-pub protocol_done : (w : List ℕ) (p : ℕ) → length w ≡ 40 → (place_in w 0 % 2 ≡ 1 → ⊥) →
-    Tells (set_protocol_of (card_in w) (protocol_in p)) 0 w (set w 1 (place_in w 1 / 4 % 4 * 4 + p % 4))
+pub protocol_done : (w : List ℕ) (p : ℕ) → length w ≡ 40 → (head_in w).enabled ≡ false →
+    Gives (set_protocol_of (card_in w) (protocol_in p)) done w (set w 1 (place_in w 1 / 4 % 4 * 4 + p % 4))
 unfolding set_protocol_of head_in settings_from
 protocol_done w p n off =
     let x : ℕ = place_in w 1 / 4 % 4 * 4 + p % 4 in
     let l = length_high x (place_in w 1) (omega arith) in
-    tells_not (head_in w).enabled _ _ (off_if w off)
-    (done
+    gives_not (head_in w).enabled _ _ off
+    (done_with
     (settings_read w n x
     ∙ (λ i. set_to w (record { protocol = protocol_low x p (omega arith) i; bits = l.0 i; frame = l.1 i }))))
 
--- The number of a length and frame: 4 if they are not named, else one below 4, and settings with it have them.
-data Length (bits frame : ℕ) : ℕ → Type 0 where
-  unnamed : named bits frame ≡ false → Length bits frame 4
+-- The number of a length and frame: none if they are not named, else one below 4, and settings with it have them.
+data Length (bits frame : ℕ) : Option ℕ → Type 0 where
+  unnamed : named bits frame ≡ false → Length bits frame None
   numbered : {number : ℕ} → number < 4 → named bits frame ≡ true →
-      ((x : ℕ) → x / 4 % 4 ≡ number → (bits_in x ≡ bits) × (frame_in x ≡ frame)) → Length bits frame number
+      ((x : ℕ) → x / 4 % 4 ≡ number → (bits_in x ≡ bits) × (frame_in x ≡ frame)) → Length bits frame (Some number)
 
 is_named : (bits frame number b f : ℕ) → number < 4 → eqb bits b ≡ true → eqb frame f ≡ true → named b f ≡ true →
-    ((x : ℕ) → x / 4 % 4 ≡ number → (bits_in x ≡ b) × (frame_in x ≡ f)) → Length bits frame number
+    ((x : ℕ) → x / 4 % 4 ≡ number → (bits_in x ≡ b) × (frame_in x ≡ f)) → Length bits frame (Some number)
 is_named bits frame number b f small sb sf ok is = rw (eqb-true bits b sb, eqb-true frame f sf) (numbered small ok is)
 
 none_of : (a b c f g : Bool) → a ≡ false → b ≡ false → c ≡ false → ((a && f) || ((a || (b || c)) && g)) ≡ false
@@ -166,40 +177,41 @@ length_is bits frame =
     (λ no32. unnamed (none_of (eqb bits 16) (eqb bits 24) (eqb bits 32) (eqb frame 32) (eqb frame 64) no16 no24 no32)))))
     (λ no64. unnamed (no_frame (eqb bits 16 && eqb frame 32) (eqb bits 16 || (eqb bits 24 || eqb bits 32)) (eqb frame 64) short no64)))
 
-pub length_unnamed : (w : List ℕ) (bits frame : ℕ) → (place_in w 0 % 2 ≡ 1 → ⊥) → length_number bits frame ≡ 4 →
-    Tells (set_length_of (card_in w) bits frame) 98784247808 w w
+pub length_unnamed : (w : List ℕ) (bits frame : ℕ) → (head_in w).enabled ≡ false → None ≡ length_number bits frame →
+    Gives (set_length_of (card_in w) bits frame) (refused not_named) w w
 unfolding set_length_of
 length_unnamed w bits frame off none =
-    tells_not (head_in w).enabled _ _ (off_if w off)
-    (tells_not (named bits frame) _ _ (go (length_is bits frame) none) (refusing not_named w 98784247808 refl))
+    gives_not (head_in w).enabled _ _ off
+    (gives_not (named bits frame) _ _ (go (length_is bits frame) (sym none)) (refusing not_named w))
   where
-    go : {number : ℕ} → Length bits frame number → number ≡ 4 → named bits frame ≡ false
+    go : {number : Option ℕ} → Length bits frame number → number ≡ None → named bits frame ≡ false
     go (unnamed e) f = e
-    go (numbered small ok is) f = absurd (omega arith)
+    go (numbered small ok is) f = cc
 
-pub length_small : (bits frame : ℕ) {number : ℕ} → number ≡ length_number bits frame → number ≤ 4
-length_small bits frame e = rw e (go (length_is bits frame))
+pub length_small : (bits frame : ℕ) {number : ℕ} → Some number ≡ length_number bits frame → number < 4
+length_small bits frame {number = number} e = go (length_is bits frame) (sym e)
   where
-    go : {number : ℕ} → Length bits frame number → number ≤ 4
-    go (unnamed e) = omega arith
-    go (numbered small ok is) = omega arith
+    go : {found : Option ℕ} → Length bits frame found → found ≡ Some number → number < 4
+    go (unnamed e) f = cc
+    go (numbered {number = found} small ok is) f = let same : found ≡ number = cc in omega arith
 
-pub length_done : (w : List ℕ) (bits frame number : ℕ) → length w ≡ 40 → (place_in w 0 % 2 ≡ 1 → ⊥) → number ≡ length_number bits frame →
-    (number ≡ 4 → ⊥) → Tells (set_length_of (card_in w) bits frame) 0 w (set w 1 (number * 4 + place_in w 1 % 4))
+pub length_done : (w : List ℕ) (bits frame number : ℕ) → length w ≡ 40 → (head_in w).enabled ≡ false →
+    Some number ≡ length_number bits frame → Gives (set_length_of (card_in w) bits frame) done w (set w 1 (number * 4 + place_in w 1 % 4))
 unfolding set_length_of head_in settings_from
-length_done w bits frame number n off same some = go (rw same (length_is bits frame)) some
+length_done w bits frame number n off same = go (length_is bits frame) (sym same)
   where
-    go : {number : ℕ} → Length bits frame number → (number ≡ 4 → ⊥) →
-        Tells (set_length_of (card_in w) bits frame) 0 w (set w 1 (number * 4 + place_in w 1 % 4))
-    go (unnamed e) none = absurd (none refl)
-    go (numbered {number = number} small ok is) none =
+    go : {found : Option ℕ} → Length bits frame found → found ≡ Some number →
+        Gives (set_length_of (card_in w) bits frame) done w (set w 1 (number * 4 + place_in w 1 % 4))
+    go (unnamed e) f = cc
+    go (numbered {number = found} small ok is) f =
         let x : ℕ = number * 4 + place_in w 1 % 4 in
-        let high : x / 4 % 4 ≡ number = omega arith in
+        let one : found ≡ number = cc in
+        let high : x / 4 % 4 ≡ found = omega arith in
         let l = is x high in
         let low : x % 4 ≡ place_in w 1 % 4 = omega arith in
-        tells_not (head_in w).enabled _ _ (off_if w off)
-        (tells_so (named bits frame) _ _ ok
-        (done
+        gives_not (head_in w).enabled _ _ off
+        (gives_so (named bits frame) _ _ ok
+        (done_with
         (settings_read w n x
         ∙ (λ i. set_to w (record { protocol = protocol_low x (place_in w 1) low i; bits = l.0 i; frame = l.1 i })))))
 
@@ -212,13 +224,13 @@ module _ (w : List ℕ) (n : length w ≡ 40) where
   switched_on_lem rest =
       card_wrote w (at 0 1 ∷ at 2 0 ∷ at 3 0 ∷ at 8 rest ∷ at 9 rest ∷ at 10 0 ∷ at 14 0 ∷ at 16 0 ∷ []) n refl
 
-  pub enable_done : (rest : ℕ) → (place_in w 0 % 2 ≡ 1 → ⊥) → bit_in rest ≡ (shape_of (settings_from (place_in w 1))).rest →
-      Tells (enable_of (card_in w)) 0 w
+  pub enable_done : (rest : ℕ) → place_in w 0 % 2 ≡ 0 → bit_in rest ≡ (shape_of (settings_from (place_in w 1))).rest →
+      Gives (enable_of (card_in w)) done w
       (set (set (set (set (set (set (set (set w 0 1) 2 0) 3 0) 8 rest) 9 rest) 10 0) 14 0) 16 0)
   unfolding enable_of head_in
   enable_done rest off e =
-      tells_not (head_in w).enabled _ _ (off_if w off)
-      (done
+      gives_not (head_in w).enabled _ _ (off_if w off)
+      (done_with
       (switched_on_lem rest
       ∙ (λ i. record { enabled = true; settings = (head_in w).settings; engine = emptied (resting_pins (e i)) (engine_in w).flags })))
 
@@ -227,74 +239,9 @@ module _ (w : List ℕ) (n : length w ≡ 40) where
   unfolding when◌then◌else◌ bit_in byte_in count_in contents samples_at head_in engine_in
   switched-off = card_wrote w (at 0 0 ∷ at 2 0 ∷ at 3 0 ∷ at 14 0 ∷ at 16 0 ∷ []) n refl
 
-  pub disable_done : (place_in w 0 % 2 ≡ 0 → ⊥) →
-      Tells (disable_of (card_in w)) 0 w (set (set (set (set (set w 0 0) 2 0) 3 0) 14 0) 16 0)
+  pub disable_done : place_in w 0 % 2 ≡ 1 →
+      Gives (disable_of (card_in w)) done w (set (set (set (set (set w 0 0) 2 0) 3 0) 14 0) 16 0)
   unfolding disable_of head_in
   disable_done on =
-      tells_so (head_in w).enabled _ _ (bit_on (place_in w 0) on)
-      (done switched-off)
-
--- A cell of the transmit buffer, and then its count.
-abbrev SentWritten : (ℕ → ℕ) → ℕ → ℕ → ℕ → Type 0
-SentWritten place v count i =
-    card_at (after place (at (24 + i) v ∷ at 14 count ∷ []))
-    ≡ record {
-      enabled = (head_at place).enabled;
-      settings = (head_at place).settings;
-      engine = with_waiting (samples_at (place 13) count (λ k. get_or (set (cells_at (from 24 place)) i v) k 0)) (engine_at place);
-    }
-
-sent_written : (place : ℕ → ℕ) (i v count : ℕ) → i < 8 → SentWritten place v count i
-unfolding when◌then◌else◌ samples_at
-sent_written place i v count = below_8 (SentWritten place v count) refl refl refl refl refl refl refl refl i
-
--- The eight cells after one was written are the list with it set.
-pub cells_written : (place : ℕ → ℕ) (i v : ℕ) → i < 8 → cells_at (λ k. get_or (set (cells_at place) i v) k 0) ≡ set (cells_at place) i v
-cells_written place i v =
-    below_8 (λ (j : ℕ). cells_at (λ k. get_or (set (cells_at place) j v) k 0) ≡ set (cells_at place) j v)
-    refl refl refl refl refl refl refl refl i
-
-pub write_done : (w : List ℕ) (v sample : ℕ) → length w ≡ 40 → (place_in w 0 % 2 ≡ 0 → ⊥) → place_in w 14 < 8 →
-    sample ≡ sample_of (bits_in (place_in w 1)) v →
-    Tells (write_of (card_in w) v) 0 w
-    (set (set w (24 + (place_in w 13 % 8 + place_in w 14) % 8) sample) 14 (place_in w 14 + 1))
-unfolding write_of head_in engine_in settings_from
-write_done w v sample n on room e =
-    let i : ℕ = (place_in w 13 % 8 + place_in w 14) % 8 in
-    let cells : List ℕ = cells_at (from 24 (place_in w)) in
-    let pushed = samples_push (place_in w 13) (place_in w 14) sample (from 24 (place_in w)) (λ k. get_or (set cells i sample) k 0) room
-    (cells_written (from 24 (place_in w)) i sample (omega arith)) in
-    tells_not (not (head_in w).enabled) _ _ (on_unless w on)
-    (tells_not (is_full (samples_at (place_in w 13) (place_in w 14) (from 24 (place_in w)))) _ _
-    (samples_room (place_in w 13) (place_in w 14) (from 24 (place_in w)) room)
-    (done
-    (card_read w (at (24 + i) sample ∷ at 14 (place_in w 14 + 1) ∷ []) n (omega arith, (omega arith, tt))
-    ∙ sent_written (place_in w) i sample (place_in w 14 + 1) (omega arith)
-    ∙ rw (pushed, e))))
-
-unread_read : (w : List ℕ) → length w ≡ 40 → (first count : ℕ) →
-    card_in (set (set w 15 first) 16 count)
-    ≡ record {
-      enabled = (head_in w).enabled;
-      settings = (head_in w).settings;
-      engine = with_unread (samples_at first count (from 32 (place_in w))) (engine_in w);
-    }
-unfolding when◌then◌else◌ bit_in samples_at head_in engine_in
-unread_read w n first count = card_wrote w (at 15 first ∷ at 16 count ∷ []) n refl
-
--- A cell of the receive buffer that is read.
-pub cell_read : (place : ℕ → ℕ) (i : ℕ) → i < 8 → get_or (cells_at place) i 0 ≡ place i
-cell_read place i small =
-    below_8 (λ (j : ℕ). get_or (cells_at place) j 0 ≡ place j) refl refl refl refl refl refl refl refl i small
-
-pub read_done : (w : List ℕ) (sample count : ℕ) → length w ≡ 40 → (place_in w 0 % 2 ≡ 0 → ⊥) → count ≡ count_in (place_in w 16) →
-    (count ≡ 0 → ⊥) → sample ≡ place_in w (32 + place_in w 15 % 8) →
-    Tells (read_of (card_in w)) sample w (set (set w 15 ((place_in w 15 % 8 + 1) % 8)) 16 (count - 1))
-unfolding read_of head_in engine_in
-read_done w sample count n on is some e =
-    let r : ℕ = place_in w 15 in
-    let first : get_or (cells_at (from 32 (place_in w))) (r % 8) 0 ≡ sample = cell_read (from 32 (place_in w)) (r % 8) (omega arith) ∙ sym e in
-    let pops = samples_pop r (place_in w 16) (from 32 (place_in w)) (omega arith) in
-    tells_not (not (head_in w).enabled) _ _ (on_unless w on)
-    (rw (pops, first, ← is)
-    (record { answer = omega arith; card = unread_read w n ((r % 8 + 1) % 8) (count - 1); untouched = λ f. none_refused f }))
+      gives_so (head_in w).enabled _ _ (on_unless w (λ f. omega arith))
+      (done_with switched-off)

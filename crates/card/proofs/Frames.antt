@@ -1,10 +1,11 @@
 -- The settings in a number, and the frame that the code makes of them.
+--     bits_16, bits_24, bits_32   the bits by the number of their length
 --     sizes, bits_fit   a sample fits half a frame, and a frame is of 32 or 64 clocks
 --     frame_for     the frame of a protocol, by its edges
 -- Assumes nothing.
-use Rattle.std.specs.Prelude.{◌+◌, ◌*◌, ◌-◌, ◌/◌, ◌%◌, ◌≤◌, ◌≡◌}
+use Rattle.std.specs.Prelude.{◌+◌, ◌*◌, ◌-◌, ◌/◌, ◌%◌, ◌≤◌, ◌<◌, ◌≡◌}
 use Rattle.laws.proofs.Common.{ℕ, Bool, true, false, refl, sym, arith, eqb-true, ltb-false}
-use Rattle.laws.proofs.Common.{eqb, ltb, if_keeps, so_eq, not_so_eq}
+use Rattle.laws.proofs.Common.{eqb, ltb, if_keeps, so_lt, not_so_lt, so_eq, not_so_eq}
 use Rattle.card_rules.specs.Settings.{Protocol, i2s, left_justified, right_justified, pcm, shape_for, shape_of}
 use Rattle.card.specs.declared.Frame.{Frame}
 use Rattle.card.specs.Memory.{protocol_in, bits_in, frame_in, settings_from, framed}
@@ -35,13 +36,21 @@ sizes code =
     (λ g. record { least = omega arith; most = omega arith; fit = omega arith; even = refl; short = omega arith })
     (λ g. record { least = omega arith; most = omega arith; fit = omega arith; even = refl; short = omega arith })))
 
+-- The bits by the number of their length.
+module _ (code : ℕ) where
+  pub bits_16 : code / 4 % 4 < 2 → 16 ≡ bits_in code
+  unfolding bits_in
+  bits_16 h = so_lt _ _ _ _ h refl
+
+  pub bits_24 : code / 4 % 4 ≡ 2 → 24 ≡ bits_in code
+  unfolding bits_in
+  bits_24 e = not_so_lt _ _ _ _ (omega arith) (so_eq _ _ _ _ e refl)
+
+  pub bits_32 : 2 < code / 4 % 4 → 32 ≡ bits_in code
+  unfolding bits_in
+  bits_32 h = not_so_lt _ _ _ _ (omega arith) (not_so_eq _ _ _ _ (λ e. omega arith) refl)
+
 -- The same of numbers that are known to be those of the settings.
-pub bits_most : (code : ℕ) {bits : ℕ} → bits ≡ bits_in code → bits ≤ 32
-bits_most code e = omega (arith, (sizes code).most)
-
-pub frame_most : (code : ℕ) {frame : ℕ} → frame ≡ frame_in code → frame ≤ 64
-frame_most code e = omega (arith, (sizes code).short)
-
 pub bits_fit : (code : ℕ) {bits frame : ℕ} → bits ≡ bits_in code → frame ≡ frame_in code → 2 * bits ≤ frame
 bits_fit code e f = omega (arith, (sizes code).fit)
 

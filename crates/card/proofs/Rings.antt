@@ -4,7 +4,7 @@
 --     samples_push, samples_pop    a sample more, and the first one taken
 -- Assumes nothing.
 use Rattle.std.specs.Prelude.{◌+◌, ◌-◌, ◌%◌, ◌≤◌, ◌<◌, ◌∷◌, ◌++◌, ◌≡◌}
-use Rattle.laws.proofs.Common.{ℕ, zero, suc, true, false, [], refl, sym, ◌∙◌, arith}
+use Rattle.laws.proofs.Common.{ℕ, zero, suc, min, true, false, [], refl, sym, ◌∙◌, arith}
 use Rattle.laws.proofs.Common.{le-leb, lt-leb, ltb-true, ltb-false, ltb, length, get_or, set, so_lt, not_so_lt, if_keeps}
 use Rattle.laws.proofs.Common.{by_test}
 use Rattle.ring.specs.Ring.{next}
@@ -33,8 +33,9 @@ pub count_most : (c : ℕ) → count_in c ≤ 8
 unfolding count_in
 count_most c = if_keeps (λ (n : ℕ). n ≤ 8) (ltb c 8) _ _ (λ e. omega (arith, ltb-true c 8 e)) (λ e. omega arith)
 
-pub held_most : (c : ℕ) {n : ℕ} → n ≡ count_in c → n ≤ 8
-held_most c e = omega (arith, count_most c)
+pub count_is : (c : ℕ) → min c 8 ≡ count_in c
+unfolding count_in
+count_is c = if_keeps (λ (n : ℕ). min c 8 ≡ n) (ltb c 8) _ _ (λ e. omega (arith, ltb-true c 8 e)) (λ e. omega (arith, ltb-false c 8 e))
 
 pub count_many : (c : ℕ) → 8 ≤ c → count_in c ≡ 8
 unfolding count_in

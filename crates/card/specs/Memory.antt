@@ -1,6 +1,6 @@
 -- A card in memory: which of 40 numbers of 32 bits holds what. Any numbers hold a card: a flag or a level is a number's lowest bit, a count
 -- of edges its low 8 bits. Numbers that nothing here names are spare.
-use Rattle.std.specs.Prelude.{ℕ, ◌+◌, ◌*◌, ◌/◌, ◌%◌, Bool, ◌&&◌, List, [], ◌∷◌, ◌≡◌, eqb, ltb, get_or}
+use Rattle.std.specs.Prelude.{ℕ, ◌+◌, ◌*◌, ◌/◌, ◌%◌, Bool, ◌&&◌, List, [], ◌∷◌, ◌≡◌, eqb, ltb, get_or, Option, Some, None}
 use Rattle.laws.specs.Choice.{when◌then◌else◌}
 use Rattle.ring.specs.Ring.{contents}
 use Rattle.word_order.specs.Port.{Way, idle, sends}
@@ -29,12 +29,12 @@ bits_in x = when ltb (x / 4 % 4) 2 then 16 else when eqb (x / 4 % 4) 2 then 24 e
 unfoldable pub frame_in : ℕ → ℕ
 frame_in x = when eqb (x / 4 % 4) 0 then 32 else 64
 
--- The number of a length and frame there, 4 if they are not named.
-unfoldable pub length_number : ℕ → ℕ → ℕ
+-- The number of a length and frame there, if they are named.
+unfoldable pub length_number : ℕ → ℕ → Option ℕ
 length_number bits frame =
-    when eqb bits 16 && eqb frame 32 then 0
-    else when eqb frame 64 then (when eqb bits 16 then 1 else when eqb bits 24 then 2 else when eqb bits 32 then 3 else 4)
-    else 4
+    when eqb bits 16 && eqb frame 32 then Some 0
+    else when eqb frame 64 then (when eqb bits 16 then Some 1 else when eqb bits 24 then Some 2 else when eqb bits 32 then Some 3 else None)
+    else None
 
 unfoldable pub settings_from : ℕ → Settings
 settings_from x = record { protocol = protocol_in x; bits = bits_in x; frame = frame_in x }

@@ -1,66 +1,51 @@
 -- An edge of a card in memory, by the numbers that it finds and writes: each law is one way through a function.
 -- Assumes nothing.
-use Rattle.std.specs.Prelude.{◌+◌, ◌*◌, ◌-◌, ◌/◌, ◌%◌, ◌^◌, ◌≤◌, ◌<◌, ◌&&◌, ◌||◌, ◌∷◌, ◌≡◌}
+use Rattle.std.specs.Prelude.{◌+◌, ◌*◌, ◌-◌, ◌/◌, ◌%◌, ◌^◌, ◌≤◌, ◌<◌, ◌&&◌, ◌||◌, ◌∷◌, ◌++◌, ◌≡◌, ◌⊎◌}
+use Rattle.std.proofs.Common.{inl, inr}
 use Rattle.laws.proofs.Common.{ℕ, Bool, true, false, not, Bool·beq, List}
-use Rattle.laws.proofs.Common.{[], refl, sym, ap, ◌∙◌, mod-eq_of_lt, arith, eqb-true, eqb-false, eq-eqb, ne_eqb}
-use Rattle.laws.proofs.Common.{lt-ltb, le-ltb, ltb-true, ltb-false, le-leb, lt-leb, eqb, ltb, length, get_or, set}
-use Rattle.laws.proofs.Common.{when◌then◌else◌, if_keeps, if_true, if_false, and_both, and_first, and-false, clash, by_test}
+use Rattle.laws.proofs.Common.{[], refl, sym, ap, subst, ◌∙◌, mod-eq_of_lt, arith, eqb-true, eqb-false, eq-eqb, ne_eqb}
+use Rattle.laws.proofs.Common.{lt-ltb, le-ltb, ltb-true, ltb-false, le-leb, lt-leb, eqb, ltb, length, set}
+use Rattle.laws.proofs.Common.{when◌then◌else◌, if_keeps, if_true, if_false, and_first, and-false, by_test}
 use Rattle.ring.specs.Ring.{next}
 use Rattle.word_order.specs.Bits.{bit_of}
 use Rattle.word_order.specs.Port.{Under, Way, idle, sends}
 use Rattle.card_rules.specs.Settings.{Protocol, i2s, left_justified, right_justified, pcm, Shape, shape_for, shape_of}
 use Rattle.card_rules.specs.Card.{Engine, with_waiting, with_way, with_unread, with_overflow, with_sdo}
-use Rattle.card_rules.specs.Edge.{at_first_place, fresh, taken, begun_from, begun, samples, last_edge, shifted_in, received_after, channel_bit, shifted, is_full, finished, opened, clocked_as, clocked, lrck_at, turned, edged}
-use Rattle.card_rules.specs.Calls.{is_disabled, edge_of}
+use Rattle.card_rules.specs.Edge.{at_first_place, fresh, taken, begun_from, begun, samples, last_edge, shifted_in, received_after, channel_bit, shifted, is_full, finished, opened, clocked_as, clocked, lrck_at, turned}
+use Rattle.card_rules.specs.Calls.{refused, done, is_disabled, edge_of}
 use Rattle.card.specs.declared.Frame.{Frame}
-use Rattle.card.specs.Memory.{bit_in, byte_in, bits_in, frame_in, settings_from, from, cells_at, count_in, samples_at, engine_at, engine_in, Head, head_at, head_in, place_in, shape_in, card_in, framed, Moves}
+use Rattle.card.specs.Memory.{bit_in, byte_in, bits_in, frame_in, settings_from, samples_at, engine_in, Head, head_in, place_in, shape_in, card_in, framed, Moves}
 use Rattle.laws.specs.Writes.{at}
-use Rattle.card.specs.Answered.{Tells}
+use Rattle.card.specs.Answered.{Gives}
 use Rattle.card.proofs.Frames.{Fit, sizes}
-use Rattle.laws.proofs.Stored.{after}
-use Rattle.card.proofs.Stored.{moved, wrote, bit_on, bit_off, tells_so, tells_not}
-use Rattle.card.proofs.Rings.{below_8, samples_none, samples_full, samples_room, samples_pop, samples_push}
-use Rattle.card.proofs.CallsHold.{refusing, cell_read, cells_written, on_unless, off_unless}
+use Rattle.card.proofs.Stored.{wrote, alike, stays, both, moved_card, bit_on, bit_off, gives_so, gives_not}
+use Rattle.card.proofs.CallsHold.{refusing, done_with}
 use Rattle.card_edge.specs.Shown.{shown_bit}
 
--- A step that does the same to this engine.
-pub alike : {f g : Shape → Engine → Engine} {a b : List ℕ} → Moves f a b → f (shape_in a) (engine_in a) ≡ g (shape_in a) (engine_in a) →
-    Moves g a b
-alike x e = record { head = x.head; engine = x.engine ∙ e }
+-- A sample begins, or zeros do.
+sending : (w : List ℕ) → length w ≡ 40 → (zeros word : ℕ) →
+    Moves (λ s. with_way (fresh (bit_in zeros) word)) w (set (set (set (set (set w 3 1) 6 0) 7 0) 4 zeros) 5 word)
+unfolding when◌then◌else◌ bit_in byte_in samples_at
+sending w n zeros word = wrote w (at 3 1 ∷ at 6 0 ∷ at 7 0 ∷ at 4 zeros ∷ at 5 word ∷ []) n refl refl refl
 
--- A step that writes nothing.
-stays : {g : Shape → Engine → Engine} {a : List ℕ} → engine_in a ≡ g (shape_in a) (engine_in a) → Moves g a a
-stays e = record { head = refl; engine = e }
+zeros_sending : (w : List ℕ) → length w ≡ 40 →
+    Moves (λ s e. taken [] e) w (set (set (set (set (set (set w 3 1) 6 0) 7 0) 4 1) 5 0) 11 1)
+unfolding when◌then◌else◌ bit_in byte_in samples_at
+zeros_sending w n = wrote w (at 3 1 ∷ at 6 0 ∷ at 7 0 ∷ at 4 1 ∷ at 5 0 ∷ at 11 1 ∷ []) n refl refl refl
 
-module _ (w : List ℕ) (n : length w ≡ 40) where
-  abbrev p : ℕ → ℕ
-  p = place_in w
+pub take_none : (w : List ℕ) {later : List ℕ} → length later ≡ 40 → (engine_in w).waiting ≡ [] → later ≡ w →
+    Moves (λ s e. taken e.waiting e) w (set (set (set (set (set (set later 3 1) 6 0) 7 0) 4 1) 5 0) 11 1)
+take_none w {later = later} n none same =
+    subst (λ (v : List ℕ). Moves (λ s e. taken e.waiting e) v (set (set (set (set (set (set later 3 1) 6 0) 7 0) 4 1) 5 0) 11 1)) same
+    (alike (zeros_sending later n)
+    (ap (λ (q : List ℕ). taken q (engine_in later)) (sym none ∙ ap (λ (v : List ℕ). (engine_in v).waiting) (sym same))))
 
-  -- Zeros begin.
-  none_taken : Moves (λ s e. taken [] e) w (set (set (set (set (set (set w 3 1) 4 1) 5 0) 6 0) 7 0) 11 1)
-  unfolding when◌then◌else◌ bit_in byte_in samples_at
-  none_taken = wrote w (at 3 1 ∷ at 4 1 ∷ at 5 0 ∷ at 6 0 ∷ at 7 0 ∷ at 11 1 ∷ []) n refl refl refl
-
-  pub take_none : count_in (p 14) ≡ 0 →
-      Moves (λ s e. taken e.waiting e) w (set (set (set (set (set (set w 3 1) 4 1) 5 0) 6 0) 7 0) 11 1)
-  unfolding engine_in
-  take_none e = alike none_taken (ap (λ (q : List ℕ). taken q (engine_in w)) (sym (samples_none (p 13) (p 14) (from 24 p) e)))
-
-  -- A sample begins.
-  some-taken : (sample first count : ℕ) →
-      Moves (λ s e. with_way (fresh false sample) (with_waiting (samples_at first count (from 24 p)) e)) w
-      (set (set (set (set (set (set (set w 3 1) 4 0) 5 sample) 6 0) 7 0) 13 first) 14 count)
-  unfolding when◌then◌else◌ bit_in byte_in samples_at
-  some-taken sample first count =
-      wrote w (at 3 1 ∷ at 4 0 ∷ at 5 sample ∷ at 6 0 ∷ at 7 0 ∷ at 13 first ∷ at 14 count ∷ []) n refl refl refl
-
-  pub take_first : (held : ℕ) → held ≡ count_in (p 14) → (held ≡ 0 → ⊥) →
-      Moves (λ s e. taken e.waiting e) w
-      (set (set (set (set (set (set (set w 3 1) 4 0) 5 (p (24 + p 13 % 8))) 6 0) 7 0) 13 ((p 13 % 8 + 1) % 8)) 14 (held - 1))
-  unfolding engine_in
-  take_first held is some =
-      alike (some-taken (p (24 + p 13 % 8)) ((p 13 % 8 + 1) % 8) (held - 1))
-      (cc (cell_read (from 24 p) (p 13 % 8) (omega arith), samples_pop (p 13) (p 14) (from 24 p) (omega (arith, is))))
+pub take_first : (w : List ℕ) {sample : ℕ} {rest later : List ℕ} → length later ≡ 40 → (engine_in w).waiting ≡ sample ∷ rest →
+    Moves (λ s. with_waiting rest) w later →
+    Moves (λ s e. taken e.waiting e) w (set (set (set (set (set later 3 1) 6 0) 7 0) 4 0) 5 sample)
+unfolding bit_in
+take_first w {sample = sample} {later = later} n some m =
+    alike (both m (sending later n 0 sample)) (ap (λ (q : List ℕ). taken q (engine_in w)) (sym some))
 
 -- What is under way.
 way_idle : (w : List ℕ) → place_in w 3 % 2 ≡ 0 → (engine_in w).way ≡ idle
@@ -80,14 +65,20 @@ module _ (w : List ℕ) (f : Frame) (is : f ≡ framed (shape_in w)) where
   unfolding framed at_first_place engine_in byte_in
   first_same = λ i. eqb (place_in w 2 % 256) (is i).first || eqb (place_in w 2 % 256) (is i).second
 
-  pub begin_taken : (later : List ℕ) → (eqb (place_in w 2 % 256) f.first || eqb (place_in w 2 % 256) f.second) ≡ true →
+  pub begin_taken : {later : List ℕ} →
+      (place_in w 2 % 256 ≡ f.first) ⊎ ((place_in w 2 % 256 ≡ f.first → ⊥) × (place_in w 2 % 256 ≡ f.second)) →
       place_in w 3 % 2 ≡ 0 → Moves (λ s e. taken e.waiting e) w later → Moves begun w later
   unfolding begun
-  begin_taken later first none m =
+  begin_taken at_one none m =
       alike m
       (sym
-      (if_true (at_first_place (shape_in w) (engine_in w).place) _ _ (sym first_same ∙ first)
+      (if_true (at_first_place (shape_in w) (engine_in w).place) _ _ (sym first_same ∙ go at_one)
       ∙ (λ i. begun_from (way_idle w none i) (engine_in w))))
+    where
+      go : (place_in w 2 % 256 ≡ f.first) ⊎ ((place_in w 2 % 256 ≡ f.first → ⊥) × (place_in w 2 % 256 ≡ f.second)) →
+          (eqb (place_in w 2 % 256) f.first || eqb (place_in w 2 % 256) f.second) ≡ true
+      go (inl e) = rw (eq-eqb _ _ e)
+      go (inr e) = rw (ne_eqb _ _ e.0, eq-eqb _ _ e.1)
 
   pub begin_under : (place_in w 3 % 2 ≡ 0 → ⊥) → Moves begun w w
   unfolding begun
@@ -97,61 +88,35 @@ module _ (w : List ℕ) (f : Frame) (is : f ≡ framed (shape_in w)) where
       (if_keeps (λ (x : Engine). x ≡ engine_in w) (at_first_place (shape_in w) (engine_in w).place) _ _
       (λ _ i. begun_from (way_sends w some i) (engine_in w)) (λ _. refl)))
 
-  pub begin_away : (eqb (place_in w 2 % 256) f.first || eqb (place_in w 2 % 256) f.second) ≡ false → Moves begun w w
+  pub begin_away : (place_in w 2 % 256 ≡ f.first → ⊥) → (place_in w 2 % 256 ≡ f.second → ⊥) → Moves begun w w
   unfolding begun
-  begin_away away = stays (sym (if_false (at_first_place (shape_in w) (engine_in w).place) _ _ (sym first_same ∙ away)))
-
--- A cell of the receive buffer, the shift register free, and the count.
-abbrev Received : (ℕ → ℕ) → ℕ → ℕ → ℕ → Type 0
-Received place v count i =
-    let later : ℕ → ℕ = after place (at (32 + i) v ∷ at 3 0 ∷ at 16 count ∷ []) in
-    (head_at later ≡ head_at place)
-    × (engine_at later
-    ≡ with_way idle (with_unread (samples_at (place 15) count (λ k. get_or (set (cells_at (from 32 place)) i v) k 0)) (engine_at place)))
-
-received_there : (place : ℕ → ℕ) (v count i : ℕ) → i < 8 → Received place v count i
-unfolding when◌then◌else◌ bit_in samples_at
-received_there place v count =
-    below_8 (Received place v count) (refl, refl) (refl, refl) (refl, refl) (refl, refl)
-    (refl, refl) (refl, refl) (refl, refl) (refl, refl)
+  begin_away g h =
+      let away : (eqb (place_in w 2 % 256) f.first || eqb (place_in w 2 % 256) f.second) ≡ false = rw (ne_eqb _ _ g, ne_eqb _ _ h) in
+      stays (sym (if_false (at_first_place (shape_in w) (engine_in w).place) _ _ (sym first_same ∙ away)))
 
 -- The finish.
-module _ (w : List ℕ) (n : length w ≡ 40) (received : ℕ) where
-  dropped : Moves (λ s e. with_way idle (with_overflow true e)) w (set (set w 3 0) 12 1)
+module _ (w : List ℕ) {later : List ℕ} (n : length later ≡ 40) (received : ℕ) where
+  dropped : Moves (λ s e. with_way idle (with_overflow true e)) later (set (set later 3 0) 12 1)
   unfolding when◌then◌else◌ bit_in samples_at
-  dropped = wrote w (at 3 0 ∷ at 12 1 ∷ []) n refl refl refl
+  dropped = wrote later (at 3 0 ∷ at 12 1 ∷ []) n refl refl refl
 
-  pub finish_full : 8 ≤ place_in w 16 → Moves (λ s. finished received) w (set (set w 3 0) 12 1)
-  unfolding finished engine_in
-  finish_full full =
-      alike dropped
+  freed : Moves (λ s. with_way idle) later (set later 3 0)
+  unfolding when◌then◌else◌ bit_in samples_at
+  freed = wrote later (at 3 0 ∷ []) n refl refl refl
+
+  pub finish_full : is_full (engine_in w).unread ≡ true → later ≡ w → Moves (λ s. finished received) w (set (set later 3 0) 12 1)
+  unfolding finished
+  finish_full full same =
+      subst (λ (v : List ℕ). Moves (λ s. finished received) v (set (set later 3 0) 12 1)) same
+      (alike dropped
       (ap (with_way idle)
-      (sym
-      (if_true (is_full (samples_at (place_in w 15) (place_in w 16) (from 32 (place_in w)))) _ _
-      (samples_full (place_in w 15) (place_in w 16) (from 32 (place_in w)) full))))
+      (sym (if_true (is_full (engine_in later).unread) _ _ (ap (λ (v : List ℕ). is_full (engine_in v).unread) same ∙ full)))))
 
-  -- A cell of the receive buffer, and then its count.
-  appended : (i count : ℕ) → i < 8 →
-      Moves (λ s e. with_way idle (with_unread (samples_at (place_in w 15) count (λ k. get_or (set (cells_at (from 32 (place_in w))) i received) k 0)) e)) w
-      (set (set (set w (32 + i) received) 3 0) 16 count)
-  appended i count small =
-      moved w (at (32 + i) received ∷ at 3 0 ∷ at 16 count ∷ []) n (omega arith, (omega arith, (omega arith, tt)))
-      (received_there (place_in w) received count i small).0 (received_there (place_in w) received count i small).1
-
-  pub finish_room : place_in w 16 < 8 →
-      Moves (λ s. finished received) w
-      (set (set (set w (32 + (place_in w 15 % 8 + place_in w 16) % 8) received) 3 0) 16 (place_in w 16 + 1))
-  unfolding finished engine_in
-  finish_room room =
-      let i : ℕ = (place_in w 15 % 8 + place_in w 16) % 8 in
-      let cells : List ℕ = cells_at (from 32 (place_in w)) in
-      alike (appended i (place_in w 16 + 1) (omega arith))
-      (cc (
-        samples_push (place_in w 15) (place_in w 16) received (from 32 (place_in w)) (λ k. get_or (set cells i received) k 0) room
-            (cells_written (from 32 (place_in w)) i received (omega arith)),
-        if_false (is_full (samples_at (place_in w 15) (place_in w 16) (from 32 (place_in w)))) (with_overflow true (engine_in w)) _
-            (samples_room (place_in w 15) (place_in w 16) (from 32 (place_in w)) room),
-      ))
+  pub finish_room : is_full (engine_in w).unread ≡ false → Moves (λ s e. with_unread (e.unread ++ (received ∷ [])) e) w later →
+      Moves (λ s. finished received) w (set later 3 0)
+  unfolding finished
+  finish_room room m =
+      alike (both m freed) (ap (with_way idle) (sym (if_false (is_full (engine_in w).unread) (with_overflow true (engine_in w)) _ room)))
 
 -- The frame's numbers are small.
 pub frame_small : (w : List ℕ) (f : Frame) → f ≡ framed (shape_in w) →
@@ -244,17 +209,20 @@ module _ (w : List ℕ) (f : Frame) (is : f ≡ framed (shape_in w)) (sdi : Bool
   unfolding clocked byte_in
   goes_on = λ i. clocked_as s sdi (way_sends w some i) (engine_in w)
 
-  -- Whether it samples, and what is then received.
-  abbrev sampled : Bool
-  sampled = eqb ((e + 1) % 2) 0 && ltb f.lead (e + 1)
-
-  pub takes : (received : ℕ) → sampled ≡ true → received ≡ shifted_in (place_in w 7) sdi → received ≡ received_after s sdi u
+  -- What is received: a bit more where it samples.
+  pub takes : {received : ℕ} → (e + 1) % 2 ≡ 0 → f.lead < e + 1 → received ≡ shifted_in (place_in w 7) sdi → received ≡ received_after s sdi u
   unfolding received_after samples byte_in when◌then◌else◌
-  takes received test same = rw (← g.lead, test) same
+  takes even beyond same = rw (← g.lead, eq-eqb ((e + 1) % 2) 0 even, lt-ltb f.lead (e + 1) beyond) same
 
-  pub skips : sampled ≡ false → place_in w 7 ≡ received_after s sdi u
+  skips : (eqb ((e + 1) % 2) 0 && ltb f.lead (e + 1)) ≡ false → place_in w 7 ≡ received_after s sdi u
   unfolding received_after samples byte_in when◌then◌else◌
   skips test = rw (← g.lead, test)
+
+  pub skips_first : ((e + 1) % 2 ≡ 0 → ⊥) → place_in w 7 ≡ received_after s sdi u
+  skips_first odd = skips (and_first _ _ (ne_eqb ((e + 1) % 2) 0 odd))
+
+  pub skips_lead : e + 1 ≤ f.lead → place_in w 7 ≡ received_after s sdi u
+  skips_lead early = skips (and-false (eqb ((e + 1) % 2) 0) _ (le-ltb f.lead (e + 1) early))
 
   -- The edges counted, with SDO or with the received bits.
   abbrev onward : ℕ → ℕ → Way
@@ -270,15 +238,15 @@ module _ (w : List ℕ) (f : Frame) (is : f ≡ framed (shape_in w)) (sdi : Bool
       if_true (bit_in (place_in w 3)) _ _ (bit_on (place_in w 3) some)
       ∙ ap (λ (k : ℕ). sends (record { filler = u.filler; word = u.word; edges = k; received = received })) (mod-eq_of_lt small)
 
-  wrote-sdo : length w ≡ 40 → (edges sdo : ℕ) →
-      Moves (λ _ n. with_way (onward edges (place_in w 7)) (with_sdo (bit_in sdo) n)) w (set (set w 6 edges) 10 sdo)
+  wrote-sdo : length w ≡ 40 → (sdo edges : ℕ) →
+      Moves (λ _ n. with_way (onward edges (place_in w 7)) (with_sdo (bit_in sdo) n)) w (set (set w 10 sdo) 6 edges)
   unfolding when◌then◌else◌ samples_at
-  wrote-sdo n edges sdo = wrote w (at 6 edges ∷ at 10 sdo ∷ []) n refl refl refl
+  wrote-sdo n sdo edges = wrote w (at 10 sdo ∷ at 6 edges ∷ []) n refl refl refl
 
-  wrote-received : length w ≡ 40 → (edges received : ℕ) →
-      Moves (λ _ n. with_way (onward edges received) n) w (set (set w 6 edges) 7 received)
+  wrote-received : length w ≡ 40 → (received edges : ℕ) →
+      Moves (λ _ n. with_way (onward edges received) n) w (set (set w 7 received) 6 edges)
   unfolding when◌then◌else◌ samples_at
-  wrote-received n edges received = wrote w (at 6 edges ∷ at 7 received ∷ []) n refl refl refl
+  wrote-received n received edges = wrote w (at 7 received ∷ at 6 edges ∷ []) n refl refl refl
 
   wrote-edges : length w ≡ 40 → (edges : ℕ) → Moves (λ _ n. with_way (onward edges (place_in w 7)) n) w (set w 6 edges)
   unfolding when◌then◌else◌ samples_at
@@ -292,50 +260,46 @@ module _ (w : List ℕ) (f : Frame) (is : f ≡ framed (shape_in w)) (sdi : Bool
   short_of short = goes_on ∙ if_true (ltb (e + 1) (last_edge s)) _ _ (lt-ltb (e + 1) (last_edge s) (omega (arith, g.last)))
 
   pub clock_shown : length w ≡ 40 → (sdo : ℕ) → e + 1 < f.last → e % 2 ≡ 0 → bit_in sdo ≡ shown_bit f (place_in w 5) e →
-      Moves (λ s. clocked s sdi) w (set (set w 6 (e + 1)) 10 sdo)
+      Moves (λ s. clocked s sdi) w (set (set w 10 sdo) 6 (e + 1))
   unfolding shifted byte_in
   clock_shown n sdo short even bit =
-      alike (wrote-sdo n (e + 1) sdo)
+      alike (wrote-sdo n sdo (e + 1))
       (cc (
         onward-is (e + 1) (place_in w 7) (small short),
-        skips (and_first _ _ (ne_eqb ((e + 1) % 2) 0 (λ h. omega arith))),
+        skips_first (λ h. omega arith),
         shown_same w f is (place_in w 5) e even short,
         if_true (eqb (e % 2) 0) (channel_bit s u.word (e / 2)) (engine_in w).pins.sdo (eq-eqb (e % 2) 0 even),
         short_of short,
       ))
 
   -- SDO stays at a clock's second edge.
-  sdo-stays : e % 2 ≡ 1 → (when eqb (e % 2) 0 then channel_bit s u.word (e / 2) else (engine_in w).pins.sdo) ≡ (engine_in w).pins.sdo
-  sdo-stays odd = if_false (eqb (e % 2) 0) _ _ (ne_eqb (e % 2) 0 (λ h. omega arith))
+  sdo-stays : (e % 2 ≡ 0 → ⊥) → (when eqb (e % 2) 0 then channel_bit s u.word (e / 2) else (engine_in w).pins.sdo) ≡ (engine_in w).pins.sdo
+  sdo-stays odd = if_false (eqb (e % 2) 0) _ _ (ne_eqb (e % 2) 0 odd)
 
-  second-edge : e % 2 ≡ 1 → (received : ℕ) → received ≡ received_after s sdi u → e + 1 < f.last →
+  second-edge : (e % 2 ≡ 0 → ⊥) → (received : ℕ) → received ≡ received_after s sdi u → e + 1 < f.last →
       with_way (onward (e + 1) received) (engine_in w) ≡ clocked s sdi (engine_in w)
   unfolding shifted byte_in engine_in
   second-edge odd received same short = cc (onward-is (e + 1) received (small short), sdo-stays odd, short_of short)
 
   pub clock_sampled : length w ≡ 40 → (received : ℕ) → e + 1 < f.last → (e % 2 ≡ 0 → ⊥) → f.lead < e + 1 →
-      received ≡ shifted_in (place_in w 7) sdi → Moves (λ s. clocked s sdi) w (set (set w 6 (e + 1)) 7 received)
+      received ≡ shifted_in (place_in w 7) sdi → Moves (λ s. clocked s sdi) w (set (set w 7 received) 6 (e + 1))
   clock_sampled n received short odd beyond same =
-      alike (wrote-received n (e + 1) received)
-      (second-edge (omega arith) received
-      (takes received (and_both _ _ (eq-eqb ((e + 1) % 2) 0 (omega arith)) (lt-ltb f.lead (e + 1) beyond)) same) short)
+      alike (wrote-received n received (e + 1)) (second-edge odd received (takes (omega arith) beyond same) short)
 
   pub clock_lead : length w ≡ 40 → e + 1 < f.last → (e % 2 ≡ 0 → ⊥) → e + 1 ≤ f.lead → Moves (λ s. clocked s sdi) w (set w 6 (e + 1))
-  clock_lead n short odd early =
-      alike (wrote-edges n (e + 1))
-      (second-edge (omega arith) (place_in w 7) (skips (and-false (eqb ((e + 1) % 2) 0) _ (le-ltb f.lead (e + 1) early))) short)
+  clock_lead n short odd early = alike (wrote-edges n (e + 1)) (second-edge odd (place_in w 7) (skips_lead early) short)
 
   -- The last edge.
-  pub clock_finish : (received : ℕ) (later : List ℕ) → f.last ≤ e + 1 → received ≡ received_after s sdi u →
+  pub clock_finish : (received : ℕ) {later : List ℕ} → f.last ≤ e + 1 → received ≡ received_after s sdi u →
       Moves (λ s. finished received) w later → Moves (λ s. clocked s sdi) w later
-  clock_finish received later last same m =
+  clock_finish received last same m =
       let ends : ltb (e + 1) (last_edge s) ≡ false = le-ltb (e + 1) (last_edge s) (omega (arith, g.last)) in
       alike m (cc (goes_on, if_false (ltb (e + 1) (last_edge s)) (shifted s sdi u (engine_in w)) _ ends))
 
 -- The turn of the frame.
 module _ (w : List ℕ) (n : length w ≡ 40) (f : Frame) (is : f ≡ framed (shape_in w)) (sck lrck : ℕ)
     (sck_is : bit_in sck ≡ eqb (place_in w 8 % 2) 0)
-    (lrck-is : bit_in lrck ≡ Bool·beq (ltb (place_in w 2 % 256) f.active) (not f.rest)) where
+    (lrck-is : bit_in lrck ≡ not (Bool·beq (ltb (place_in w 2 % 256) f.active) f.rest)) where
   wrote_turn : (place : ℕ) →
       Moves
       (λ _ e.
@@ -347,9 +311,9 @@ module _ (w : List ℕ) (n : length w ≡ 40) (f : Frame) (is : f ≡ framed (sh
         pins = record { sck = bit_in sck; lrck = bit_in lrck; sdo = e.pins.sdo };
         flags = e.flags;
       })
-      w (set (set (set w 2 place) 8 sck) 9 lrck)
+      w (set (set (set w 8 sck) 9 lrck) 2 place)
   unfolding when◌then◌else◌ samples_at
-  wrote_turn place = wrote w (at 2 place ∷ at 8 sck ∷ at 9 lrck ∷ []) n refl refl refl
+  wrote_turn place = wrote w (at 8 sck ∷ at 9 lrck ∷ at 2 place ∷ []) n refl refl refl
 
   turned_sck : bit_in sck ≡ not (engine_in w).pins.sck
   unfolding engine_in bit_in
@@ -364,52 +328,45 @@ module _ (w : List ℕ) (n : length w ≡ 40) (f : Frame) (is : f ≡ framed (sh
   turned-lrck =
       rw (lrck-is, (numbers is).active, (numbers is).rest) (chosen (ltb (place_in w 2 % 256) (2 * (shape_in w).active)) (shape_in w).rest)
     where
-      chosen : (t r : Bool) → Bool·beq t (not r) ≡ (when t then not r else r)
+      chosen : (t r : Bool) → not (Bool·beq t r) ≡ (when t then not r else r)
       chosen true true = refl
       chosen true false = refl
       chosen false true = refl
       chosen false false = refl
 
   turn-to : (place : ℕ) → byte_in place ≡ next (2 * (shape_in w).frame) (engine_in w).place →
-      Moves turned w (set (set (set w 2 place) 8 sck) 9 lrck)
+      Moves turned w (set (set (set w 8 sck) 9 lrck) 2 place)
   unfolding turned
   turn-to place same =
       alike (wrote_turn place) (cc (turned_sck, turned-lrck))
 
-  pub turn_on : place_in w 2 % 256 + 1 < f.edges → Moves turned w (set (set (set w 2 (place_in w 2 % 256 + 1)) 8 sck) 9 lrck)
+  pub turn_on : place_in w 2 % 256 + 1 < f.edges → Moves turned w (set (set (set w 8 sck) 9 lrck) 2 (place_in w 2 % 256 + 1))
   unfolding next engine_in byte_in when◌then◌else◌
   turn_on short =
       turn-to (place_in w 2 % 256 + 1)
       (rw (lt-ltb (place_in w 2 % 256 + 1) (2 * (shape_in w).frame) (omega (arith, (numbers is).edges)))
       (mod-eq_of_lt (omega (arith, (frame_small w f is).1))))
 
-  pub turn_round : f.edges ≤ place_in w 2 % 256 + 1 → Moves turned w (set (set (set w 2 0) 8 sck) 9 lrck)
+  pub turn_round : f.edges ≤ place_in w 2 % 256 + 1 → Moves turned w (set (set (set w 8 sck) 9 lrck) 2 0)
   unfolding next engine_in byte_in when◌then◌else◌
   turn_round last =
       turn-to 0 (rw (le-ltb (place_in w 2 % 256 + 1) (2 * (shape_in w).frame) (omega (arith, (numbers is).edges))))
 
 -- A whole edge.
-pub edge_disabled : (w : List ℕ) (sdi : Bool) → place_in w 0 % 2 ≡ 0 → Tells (edge_of (card_in w) sdi) 8589934592 w w
+pub edge_disabled : (w : List ℕ) (sdi : Bool) → (head_in w).enabled ≡ false → Gives (edge_of (card_in w) sdi) (refused is_disabled) w w
 unfolding edge_of
-edge_disabled w sdi e = tells_so (not (head_in w).enabled) _ _ (off_unless w e) (refusing is_disabled w 8589934592 refl)
+edge_disabled w sdi e = gives_so (not (head_in w).enabled) _ _ (ap not e) (refusing is_disabled w)
 
 -- A frame is that of the memory after a step too.
-pub frame_still : {g : Shape → Engine → Engine} (a b : List ℕ) (f : Frame) → f ≡ framed (shape_in a) → Moves g a b → f ≡ framed (shape_in b)
-frame_still a b f is m = is ∙ ap (λ (h : Head). framed (shape_of h.settings)) (sym m.head)
+pub frame_still : {g : Shape → Engine → Engine} {a b : List ℕ} {f : Frame} → f ≡ framed (shape_in a) → Moves g a b → f ≡ framed (shape_in b)
+frame_still is m = is ∙ ap (λ (h : Head). framed (shape_of h.settings)) (sym m.head)
 
-pub frame_here : (w : List ℕ) (f : Frame) → f ≡ framed (shape_of (settings_from (place_in w 1))) → f ≡ framed (shape_in w)
+pub frame_here : (w : List ℕ) {f : Frame} → f ≡ framed (shape_of (settings_from (place_in w 1))) → f ≡ framed (shape_in w)
 unfolding head_in
-frame_here w f e = e
+frame_here w e = e
 
-pub edge_done : (sdi : Bool) (w a b c : List ℕ) → (place_in w 0 % 2 ≡ 0 → ⊥) → Moves begun w a → Moves (λ s. clocked s sdi) a b → Moves turned b c →
-    Tells (edge_of (card_in w) sdi) 0 w c
+pub edge_done : (sdi : Bool) {w a b c : List ℕ} → (head_in w).enabled ≡ true → Moves begun w a → Moves (λ s. clocked s sdi) a b →
+    Moves turned b c → Gives (edge_of (card_in w) sdi) done w c
 unfolding edge_of
-edge_done sdi w a b c on x y z =
-    let head : head_in c ≡ head_in w = z.head ∙ y.head ∙ x.head in
-    let engine : engine_in c ≡ edged (shape_in w) sdi (engine_in w) = cc in
-    tells_not (not (head_in w).enabled) _ _ (on_unless w on)
-    (record {
-      answer = refl;
-      card = λ i. record { enabled = (head i).enabled; settings = (head i).settings; engine = engine i };
-      untouched = λ f. clash false f refl;
-    })
+edge_done sdi {w = w} on x y z =
+    gives_not (not (head_in w).enabled) _ _ (ap not on) (done_with (moved_card (both (both x y) z)))

@@ -5,11 +5,30 @@
 
 ghost use Rattle.std.specs.Prelude.{◌≡◌};
 ghost use Rattle.card_rules.specs.Card.{powered_up};
-ghost use Rattle.card_rules.specs.Calls.{set_protocol_of, set_length_of, enable_of, disable_of, write_of, read_of, edge_of, clear_underrun_of, clear_overflow_of};
+ghost use Rattle.card_rules.specs.Calls.{refused, set_protocol_of, set_length_of, enable_of, disable_of, write_of, read_of, edge_of, clear_underrun_of, clear_overflow_of};
 ghost use Rattle.card.specs.Memory.{protocol_in, card_in};
-ghost use Rattle.card.specs.Answered.{Tells};
+ghost use Rattle.card.specs.Answered.{why_of, done_in, answer_number, Tells};
 ghost use Rattle.card_look.specs.Look.{look_number};
 ghost use Rattle.card_exports.specs.Levels.{level_in};
+
+use card::Refusal;
+
+// A refusal as a number.
+fn number(why: Refusal) -> u64
+    ensures { result ≡ answer_number (refused (why_of why)) }
+{
+    (why as u64) << 32
+}
+
+// A call that is done is 0. This is a match, since an edge by `map_or_else` took 7.3 ns in place of 6.7.
+fn number_unless_done(answer: Result<(), Refusal>) -> u64
+    ensures { result ≡ answer_number (done_in answer) }
+{
+    match answer {
+        Ok(()) => 0,
+        Err(why) => number(why),
+    }
+}
 
 // Power-up: the memory may hold anything before.
 #[unsafe(no_mangle)]
@@ -24,7 +43,7 @@ pub extern "C" fn thurafeqa_card_power_up(w: &mut [u32; 40])
 pub extern "C" fn thurafeqa_card_set_protocol(w: &mut [u32; 40], protocol: u32) -> u64
     ensures { Tells (set_protocol_of (card_in w.old) (protocol_in protocol)) result w.old w.new }
 {
-    card::set_protocol(w, protocol)
+    number_unless_done(card::set_protocol(w, protocol))
 }
 
 // The bits of a sample and the clocks of a frame.
@@ -32,21 +51,23 @@ pub extern "C" fn thurafeqa_card_set_protocol(w: &mut [u32; 40], protocol: u32) 
 pub extern "C" fn thurafeqa_card_set_length(w: &mut [u32; 40], bits: u32, frame: u32) -> u64
     ensures { Tells (set_length_of (card_in w.old) bits frame) result w.old w.new }
 {
-    card::set_length(w, bits, frame)
+    number_unless_done(card::set_length(w, bits, frame))
 }
 
 #[unsafe(no_mangle)]
 pub extern "C" fn thurafeqa_card_enable(w: &mut [u32; 40]) -> u64
     ensures { Tells (enable_of (card_in w.old)) result w.old w.new }
 {
-    card::enable(w)
+    card::enable(w);
+    0
 }
 
 #[unsafe(no_mangle)]
 pub extern "C" fn thurafeqa_card_disable(w: &mut [u32; 40]) -> u64
     ensures { Tells (disable_of (card_in w.old)) result w.old w.new }
 {
-    card::disable(w)
+    card::disable(w);
+    0
 }
 
 // A sample waits to be sent.
@@ -54,7 +75,7 @@ pub extern "C" fn thurafeqa_card_disable(w: &mut [u32; 40]) -> u64
 pub extern "C" fn thurafeqa_card_write(w: &mut [u32; 40], sample: u32) -> u64
     ensures { Tells (write_of (card_in w.old) sample) result w.old w.new }
 {
-    card::write(w, sample)
+    number_unless_done(card::write(w, sample))
 }
 
 // The first unread sample.
@@ -62,7 +83,7 @@ pub extern "C" fn thurafeqa_card_write(w: &mut [u32; 40], sample: u32) -> u64
 pub extern "C" fn thurafeqa_card_read(w: &mut [u32; 40]) -> u64
     ensures { Tells (read_of (card_in w.old)) result w.old w.new }
 {
-    card::read(w)
+    card::read(w).map_or_else(number, u64::from)
 }
 
 // One edge, with the level of SDI.
@@ -70,7 +91,7 @@ pub extern "C" fn thurafeqa_card_read(w: &mut [u32; 40]) -> u64
 pub extern "C" fn thurafeqa_card_edge(w: &mut [u32; 40], sdi: u32) -> u64
     ensures { Tells (edge_of (card_in w.old) (level_in sdi)) result w.old w.new }
 {
-    card_edge::edge(w, sdi != 0)
+    number_unless_done(card_edge::edge(w, sdi != 0))
 }
 
 #[unsafe(no_mangle)]

@@ -1,12 +1,11 @@
 -- The parts of a look.
 --     bit_number, protocol_number_lem   a flag and the protocol in a number
 --     output_off, output_high, output_low   SDO
---     right_same    the next channel, by the frame
---     right_yes, right_no   the same, for the answers 1 and 0
+--     right_yes, right_no   the next channel, by the frame
 --     look_is       the whole number
 -- Assumes nothing.
-use Rattle.std.specs.Prelude.{◌+◌, ◌*◌, ◌%◌, ◌&&◌, ◌≡◌, true, false}
-use Rattle.laws.proofs.Common.{ℕ, Bool, List, sym, ap, ◌∙◌, arith, eqb-true, eqb-false, eqb, ltb}
+use Rattle.std.specs.Prelude.{◌+◌, ◌*◌, ◌%◌, ◌&&◌, ◌<◌, ◌≤◌, ◌≡◌}
+use Rattle.laws.proofs.Common.{ℕ, Bool, List, sym, ap, ◌∙◌, arith, eqb-true, eqb-false, lt-ltb, le-ltb, and_first, eqb, ltb}
 use Rattle.laws.proofs.Common.{leb, length, when◌then◌else◌, by_test}
 use mir.Val.{bool_byte}
 use Rattle.card_rules.specs.Settings.{shape_of}
@@ -46,28 +45,29 @@ module _ (w : List ℕ) where
   unfolding sdo_of head_in when◌then◌else◌
   output_off e = rw (bit_off (place_in w 0) e)
 
-  pub output_high : (place_in w 0 % 2 ≡ 0 → ⊥) → place_in w 10 % 2 ≡ 1 → 12 ≡ output_bits (sdo_of (card_in w))
+  pub output_high : (place_in w 0 % 2 ≡ 0 → ⊥) → (place_in w 10 % 2 ≡ 0 → ⊥) → 12 ≡ output_bits (sdo_of (card_in w))
   unfolding sdo_of head_in engine_in when◌then◌else◌
-  output_high on one = rw (bit_on (place_in w 0) on, bit_on (place_in w 10) (λ z. omega arith))
+  output_high on high' = rw (bit_on (place_in w 0) on, bit_on (place_in w 10) high')
 
-  pub output_low : (place_in w 0 % 2 ≡ 0 → ⊥) → (place_in w 10 % 2 ≡ 1 → ⊥) → 8 ≡ output_bits (sdo_of (card_in w))
+  pub output_low : (place_in w 0 % 2 ≡ 0 → ⊥) → place_in w 10 % 2 ≡ 0 → 8 ≡ output_bits (sdo_of (card_in w))
   unfolding sdo_of head_in engine_in when◌then◌else◌
-  output_low on zero' = rw (bit_on (place_in w 0) on, bit_off (place_in w 10) (omega arith))
+  output_low on low' = rw (bit_on (place_in w 0) on, bit_off (place_in w 10) low')
 
-  -- The next channel.
-  pub right_same : (f : Frame) → f ≡ framed (shape_of (settings_from (place_in w 1))) → {b : Bool} →
-      (ltb f.first (place_in w 2 % 256) && leb (place_in w 2 % 256) f.second) ≡ b → bool_byte b ≡ bool_byte (right_next (card_in w))
+  -- The next channel: where the first test holds the second one tells it, and else the first one does.
+  right_same : (f : Frame) → f ≡ framed (shape_of (settings_from (place_in w 1))) →
+      (ltb f.first (place_in w 2 % 256) && leb (place_in w 2 % 256) f.second) ≡ right_next (card_in w)
   unfolding right_next framed head_in engine_in byte_in
-  right_same f e h =
-      ap bool_byte (sym h ∙ (λ i. ltb (e i).first (place_in w 2 % 256) && leb (place_in w 2 % 256) (e i).second))
+  right_same f e = λ i. ltb (e i).first (place_in w 2 % 256) && leb (place_in w 2 % 256) (e i).second
 
-  pub right_yes : (f : Frame) → f ≡ framed (shape_of (settings_from (place_in w 1))) →
-      (ltb f.first (place_in w 2 % 256) && leb (place_in w 2 % 256) f.second) ≡ true → 1 ≡ bool_byte (right_next (card_in w))
-  right_yes f e h = right_same f e h
+  pub right_yes : (f : Frame) → f ≡ framed (shape_of (settings_from (place_in w 1))) → f.first < place_in w 2 % 256 →
+      leb (place_in w 2 % 256) f.second ≡ right_next (card_in w)
+  right_yes f e h = sym (ap (λ (t : Bool). t && leb (place_in w 2 % 256) f.second) (lt-ltb f.first (place_in w 2 % 256) h)) ∙ right_same f e
 
-  pub right_no : (f : Frame) → f ≡ framed (shape_of (settings_from (place_in w 1))) →
-      (ltb f.first (place_in w 2 % 256) && leb (place_in w 2 % 256) f.second) ≡ false → 0 ≡ bool_byte (right_next (card_in w))
-  right_no f e h = right_same f e h
+  pub right_no : (f : Frame) → f ≡ framed (shape_of (settings_from (place_in w 1))) → place_in w 2 % 256 ≤ f.first →
+      ltb f.first (place_in w 2 % 256) ≡ right_next (card_in w)
+  right_no f e h =
+      let low = le-ltb f.first (place_in w 2 % 256) h in
+      low ∙ sym (and_first _ (leb (place_in w 2 % 256) f.second) low) ∙ right_same f e
 
   -- The whole.
   pub look_is : (bits frame waiting unread sdo right : ℕ) → bits ≡ bits_in (place_in w 1) → frame ≡ frame_in (place_in w 1) →

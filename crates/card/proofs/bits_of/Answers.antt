@@ -1,16 +1,13 @@
--- Each branch is a value of the choice.
-use Rattle.laws.proofs.Common.{refl, so_lt, not_so_lt, so_eq, not_so_eq}
-use Rattle.card.specs.Memory.{bits_in}
+-- Each arm is a value of the choice.
+use Rattle.laws.proofs.Common.{arith}
+use Rattle.card.proofs.Frames.{bits_16, bits_24, bits_32}
 use Rattle.card.proofs.bits_of.Goals as goal
 
-pub returns-then-length-lt2 : goal.returns-then-length-lt2
-unfolding bits_in
-returns-then-length-lt2 c = so_lt _ _ _ _ c.if-length-lt2.true refl
+pub returns-in-0-clause-bits : goal.returns-in-0-clause-bits
+returns-in-0-clause-bits c = bits_16 _ (omega arith)
 
-pub returns-then-length-eq2 : goal.returns-then-length-eq2
-unfolding bits_in
-returns-then-length-eq2 c = not_so_lt _ _ _ _ c.if-length-lt2.false (so_eq _ _ _ _ c.if-length-eq2.true refl)
+pub returns-in-2-clause-bits : goal.returns-in-2-clause-bits
+returns-in-2-clause-bits c = bits_24 _ c.in-2.is
 
-pub returns : goal.returns
-unfolding bits_in
-returns c = not_so_lt _ _ _ _ c.if-length-lt2.false (not_so_eq _ _ _ _ c.if-length-eq2.false refl)
+pub returns-in_default-clause-bits : goal.returns-in_default-clause-bits
+returns-in_default-clause-bits c = bits_32 _ (omega arith)

@@ -3,4 +3,4 @@ use Rattle.card.proofs.CallsHold.{overflow_cleared}
 use Rattle.card.proofs.clear_overflow.Goals as goal
 
 pub returns : goal.returns
-returns c = overflow_cleared _ c.is_whole.ensures.1
+returns c = overflow_cleared _ c.told-w

@@ -3,4 +3,4 @@ use Rattle.card.proofs.CallsHold.{underrun_cleared}
 use Rattle.card.proofs.clear_underrun.Goals as goal
 
 pub returns : goal.returns
-returns c = underrun_cleared _ c.is_whole.ensures.1
+returns c = underrun_cleared _ c.told-w

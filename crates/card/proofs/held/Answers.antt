@@ -1,12 +1,7 @@
--- Each branch is a value of the choice.
-use Rattle.laws.proofs.Common.{refl, so_lt, not_so_lt}
-use Rattle.card.specs.Memory.{count_in}
+-- The least of a count and 8.
+use Rattle.laws.proofs.Common.{◌∙◌}
+use Rattle.card.proofs.Rings.{count_is}
 use Rattle.card.proofs.held.Goals as goal
 
-pub returns-then-count-lt8 : goal.returns-then-count-lt8
-unfolding count_in
-returns-then-count-lt8 c = so_lt _ _ _ _ c.if-count-lt8.true refl
-
-pub returns : goal.returns
-unfolding count_in
-returns c = not_so_lt _ _ _ _ c.if-count-lt8.false refl
+pub returns-clause-samples : goal.returns-clause-samples
+returns-clause-samples c = c.min.ensures ∙ count_is _

@@ -3,10 +3,10 @@ use Rattle.card_edge.proofs.EdgeHolds.{begin_taken, begin_under, begin_away}
 use Rattle.card_edge.proofs.begin.Goals as goal
 
 pub returns-then-place-f : goal.returns-then-place-f
-returns-then-place-f c = begin_taken _ _ c.requires _ (search) (search) (search)
+returns-then-place-f c = begin_taken _ _ c.requires c.then-place-f.either c.if-w-eq0.true c.take.ensures
 
-pub returns-then-w-eq0 : goal.returns-then-w-eq0
-returns-then-w-eq0 c = begin_away _ _ c.requires (search)
+pub returns-else-place-f-2 : goal.returns-else-place-f-2
+returns-else-place-f-2 c = begin_away _ _ c.requires c.if-place-f.false c.if-place-f-2.false
 
-pub returns : goal.returns
-returns c = begin_under _ _ c.requires (search)
+pub returns-else-w-eq0 : goal.returns-else-w-eq0
+returns-else-w-eq0 c = begin_under _ _ c.requires c.if-w-eq0.false
