@@ -4,25 +4,22 @@
 --     zeros_edge              a slave with nothing written
 --     written_free, written_busy   a write, by what the shift register holds
 -- Assumes nothing.
-use Rattle.std.specs.Prelude.{◌+◌, ◌*◌, ◌-◌, ◌/◌, ◌%◌, ◌≤◌, ◌<◌, ◌∷◌, ◌≡◌}
+use Rattle.std.specs.Prelude.{◌+◌, ◌*◌, ◌-◌, ◌/◌, ◌%◌, ◌≤◌, ◌<◌, ◌∷◌, ◌≡◌, Option, Some, None}
 use Rattle.laws.proofs.Common.{ℕ, Bool, true, false, List, [], refl, sym, ap}
 use Rattle.laws.proofs.Common.{◌∙◌, arith, lt-ltb, le-ltb, eqb, ltb, length, when◌then◌else◌, if_true, if_false}
 use mir.Val.{bool_byte}
 use Rattle.word_order.specs.Bits.{bit_of}
 use Rattle.ti_rules.specs.declared.Settings.{Settings}
 use Rattle.ti_rules.specs.declared.Character.{Character}
-use Rattle.ti_rules.specs.declared.Buffer.TheVariants.{Empty, Holds}
-use Rattle.ti_rules.specs.declared.Shift.{Shift}
-use Rattle.ti_rules.specs.declared.Shift.TheVariants.{Free, Busy}
 use Rattle.ti_rules.specs.declared.Engine.{Engine}
 use Rattle.ti_rules.specs.Characters.{is_free, written_to, written}
 use Rattle.ti_rules.specs.Finish.{finished}
 use Rattle.ti_rules.specs.Edge.{latches, received_after, sdo_after, shifted, clocked, under_way, edged}
 use Rattle.ti.specs.Memory.{flag_in, length_in, place_in, ti_in, Steps}
-use Rattle.ti.specs.Steps.{loaded_with, next_loaded, landed, zeros_loaded}
+use Rattle.ti.specs.Steps.{begun, loaded_with, next_loaded, landed}
 use Rattle.laws.specs.Writes.{at, writes}
 use Rattle.ti.proofs.Calls.{alike}
-use Rattle.ti.proofs.Parts.{onwards, goes, latch_stored, show_stored, not_free, busy_there, one_there}
+use Rattle.ti.proofs.Parts.{onwards, goes, shows, latch_stored, show_stored, not_free, busy_there, one_there}
 
 -- The edge e of the character in the shift register.
 module _ (w : List ℕ) (whole : length w ≡ 20) (sdi : Bool) (busy : is_free (ti_in w).engine.shift ≡ false)
@@ -55,11 +52,11 @@ module _ (w : List ℕ) (whole : length w ≡ 20) (sdi : Bool) (busy : is_free (
 
   short-is : {x : List ℕ} (r : ℕ) (sdo : Bool) → e < 2 * length_in (place_in w 5) → received_after s e sdi (place_in w 10) ≡ r →
       sdo_after s (place_in w 8) e n.pins.sdo ≡ sdo →
-      Steps (goes (when eqb (place_in w 6) 0 then Free else onwards w e r) sdo) w x → Steps (λ s n. edged s sdi n) w x
+      Steps (goes (when eqb (place_in w 6) 0 then None else onwards w e r) sdo) w x → Steps (λ s n. edged s sdi n) w x
   short-is r sdo short a b h =
       alike h
       (cc (
-        if_false (eqb (place_in w 6) 0) Free (onwards w e r) (not_free w busy),
+        if_false (eqb (place_in w 6) 0) None (onwards w e r) (not_free w busy),
         edged-is,
         if_true (ltb e (2 * length_in (place_in w 5))) _ (finished s (received_after s e sdi (place_in w 10)) n) (lt-ltb e _ short),
       ))
@@ -88,11 +85,16 @@ module _ (w : List ℕ) (whole : length w ≡ 20) (sdi : Bool) (busy : is_free (
   last_edge_lem x r long is-r h =
       alike h (cc (phase-is, edged-is, if_false (ltb e (2 * length_in (place_in w 5))) (left _ _) _ (le-ltb e _ long)))
 
+-- A character that is loaded, in two steps.
+pub loaded_is : (s : Settings) (c : ℕ) (n : Engine) → shows c s (begun false c n) ≡ loaded_with s c n
+unfolding begun loaded_with
+loaded_is s c n = refl
+
 -- The character that waits, loaded from a buffer that is then empty.
 pub next_is : (w : List ℕ) → (place_in w 11 ≡ 0 → ⊥) →
     loaded_with (ti_in w).settings (place_in w 12)
     (record {
-      waiting = Empty;
+      waiting = None;
       shift = (ti_in w).engine.shift;
       unread = (ti_in w).engine.unread;
       pins = (ti_in w).engine.pins;
@@ -108,15 +110,15 @@ unfolding next_loaded landed finished
 finish_is r s n = refl
 
 -- Zeros that are in the shift register are what a free one would begin.
-pub zeros_edge : (s : Settings) (sdi : Bool) (n : Engine) → n.shift ≡ Free → edged s sdi (zeros_loaded n) ≡ edged s sdi n
-unfolding edged zeros_loaded clocked shifted finished
-zeros_edge s sdi n e = sym (ap (λ (sh : Shift). clocked s sdi (under_way sh) n) e)
+pub zeros_edge : (s : Settings) (sdi : Bool) (n : Engine) → n.shift ≡ None → edged s sdi (begun true 0 n) ≡ edged s sdi n
+unfolding edged begun clocked shifted finished
+zeros_edge s sdi n e = sym (ap (λ (sh : Option Character). clocked s sdi (under_way sh) n) e)
 
-pub written_free : (s : Settings) (c : ℕ) (n : Engine) → n.shift ≡ Free → loaded_with s c n ≡ written s c n
+pub written_free : (s : Settings) (c : ℕ) (n : Engine) → n.shift ≡ None → loaded_with s c n ≡ written s c n
 unfolding written loaded_with
-written_free s c n e = sym (ap (λ (sh : Shift). written_to s c sh n) e)
+written_free s c n e = sym (ap (λ (sh : Option Character). written_to s c sh n) e)
 
-pub written_busy : (s : Settings) (c : ℕ) (n : Engine) (x : Character) → n.shift ≡ Busy x →
-    record { waiting = Holds c; shift = n.shift; unread = n.unread; pins = n.pins; overrun = n.overrun } ≡ written s c n
+pub written_busy : (s : Settings) (c : ℕ) (n : Engine) (x : Character) → n.shift ≡ Some x →
+    record { waiting = Some c; shift = n.shift; unread = n.unread; pins = n.pins; overrun = n.overrun } ≡ written s c n
 unfolding written
 written_busy s c n x e = cc

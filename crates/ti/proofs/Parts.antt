@@ -1,34 +1,31 @@
 -- What the numbers of memory tell of a module, and what single stores change of it.
 --     is_free_lem, is_busy, is_waiting, has_room_lem   whether the shift register is free, and whether a character waits
 --     busy_there, free_there            what is in the shift register
---     zero_length, long_length, fit_length   what is no length, and what is one
---     reset_stored, mode_stored, length_stored, load_stored, ...   what is written is read back
+--     no_length                         what is no length, and what is one
+--     reset_stored, mode_stored, length_stored, begun_stored, ...   what is written is read back
 -- Assumes nothing.
-use Rattle.std.specs.Prelude.{◌+◌, ◌-◌, ◌%◌, ◌≤◌, ◌<◌, ◌&&◌, ◌||◌, ◌∷◌, ◌≡◌}
+use Rattle.std.specs.Prelude.{◌+◌, ◌-◌, ◌%◌, ◌&&◌, ◌||◌, ◌∷◌, ◌≡◌, Option, Some, None}
 use Rattle.laws.proofs.Common.{ℕ, Bool, true, false, not, Bool·not-not, List, []}
-use Rattle.laws.proofs.Common.{refl, sym, ap, ap₂, ◌∙◌, arith, eq-eqb, ne_eqb, lt-ltb, le-ltb, eqb, ltb, length, set}
+use Rattle.laws.proofs.Common.{refl, sym, ap, ◌∙◌, arith, eq-eqb, ne_eqb, eqb, ltb, length, set}
 use Rattle.laws.proofs.Common.{when◌then◌else◌, if_true, if_false}
 use Rattle.word_order.specs.Bits.{bit_of}
 use Rattle.ti_rules.specs.declared.Settings.{Settings}
-use Rattle.ti_rules.specs.declared.Buffer.TheVariants.{Empty, Holds}
 use Rattle.ti_rules.specs.declared.Character.{Character}
-use Rattle.ti_rules.specs.declared.Shift.{Shift}
-use Rattle.ti_rules.specs.declared.Shift.TheVariants.{Free, Busy}
 use Rattle.ti_rules.specs.declared.Engine.{Engine}
 use Rattle.ti_rules.specs.declared.Ti.{Ti}
 use Rattle.ti_rules.specs.Settings.{rested_at, is_length, with_length}
-use Rattle.ti_rules.specs.Characters.{is_full, is_free, fresh, between_sdo, with_sdo, taken, cleared}
+use Rattle.ti_rules.specs.Characters.{is_full, is_free, between_sdo, with_sdo, taken, cleared}
 use Rattle.ti_rules.specs.Edge.{seen}
 use Rattle.ti_rules.specs.Calls.{clear_of}
 use Rattle.ti.specs.Memory.{flag_in, length_in, character_at, place_in, ti_in, Becomes, engine_step, Steps, with_reset, with_mode}
-use Rattle.ti.specs.Steps.{loaded_with, landed, next_loaded, zeros_loaded}
+use Rattle.ti.specs.Steps.{begun, landed, next_loaded}
 use Rattle.laws.specs.Writes.{at, writes}
 use Rattle.ti.proofs.Stored.{stored, stepped}
 use Rattle.ti.proofs.Calls.{flag_on, flag_off, ◌then◌, alike}
 
 -- ---- what numbers tell
 
-free_choice : (b : Bool) (c : Character) → is_free (when b then Free else Busy c) ≡ b
+free_choice : (b : Bool) (c : Character) → is_free (when b then None else Some c) ≡ b
 unfolding when◌then◌else◌
 free_choice true c = refl
 free_choice false c = refl
@@ -37,7 +34,7 @@ free_flag : (w : List ℕ) → is_free (ti_in w).engine.shift ≡ eqb (place_in 
 unfolding ti_in
 free_flag w = free_choice (eqb (place_in w 6) 0) _
 
-full_choice : (b : Bool) (c : ℕ) → is_full (when b then Empty else Holds c) ≡ not b
+full_choice : (b : Bool) (c : ℕ) → is_full (when b then None else Some c) ≡ not b
 unfolding when◌then◌else◌
 full_choice true c = refl
 full_choice false c = refl
@@ -69,37 +66,30 @@ pub unread_flag : (w : List ℕ) → is_full (ti_in w).engine.unread ≡ flag_in
 unfolding ti_in
 unread_flag w = full_choice (eqb (place_in w 13) 0) _
 
-pub busy_there : (w : List ℕ) → eqb (place_in w 6) 0 ≡ false → (ti_in w).engine.shift ≡ Busy (character_at (place_in w))
+pub busy_there : (w : List ℕ) → eqb (place_in w 6) 0 ≡ false → (ti_in w).engine.shift ≡ Some (character_at (place_in w))
 unfolding ti_in
 busy_there w e = if_false (eqb (place_in w 6) 0) _ _ e
 
-pub free_there : (w : List ℕ) → place_in w 6 ≡ 0 → (ti_in w).engine.shift ≡ Free
+pub free_there : (w : List ℕ) → place_in w 6 ≡ 0 → (ti_in w).engine.shift ≡ None
 unfolding ti_in
 free_there w e = if_true (eqb (place_in w 6) 0) _ _ (eq-eqb _ _ e)
 
-pub none_there : (w : List ℕ) → place_in w 11 ≡ 0 → (ti_in w).engine.waiting ≡ Empty
+pub none_there : (w : List ℕ) → place_in w 11 ≡ 0 → (ti_in w).engine.waiting ≡ None
 unfolding ti_in
 none_there w e = if_true (eqb (place_in w 11) 0) _ _ (eq-eqb _ _ e)
 
-pub one_there : (w : List ℕ) → (place_in w 11 ≡ 0 → ⊥) → (ti_in w).engine.waiting ≡ Holds (place_in w 12)
+pub one_there : (w : List ℕ) → (place_in w 11 ≡ 0 → ⊥) → (ti_in w).engine.waiting ≡ Some (place_in w 12)
 unfolding ti_in
 one_there w e = if_false (eqb (place_in w 11) 0) _ _ (ne_eqb _ _ e)
 
-pub zero_length : (n : ℕ) → n ≡ 0 → not (is_length n) ≡ true
+-- The test of the code: 0, or above 16.
+pub no_length : (n : ℕ) {b : Bool} → (eqb n 0 || ltb 16 n) ≡ b → not (is_length n) ≡ b
 unfolding is_length
-zero_length n e = ap (λ (b : Bool). not (not b && not (ltb 16 n))) (eq-eqb n 0 e)
-
-pub long_length : (n : ℕ) → 16 < n → not (is_length n) ≡ true
-unfolding is_length
-long_length n h = ap (λ (b : Bool). not (not (eqb n 0) && not b)) (lt-ltb 16 n h) ∙ none (not (eqb n 0))
+no_length n e = both (eqb n 0) (ltb 16 n) ∙ e
   where
-    none : (b : Bool) → not (b && false) ≡ true
-    none true = refl
-    none false = refl
-
-pub fit_length : (n : ℕ) → (n ≡ 0 → ⊥) → n ≤ 16 → not (is_length n) ≡ false
-unfolding is_length
-fit_length n some most = ap₂ (λ (a b : Bool). not (not a && not b)) (ne_eqb n 0 some) (le-ltb 16 n most)
+    both : (a b : Bool) → not (not a && not b) ≡ (a || b)
+    both true b = refl
+    both false b = Bool·not-not b
 
 -- A clock that turns.
 pub turned_level : (w : List ℕ) (v : ℕ) → flag_in v ≡ eqb (place_in w 16) 0 →
@@ -111,12 +101,23 @@ turned_level w v e =
 -- ---- single stores
 
 -- Another character in the shift register, or none, and a level of the output.
-abbrev pub goes : Shift → Bool → Settings → Engine → Engine
+abbrev pub goes : Option Character → Bool → Settings → Engine → Engine
 goes sh sdo s n = record { waiting = n.waiting; shift = sh; unread = n.unread; pins = with_sdo sdo n.pins; overrun = n.overrun }
 
+-- The level of the output between characters, once one is loaded.
+abbrev pub shows : ℕ → Settings → Engine → Engine
+shows c s n =
+    record {
+      waiting = n.waiting;
+      shift = n.shift;
+      unread = n.unread;
+      pins = with_sdo (between_sdo s (Some c) n.pins.sdo) n.pins;
+      overrun = n.overrun;
+    }
+
 -- The character in the shift register after so many edges.
-abbrev pub onwards : List ℕ → ℕ → ℕ → Shift
-onwards w edges received = Busy (record { zeros = flag_in (place_in w 7); bits = place_in w 8; edges = edges; received = received })
+abbrev pub onwards : List ℕ → ℕ → ℕ → Option Character
+onwards w edges received = Some (record { zeros = flag_in (place_in w 7); bits = place_in w 8; edges = edges; received = received })
 
 module _ (w : List ℕ) (whole : length w ≡ 20) where
   pub reset_stored : (v : ℕ) {m : Ti} → with_reset (eqb v 0) (ti_in w) ≡ m → Becomes m (set w 0 v)
@@ -161,27 +162,35 @@ module _ (w : List ℕ) (whole : length w ≡ 20) where
   unfolding ti_in when◌then◌else◌ seen
   clock_stored a = stepped w (at 16 a ∷ []) whole refl refl
 
-  load_read : (c v : ℕ) →
-      Steps (goes (Busy (fresh false c)) (flag_in v)) w (writes w (at 6 1 ∷ at 7 0 ∷ at 8 c ∷ at 9 0 ∷ at 10 0 ∷ at 18 v ∷ []))
+  pub begun_stored : (zeros : Bool) (c v : ℕ) → flag_in v ≡ zeros →
+      Steps (λ s n. begun zeros c n) w (writes w (at 6 1 ∷ at 7 v ∷ at 8 c ∷ at 9 0 ∷ at 10 0 ∷ []))
+  unfolding ti_in when◌then◌else◌ begun
+  begun_stored zeros c v e =
+      stepped w (at 6 1 ∷ at 7 v ∷ at 8 c ∷ at 9 0 ∷ at 10 0 ∷ []) whole refl (λ i. engine_step (λ s n. begun (e i) c n) (ti_in w))
+
+  sdo_read : (v : ℕ) →
+      Steps (λ s n. record { waiting = n.waiting; shift = n.shift; unread = n.unread; pins = with_sdo (flag_in v) n.pins; overrun = n.overrun })
+      w
+      (set w 18 v)
   unfolding ti_in when◌then◌else◌
-  load_read c v = stepped w (at 6 1 ∷ at 7 0 ∷ at 8 c ∷ at 9 0 ∷ at 10 0 ∷ at 18 v ∷ []) whole refl refl
+  sdo_read v = stepped w (at 18 v ∷ []) whole refl refl
 
   between-top : (c : ℕ) → (when flag_in (place_in w 4) then bit_of c (place_in w 5 % 16) else flag_in (place_in w 18))
-      ≡ between_sdo (ti_in w).settings (Holds c) (ti_in w).engine.pins.sdo
+      ≡ between_sdo (ti_in w).settings (Some c) (ti_in w).engine.pins.sdo
   unfolding ti_in between_sdo
   between-top c =
       let top : place_in w 5 % 16 ≡ place_in w 5 % 16 + 1 - 1 = omega arith in
       ap (λ (k : ℕ). when flag_in (place_in w 4) then bit_of c k else flag_in (place_in w 18)) top
 
-  pub load_stored : (c v : ℕ) → flag_in v ≡ (when flag_in (place_in w 4) then bit_of c (place_in w 5 % 16) else flag_in (place_in w 18)) →
-      Steps (λ s n. loaded_with s c n) w (writes w (at 6 1 ∷ at 7 0 ∷ at 8 c ∷ at 9 0 ∷ at 10 0 ∷ at 18 v ∷ []))
-  unfolding loaded_with
-  load_stored c v e = alike (load_read c v) (cc (between-top c))
+  -- The output once a character is loaded.
+  pub top_stored : (c v : ℕ) → flag_in v ≡ (when flag_in (place_in w 4) then bit_of c (place_in w 5 % 16) else flag_in (place_in w 18)) →
+      Steps (shows c) w (set w 18 v)
+  top_stored c v e = alike (sdo_read v) (cc (between-top c))
 
   -- A received character.
   land-read : (c v : ℕ) →
       Steps
-      (λ s n. record { waiting = n.waiting; shift = n.shift; unread = Holds c; pins = n.pins; overrun = flag_in v })
+      (λ s n. record { waiting = n.waiting; shift = n.shift; unread = Some c; pins = n.pins; overrun = flag_in v })
       w
       (writes w (at 15 v ∷ at 13 1 ∷ at 14 c ∷ []))
   unfolding ti_in when◌then◌else◌
@@ -198,12 +207,12 @@ module _ (w : List ℕ) (whole : length w ≡ 20) where
 
   -- Nothing waits: the shift register is free.
   free-read : (v : ℕ) →
-      Steps (goes Free (flag_in v)) w (writes w (at 6 0 ∷ at 18 v ∷ []))
+      Steps (goes None (flag_in v)) w (writes w (at 6 0 ∷ at 18 v ∷ []))
   unfolding ti_in when◌then◌else◌
   free-read v = stepped w (at 6 0 ∷ at 18 v ∷ []) whole refl refl
 
   between_none : (when flag_in (place_in w 4) then false else flag_in (place_in w 18))
-      ≡ between_sdo (ti_in w).settings Empty (ti_in w).engine.pins.sdo
+      ≡ between_sdo (ti_in w).settings None (ti_in w).engine.pins.sdo
   unfolding ti_in between_sdo
   between_none = refl
 
@@ -213,29 +222,24 @@ module _ (w : List ℕ) (whole : length w ≡ 20) where
   free_stored v none e = alike (free-read v) (cc (none_there w none, between_none))
 
   -- What waits leaves the transmit buffer.
-  pub gone_stored : Steps (λ s n. record { waiting = Empty; shift = n.shift; unread = n.unread; pins = n.pins; overrun = n.overrun }) w (set w 11 0)
+  pub gone_stored : Steps (λ s n. record { waiting = None; shift = n.shift; unread = n.unread; pins = n.pins; overrun = n.overrun }) w (set w 11 0)
   unfolding ti_in when◌then◌else◌
   gone_stored = stepped w (at 11 0 ∷ []) whole refl refl
 
   -- A character that must wait.
   pub wait_stored : (c : ℕ) →
-      Steps (λ s n. record { waiting = Holds c; shift = n.shift; unread = n.unread; pins = n.pins; overrun = n.overrun }) w
+      Steps (λ s n. record { waiting = Some c; shift = n.shift; unread = n.unread; pins = n.pins; overrun = n.overrun }) w
       (writes w (at 11 1 ∷ at 12 c ∷ []))
   unfolding ti_in when◌then◌else◌
   wait_stored c = stepped w (at 11 1 ∷ at 12 c ∷ []) whole refl refl
 
-  -- Zeros begin.
-  pub zeros_stored : Steps (λ s n. zeros_loaded n) w (writes w (at 6 1 ∷ at 7 1 ∷ at 8 0 ∷ at 9 0 ∷ at 10 0 ∷ []))
-  unfolding ti_in when◌then◌else◌ zeros_loaded
-  zeros_stored = stepped w (at 6 1 ∷ at 7 1 ∷ at 8 0 ∷ at 9 0 ∷ at 10 0 ∷ []) whole refl refl
-
   -- An edge short of the last.
   pub latch_stored : (e r : ℕ) →
-      Steps (goes (when eqb (place_in w 6) 0 then Free else onwards w e r) (ti_in w).engine.pins.sdo) w (writes w (at 9 e ∷ at 10 r ∷ []))
+      Steps (goes (when eqb (place_in w 6) 0 then None else onwards w e r) (ti_in w).engine.pins.sdo) w (writes w (at 9 e ∷ at 10 r ∷ []))
   unfolding ti_in when◌then◌else◌
   latch_stored e r = stepped w (at 9 e ∷ at 10 r ∷ []) whole refl refl
 
   pub show_stored : (e v : ℕ) →
-      Steps (goes (when eqb (place_in w 6) 0 then Free else onwards w e (place_in w 10)) (flag_in v)) w (writes w (at 9 e ∷ at 18 v ∷ []))
+      Steps (goes (when eqb (place_in w 6) 0 then None else onwards w e (place_in w 10)) (flag_in v)) w (writes w (at 9 e ∷ at 18 v ∷ []))
   unfolding ti_in when◌then◌else◌
   show_stored e v = stepped w (at 9 e ∷ at 18 v ∷ []) whole refl refl

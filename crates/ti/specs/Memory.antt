@@ -1,15 +1,13 @@
 -- A TI module in memory: which of 20 numbers of 16 bits holds what. Any numbers hold a module: a flag or a level is low for 0 and high for any
 -- other number, and the length is one more than a number's low four bits, as in SPICCR. What nothing here names is spare.
-use Rattle.std.specs.Prelude.{ℕ, ◌+◌, ◌*◌, ◌%◌, Bool, true, false, not, List, ◌≡◌, eqb, get_or}
+use Rattle.std.specs.Prelude.{ℕ, ◌+◌, ◌*◌, ◌%◌, Bool, true, false, not, List, ◌≡◌, eqb, get_or, Option, Some, None, Result, Ok, Err}
 use Rattle.laws.specs.Choice.{when◌then◌else◌}
+use Rattle.ti.specs.declared.Mode.{Mode}
 use Rattle.ti_rules.specs.declared.Settings.{Settings}
-use Rattle.ti_rules.specs.declared.Buffer.{Buffer}
-use Rattle.ti_rules.specs.declared.Buffer.TheVariants.{Empty, Holds}
 use Rattle.ti_rules.specs.declared.Character.{Character}
-use Rattle.ti_rules.specs.declared.Shift.{Shift}
-use Rattle.ti_rules.specs.declared.Shift.TheVariants.{Free, Busy}
 use Rattle.ti_rules.specs.declared.Engine.{Engine}
 use Rattle.ti_rules.specs.declared.Ti.{Ti}
+use Rattle.ti_rules.specs.declared.Refusal.{Refusal}
 use Rattle.ti_rules.specs.declared.Answer.{Answer}
 use Rattle.ti_rules.specs.declared.Answer.TheVariants.{Refused, Done, Value, NoEdge, Edge}
 use Rattle.ti_rules.specs.declared.Outcome.{Outcome}
@@ -37,15 +35,15 @@ settings_at place =
     }
 
 -- A buffer: whether it holds a character, and which.
-abbrev pub buffer_at : ℕ → ℕ → Buffer
-buffer_at held c = when eqb held 0 then Empty else Holds c
+abbrev pub buffer_at : ℕ → ℕ → Option ℕ
+buffer_at held c = when eqb held 0 then None else Some c
 
 -- Place 6 is not 0 while a character is in the shift register; it is told by places 7 to 10.
 abbrev pub character_at : (ℕ → ℕ) → Character
 character_at place = record { zeros = flag_in (place 7); bits = place 8; edges = place 9; received = place 10 }
 
-abbrev pub shift_at : (ℕ → ℕ) → Shift
-shift_at place = when eqb (place 6) 0 then Free else Busy (character_at place)
+abbrev pub shift_at : (ℕ → ℕ) → Option Character
+shift_at place = when eqb (place 6) 0 then None else Some (character_at place)
 
 -- The transmit buffer is at places 11 and 12, the receive buffer at 13 and 14, the overrun flag at 15, the pins at 16 to 18.
 abbrev pub engine_at : (ℕ → ℕ) → Engine
@@ -82,7 +80,10 @@ pub record Steps (f : Settings → Engine → Engine) (before after : List ℕ) 
 abbrev pub with_reset : Bool → Ti → Ti
 with_reset b m = record { reset = b; settings = m.settings; engine = m.engine }
 
--- Another mode: all else stays.
+-- The mode of settings, and another mode: all else stays.
+abbrev pub mode_in : Settings → Mode
+mode_in s = record { master = s.master; talk = s.talk; polarity = s.polarity; phase = s.phase }
+
 abbrev pub with_mode : Bool → Bool → Bool → Bool → Ti → Ti
 with_mode master talk polarity phase m =
     record { reset = m.reset; settings = mode_of master talk polarity phase m.settings; engine = m.engine }
@@ -104,6 +105,25 @@ untouching Edge = false
 -- no edge, leave every number as it was.
 pub record Tells (o : Outcome) (r : ℕ) (before after : List ℕ) : Type 0 where
   pub number : r ≡ answer_number o.answer
+  pub holds : ti_in after ≡ o.after
+  pub untouched : untouching o.answer ≡ true → after ≡ before
+
+-- What a Result says, by the answer that its value is: an error is a refusal.
+abbrev pub answer_of : {A : Type 0} → (A → Answer) → Result A Refusal → Answer
+answer_of value (Ok x) = value x
+answer_of value (Err r) = Refused r
+
+-- The value of a call that is done, and of a tick: whether it made an edge.
+abbrev pub done : Unit {0} → Answer
+done _ = Done
+
+abbrev pub ticked : Bool → Answer
+ticked true = Edge
+ticked false = NoEdge
+
+-- The same of a call that returns a Result: it says the definition's answer.
+pub record Gives {A : Type 0} (value : A → Answer) (o : Outcome) (r : Result A Refusal) (before after : List ℕ) : Type 0 where
+  pub answer : answer_of value r ≡ o.answer
   pub holds : ti_in after ≡ o.after
   pub untouched : untouching o.answer ≡ true → after ≡ before
 

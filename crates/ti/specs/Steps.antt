@@ -1,18 +1,21 @@
--- The steps of an engine of which the code makes the rules: a character is loaded, lands, is followed by the one that waits; zeros begin.
-use Rattle.std.specs.Prelude.{ℕ, true, false, ◌||◌}
+-- The steps of an engine of which the code makes the rules: a character is loaded, lands, is followed by the one that waits; zeros that
+-- nobody wrote begin.
+use Rattle.std.specs.Prelude.{ℕ, Bool, false, ◌||◌, Some, None}
 use Rattle.ti_rules.specs.declared.Settings.{Settings}
-use Rattle.ti_rules.specs.declared.Buffer.TheVariants.{Empty, Holds}
-use Rattle.ti_rules.specs.declared.Shift.TheVariants.{Busy}
 use Rattle.ti_rules.specs.declared.Engine.{Engine}
 use Rattle.ti_rules.specs.Characters.{is_full, fresh, loaded_from, between_sdo, with_sdo}
+
+unfoldable pub begun : Bool → ℕ → Engine → Engine
+begun zeros c n =
+    record { waiting = n.waiting; shift = Some (fresh zeros c); unread = n.unread; pins = n.pins; overrun = n.overrun }
 
 unfoldable pub loaded_with : Settings → ℕ → Engine → Engine
 loaded_with s c n =
     record {
       waiting = n.waiting;
-      shift = Busy (fresh false c);
+      shift = Some (fresh false c);
       unread = n.unread;
-      pins = with_sdo (between_sdo s (Holds c) n.pins.sdo) n.pins;
+      pins = with_sdo (between_sdo s (Some c) n.pins.sdo) n.pins;
       overrun = n.overrun;
     }
 
@@ -21,7 +24,7 @@ landed received n =
     record {
       waiting = n.waiting;
       shift = n.shift;
-      unread = Holds received;
+      unread = Some received;
       pins = n.pins;
       overrun = n.overrun || is_full n.unread;
     }
@@ -29,13 +32,9 @@ landed received n =
 unfoldable pub next_loaded : Settings → Engine → Engine
 next_loaded s n =
     record {
-      waiting = Empty;
+      waiting = None;
       shift = loaded_from n.waiting;
       unread = n.unread;
       pins = with_sdo (between_sdo s n.waiting n.pins.sdo) n.pins;
       overrun = n.overrun;
     }
-
-unfoldable pub zeros_loaded : Engine → Engine
-zeros_loaded n =
-    record { waiting = n.waiting; shift = Busy (fresh true 0); unread = n.unread; pins = n.pins; overrun = n.overrun }

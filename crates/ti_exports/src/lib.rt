@@ -2,11 +2,29 @@
 // the boundary, and any numbers are answered. A level is low for 0 and high for any other number.
 #![tactic(auto)]
 
-ghost use Rattle.std.specs.Prelude.{◌%◌, [], ◌∷◌, ◌≡◌};
+ghost use Rattle.std.specs.Prelude.{◌*◌, ◌%◌, [], ◌∷◌, ◌≡◌};
 ghost use Rattle.ti_rules.specs.Settings.{powered_up};
 ghost use Rattle.ti_rules.specs.Calls.{enter_of, leave_of, set_mode, set_length, write_of, read_of, tick_of, pins_of, clear_of};
 ghost use Rattle.ti_rules.specs.Clock.{rate_of};
-ghost use Rattle.ti.specs.Memory.{flag_in, ti_in, Becomes, Tells, status_number, levels_number, settings_number};
+ghost use Rattle.ti_rules.specs.declared.Answer.TheVariants.{Refused};
+ghost use Rattle.ti.specs.Memory.{flag_in, ti_in, Becomes, Tells, status_number, levels_number, settings_number, answer_number};
+
+use ti::Mode;
+use ti_rules::Refusal;
+
+// What a refused call answers: the refusal number in the upper 16 bits.
+fn refused(refusal: Refusal) -> u32
+    ensures { result ≡ answer_number (Refused refusal) }
+{
+    refusal as u32 * 65536
+}
+
+// What a call answers that is done and has nothing to tell.
+fn done(_nothing: ()) -> u32
+    ensures { result ≡ 0 }
+{
+    0
+}
 
 // Power-up: the memory may hold anything before.
 #[unsafe(no_mangle)]
@@ -43,7 +61,13 @@ pub extern "C" fn thurafeqa_ti_set_mode(
 ) -> u32
     ensures { Tells (set_mode (ti_in w.old) (flag_in master) (flag_in talk) (flag_in polarity) (flag_in phase)) result w.old w.new }
 {
-    ti::set_mode(w, master != 0, talk != 0, polarity != 0, phase != 0)
+    let mode = Mode {
+        master: master != 0,
+        talk: talk != 0,
+        polarity: polarity != 0,
+        phase: phase != 0,
+    };
+    ti::set_mode(w, mode).map_or_else(refused, done)
 }
 
 // Sets the character length, 1 to 16.
@@ -51,7 +75,7 @@ pub extern "C" fn thurafeqa_ti_set_mode(
 pub extern "C" fn thurafeqa_ti_set_length(w: &mut [u16; 20], length: u32) -> u32
     ensures { Tells (set_length (ti_in w.old) length) result w.old w.new }
 {
-    ti::set_length(w, length)
+    ti::set_length(w, length).map_or_else(refused, done)
 }
 
 // Writes a character, left-justified in the low 16 bits of a value.
@@ -59,7 +83,7 @@ pub extern "C" fn thurafeqa_ti_set_length(w: &mut [u16; 20], length: u32) -> u32
 pub extern "C" fn thurafeqa_ti_write(w: &mut [u16; 20], value: u32) -> u32
     ensures { Tells (write_of (ti_in w.old) (value % 65536)) result w.old w.new }
 {
-    ti::write(w, (value % 65536) as u16)
+    ti::write(w, (value % 65536) as u16).map_or_else(refused, done)
 }
 
 // Reads the unread character, right-justified.
@@ -67,7 +91,7 @@ pub extern "C" fn thurafeqa_ti_write(w: &mut [u16; 20], value: u32) -> u32
 pub extern "C" fn thurafeqa_ti_read(w: &mut [u16; 20]) -> u32
     ensures { Tells (read_of (ti_in w.old)) result w.old w.new }
 {
-    ti::read(w)
+    ti::read(w).map_or_else(refused, u32::from)
 }
 
 // One tick of a master, with the level SDI.
@@ -75,7 +99,7 @@ pub extern "C" fn thurafeqa_ti_read(w: &mut [u16; 20]) -> u32
 pub extern "C" fn thurafeqa_ti_tick(w: &mut [u16; 20], sdi: u32) -> u32
     ensures { Tells (tick_of (ti_in w.old) (flag_in sdi)) result w.old w.new }
 {
-    ti::tick(w, sdi != 0)
+    ti::tick(w, sdi != 0).map_or_else(refused, u32::from)
 }
 
 // The levels SCK, SDI and select are shown to a slave.
@@ -83,7 +107,7 @@ pub extern "C" fn thurafeqa_ti_tick(w: &mut [u16; 20], sdi: u32) -> u32
 pub extern "C" fn thurafeqa_ti_pins(w: &mut [u16; 20], sck: u32, sdi: u32, select: u32) -> u32
     ensures { Tells (pins_of (ti_in w.old) (flag_in sck) (flag_in sdi) (flag_in select)) result w.old w.new }
 {
-    ti::pins(w, sck != 0, sdi != 0, select != 0)
+    ti::pins(w, sck != 0, sdi != 0, select != 0).map_or_else(refused, done)
 }
 
 // Clears the overrun flag.

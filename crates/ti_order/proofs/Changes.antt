@@ -2,16 +2,12 @@
 --     PlainOf    the statements of one call
 --     plainly    every call
 -- Assumes nothing.
-use Rattle.std.specs.Prelude.{◌+◌, ◌*◌, ◌&&◌, ◌||◌, ◌≡◌}
+use Rattle.std.specs.Prelude.{◌+◌, ◌*◌, ◌&&◌, ◌||◌, ◌≡◌, Option, Some, None}
 use Rattle.laws.proofs.Common.{ℕ, Bool, true, false, not, Bool·beq, refl, sym, ap, ◌∙◌, arith}
 use Rattle.laws.proofs.Common.{not-false, ne_eqb, eqb, ltb, when◌then◌else◌, if_keeps, if_false, clash}
 use Rattle.word_order.specs.Port.{is_under}
 use Rattle.ti_rules.specs.declared.Settings.{Settings}
-use Rattle.ti_rules.specs.declared.Buffer.{Buffer}
-use Rattle.ti_rules.specs.declared.Buffer.TheVariants.{Empty, Holds}
 use Rattle.ti_rules.specs.declared.Character.{Character}
-use Rattle.ti_rules.specs.declared.Shift.{Shift}
-use Rattle.ti_rules.specs.declared.Shift.TheVariants.{Free, Busy}
 use Rattle.ti_rules.specs.declared.Engine.{Engine}
 use Rattle.ti_rules.specs.declared.Ti.{Ti}
 use Rattle.ti_rules.specs.declared.Answer.{Answer}
@@ -47,7 +43,7 @@ pub record PlainOf (m : Ti) (c : Call) (o : Outcome) : Type 0 where
 
 -- Edges and writes in phase 0: the output moves only within a character.
 module _ (s : Settings) (phase : s.phase ≡ false) where
-  between_stays : (next : Buffer) (sdo : Bool) → between_sdo s next sdo ≡ sdo
+  between_stays : (next : Option ℕ) (sdo : Bool) → between_sdo s next sdo ≡ sdo
   unfolding between_sdo
   between_stays next sdo = if_false s.phase _ _ phase
 
@@ -65,9 +61,9 @@ module _ (s : Settings) (phase : s.phase ≡ false) where
   unfolding written
   written-stays c n = go n.shift
     where
-      go : (sh : Shift) → (written_to s c sh n).pins.sdo ≡ n.pins.sdo
-      go Free = between_stays (Holds c) n.pins.sdo
-      go (Busy x) = refl
+      go : (sh : Option Character) → (written_to s c sh n).pins.sdo ≡ n.pins.sdo
+      go None = between_stays (Some c) n.pins.sdo
+      go (Some x) = refl
 
 module _ (m : Ti) (h : Reached m) where
   -- At rest.
@@ -174,9 +170,9 @@ module _ (m : Ti) (h : Reached m) where
   plainly Read =
       if_keeps (PlainOf m Read) m.reset _ _ (λ e. stays _ _ refl refl refl refl refl refl) (λ e. go m.engine.unread)
     where
-      go : (b : Buffer) → PlainOf m Read (read_from m b)
-      go Empty = stays _ _ refl refl refl refl refl refl
-      go (Holds c) = leaves Read (Value c) _ refl refl refl refl refl refl refl refl (λ off phase idle. refl)
+      go : (b : Option ℕ) → PlainOf m Read (read_from m b)
+      go None = stays _ _ refl refl refl refl refl refl
+      go (Some c) = leaves Read (Value c) _ refl refl refl refl refl refl refl refl (λ off phase idle. refl)
   plainly (Tick sdi) =
       if_keeps (PlainOf m (Tick sdi)) m.reset _ _ (λ e. stays _ _ refl refl refl refl refl refl)
       (λ e.

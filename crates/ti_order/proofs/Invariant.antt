@@ -4,7 +4,7 @@
 --     clocked_holds, stepped_holds        edges keep it
 --     start_holds, keeps                  power-up has it, and every call keeps it
 -- Assumes nothing.
-use Rattle.std.specs.Prelude.{◌+◌, ◌*◌, ◌-◌, ◌/◌, ◌%◌, ◌^◌, ◌≤◌, ◌<◌, ◌||◌, ◌≡◌}
+use Rattle.std.specs.Prelude.{◌+◌, ◌*◌, ◌-◌, ◌/◌, ◌%◌, ◌^◌, ◌≤◌, ◌<◌, ◌||◌, ◌≡◌, Option, Some, None}
 use Rattle.laws.proofs.Common.{ℕ, Bool, true, false, not, Bool·beq, refl}
 use Rattle.laws.proofs.Common.{sym, ap, subst, ◌∙◌, pow-succ', mod-eq_of_lt, zero-div, arith, eqb-false, ltb-true, ltb-false}
 use Rattle.laws.proofs.Common.{ne_eqb, not-true, not-false, eqb, ltb, when◌then◌else◌, if_keeps, if_both, if_true, clash}
@@ -15,11 +15,7 @@ use lib.Pow.{pow_pos}
 use Rattle.word_order.specs.Bits.{bit_of, sampled_in}
 use Rattle.word_order.proofs.WordBits.{sampled_more, sampled_same, bit_most}
 use Rattle.ti_rules.specs.declared.Settings.{Settings}
-use Rattle.ti_rules.specs.declared.Buffer.{Buffer}
-use Rattle.ti_rules.specs.declared.Buffer.TheVariants.{Empty, Holds}
 use Rattle.ti_rules.specs.declared.Character.{Character}
-use Rattle.ti_rules.specs.declared.Shift.{Shift}
-use Rattle.ti_rules.specs.declared.Shift.TheVariants.{Free, Busy}
 use Rattle.ti_rules.specs.declared.Engine.{Engine}
 use Rattle.ti_rules.specs.declared.Ti.{Ti}
 use Rattle.ti_rules.specs.declared.Outcome.{Outcome}
@@ -44,9 +40,9 @@ pub record CharacterHolds (s : Settings) (sdo : Bool) (c : Character) : Type 0 w
   pub own : s.master ≡ true → c.zeros ≡ false
   pub shows : (s.phase || ltb 0 c.edges) ≡ true → sdo ≡ bit_of c.bits (s.length - 1 - shown_at s.phase c.edges)
 
-abbrev pub ShiftHolds : Settings → Engine → Shift → Type 0
-ShiftHolds s n Free = (n.waiting ≡ Empty) × (s.phase ≡ true → n.pins.sdo ≡ false)
-ShiftHolds s n (Busy c) = CharacterHolds s n.pins.sdo c
+abbrev pub ShiftHolds : Settings → Engine → Option Character → Type 0
+ShiftHolds s n None = (n.waiting ≡ None) × (s.phase ≡ true → n.pins.sdo ≡ false)
+ShiftHolds s n (Some c) = CharacterHolds s n.pins.sdo c
 
 -- The length is in range, and in reset the module is at rest.
 pub record Reached (m : Ti) : Type 0 where
@@ -100,10 +96,10 @@ abbrev Held : Settings → Engine → Type 0
 Held s n = ShiftHolds s n n.shift
 
 -- An engine with the same character waiting and the same output, as after other levels of clock and select are seen.
-like_holds : (s : Settings) (n k : Engine) (sh : Shift) → k.waiting ≡ n.waiting → k.pins.sdo ≡ n.pins.sdo →
+like_holds : (s : Settings) (n k : Engine) (sh : Option Character) → k.waiting ≡ n.waiting → k.pins.sdo ≡ n.pins.sdo →
     ShiftHolds s n sh → ShiftHolds s k sh
-like_holds s n k Free e f h = (e ∙ h.0, λ p. f ∙ h.1 p)
-like_holds s n k (Busy c) e f h = subst (λ (b : Bool). CharacterHolds s b c) (sym f) h
+like_holds s n k None e f h = (e ∙ h.0, λ p. f ∙ h.1 p)
+like_holds s n k (Some c) e f h = subst (λ (b : Bool). CharacterHolds s b c) (sym f) h
 
 pub seen_keeps : (s : Settings) (sck select : Bool) (n : Engine) → Held s n → Held s (seen sck select n)
 unfolding seen
@@ -134,12 +130,12 @@ module _ (s : Settings) (least : 1 ≤ s.length) (most : s.length ≤ 16) where
   unfolding finished between_sdo
   finished_holds received n = go n.waiting
     where
-      at : Buffer → Engine
+      at : Option ℕ → Engine
       at w = record { waiting = w; shift = n.shift; unread = n.unread; pins = n.pins; overrun = n.overrun }
 
-      go : (w : Buffer) → Held s (finished s received (at w))
-      go Empty = (refl, λ p. if_true s.phase _ _ p)
-      go (Holds bits) = fresh_holds n.pins.sdo bits
+      go : (w : Option ℕ) → Held s (finished s received (at w))
+      go None = (refl, λ p. if_true s.phase _ _ p)
+      go (Some bits) = fresh_holds n.pins.sdo bits
 
   -- An edge of a character.
   clocked_holds : (sdi : Bool) (c : Character) (n : Engine) → (c.zeros ≡ true → c.bits ≡ 0) → (s.master ≡ true → c.zeros ≡ false) →
@@ -171,11 +167,11 @@ module _ (s : Settings) (least : 1 ≤ s.length) (most : s.length ≤ 16) where
   unfolding edged
   edged_holds sdi n slave h = go n.shift slave h
     where
-      go : (sh : Shift) → (is_free sh ≡ true → s.master ≡ false) → ShiftHolds s n sh → Held s (clocked s sdi (under_way sh) n)
-      go Free f k =
+      go : (sh : Option Character) → (is_free sh ≡ true → s.master ≡ false) → ShiftHolds s n sh → Held s (clocked s sdi (under_way sh) n)
+      go None f k =
           clocked_holds sdi (fresh true 0) n (λ e. refl) (λ e. clash s.master e (f refl)) (omega arith) (pow_pos 0)
           (zeros_shown s n.pins.sdo k.1)
-      go (Busy c) f k = clocked_holds sdi c n k.nought k.own k.short k.received k.shows
+      go (Some c) f k = clocked_holds sdi c n k.nought k.own k.short k.received k.shows
 
   turned_holds : (sdi : Bool) (n : Engine) → is_free n.shift ≡ false → Held s n → Held s (turned s sdi n)
   unfolding turned seen
@@ -190,9 +186,9 @@ module _ (s : Settings) (least : 1 ≤ s.length) (most : s.length ≤ 16) where
   unfolding written between_sdo
   written_holds bits n h = go n.shift h
     where
-      go : (sh : Shift) → ShiftHolds s n sh → Held s (written_to s bits sh n)
-      go Free k = fresh_holds n.pins.sdo bits
-      go (Busy c) k = k
+      go : (sh : Option Character) → ShiftHolds s n sh → Held s (written_to s bits sh n)
+      go None k = fresh_holds n.pins.sdo bits
+      go (Some c) k = k
 
 -- A module at rest.
 rested_holds : (s : Settings) (polarity : Bool) → ShiftHolds s (rested_at polarity) (rested_at polarity).shift
@@ -230,9 +226,9 @@ other_mode_lem m master talk polarity phase h off r q =
       shift = rw q (go m.engine.shift h.shift);
     }
   where
-    go : (sh : Shift) → ShiftHolds m.settings m.engine sh → ShiftHolds (mode_of master talk polarity m.settings.phase m.settings) m.engine sh
-    go Free k = k
-    go (Busy c) k =
+    go : (sh : Option Character) → ShiftHolds m.settings m.engine sh → ShiftHolds (mode_of master talk polarity m.settings.phase m.settings) m.engine sh
+    go None k = k
+    go (Some c) k =
         record { short = k.short; received = k.received; begun = k.begun; nought = k.nought; own = λ e. k.own (sym r ∙ e); shows = k.shows }
 
 -- A mode that does not change more than talk.
@@ -292,9 +288,9 @@ keeps m (Write v) h =
 keeps m Read h =
     if_keeps After m.reset _ _ (λ e. h) (λ e. go e m.engine.unread)
   where
-    go : m.reset ≡ false → (b : Buffer) → Reached (read_from m b).after
-    go e Empty = h
-    go e (Holds c) = moved m _ h e (like_holds m.settings m.engine (taken m.engine) m.engine.shift refl refl h.shift)
+    go : m.reset ≡ false → (b : Option ℕ) → Reached (read_from m b).after
+    go e None = h
+    go e (Some c) = moved m _ h e (like_holds m.settings m.engine (taken m.engine) m.engine.shift refl refl h.shift)
 keeps m (Tick sdi) h =
     if_keeps After m.reset _ _ (λ e. h)
     (λ e.

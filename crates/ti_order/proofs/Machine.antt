@@ -4,7 +4,7 @@
 --     machine    the machine
 --     ti_order_lem   word order after every list of calls from power-up
 -- Assumes nothing.
-use Rattle.std.specs.Prelude.{◌≤◌, ◌&&◌, ◌||◌, ◌≡◌}
+use Rattle.std.specs.Prelude.{◌≤◌, ◌&&◌, ◌||◌, ◌≡◌, Option, Some, None}
 use Rattle.laws.proofs.Common.{ℕ, Bool, true, false, not, Bool·beq, or-false, List, [], append-nil}
 use Rattle.laws.proofs.Common.{refl, sym, ap, ◌∙◌, arith, not-true, ltb, when◌then◌else◌, if_keeps, if_both, if_true}
 use Rattle.laws.proofs.Common.{if_false, clash}
@@ -12,11 +12,8 @@ use Rattle.word_order.specs.Ledger.{Op, accepts}
 use Rattle.word_order.specs.Port.{played, losses_in, finishes_in}
 use Rattle.word_order.specs.Machine.{Entry, opens, notes, Step, Agrees, Machine, InOrder}
 use Rattle.word_order.proofs.Order.{TiedOn, in_order_lem}
+use Rattle.ti_rules.specs.declared.Character.{Character}
 use Rattle.ti_rules.specs.declared.Settings.{Settings}
-use Rattle.ti_rules.specs.declared.Buffer.{Buffer}
-use Rattle.ti_rules.specs.declared.Buffer.TheVariants.{Empty, Holds}
-use Rattle.ti_rules.specs.declared.Shift.{Shift}
-use Rattle.ti_rules.specs.declared.Shift.TheVariants.{Free, Busy}
 use Rattle.ti_rules.specs.declared.Engine.{Engine}
 use Rattle.ti_rules.specs.declared.Ti.{Ti}
 use Rattle.ti_rules.specs.declared.Answer.{Answer}
@@ -92,9 +89,9 @@ pub written_rest : (s : Settings) (c : ℕ) (n : Engine) → Written n (written 
 unfolding written
 written_rest s c n = go n.shift
   where
-    go : (sh : Shift) → Written n (written_to s c sh n)
-    go Free = record { overrun = refl; unread = refl; sck = refl; select = refl }
-    go (Busy x) = record { overrun = refl; unread = refl; sck = refl; select = refl }
+    go : (sh : Option Character) → Written n (written_to s c sh n)
+    go None = record { overrun = refl; unread = refl; sck = refl; select = refl }
+    go (Some x) = record { overrun = refl; unread = refl; sck = refl; select = refl }
 
 module _ (m : Ti) (level busy : Bool) (k : ℕ) (h : Reached m)
     (tied : not m.reset ≡ true → Agrees (port_of m.engine) busy k × (level ≡ m.engine.pins.sck)) where
@@ -124,16 +121,16 @@ module _ (m : Ti) (level busy : Bool) (k : ℕ) (h : Reached m)
   unfolding written way_of when◌then◌else◌
   written_port c room = go m.engine.shift m.engine.waiting room
     where
-      at : Shift → Buffer → Engine
+      at : Option Character → Option ℕ → Engine
       at sh w =
           record { waiting = w; shift = sh; unread = m.engine.unread; pins = m.engine.pins; overrun = m.engine.overrun }
 
-      go : (sh : Shift) (w : Buffer) → is_full w ≡ false →
+      go : (sh : Option Character) (w : Option ℕ) → is_full w ≡ false →
           port_of (written_to m.settings c sh (at sh w)) ≡ played (terms_of m.settings) (accepts c) (port_of (at sh w))
-      go Free Empty e = refl
-      go Free (Holds y) e = clash true refl e
-      go (Busy x) Empty e = rw append-nil
-      go (Busy x) (Holds y) e = clash true refl e
+      go None None e = refl
+      go None (Some y) e = clash true refl e
+      go (Some x) None e = rw append-nil
+      go (Some x) (Some y) e = clash true refl e
 
   -- An edge that counts, the pins being seen first.
   pub record Moved (n : Engine) (sck : Bool) (os : List Op) : Type 0 where
@@ -241,9 +238,9 @@ module _ (m : Ti) (level busy : Bool) (k : ℕ) (h : Reached m)
       if_keeps (StepOf m Read level busy k) m.reset _ _ (λ e. stays _ _ refl refl refl refl refl)
       (λ e. go e m.engine.unread refl)
     where
-      go : m.reset ≡ false → (b : Buffer) → m.engine.unread ≡ b → StepOf m Read level busy k (read_from m b)
-      go e Empty is = stays _ _ refl refl refl refl refl
-      go e (Holds c) is =
+      go : m.reset ≡ false → (b : Option ℕ) → m.engine.unread ≡ b → StepOf m Read level busy k (read_from m b)
+      go e None is = stays _ _ refl refl refl refl refl
+      go e (Some c) is =
           record {
             step = λ on.
                 record { ports = rw is; legal = (record { first = rw is }, tt); stays = λ y. (on, refl) };

@@ -2,7 +2,7 @@
 --     clocked_port                an edge of a character, by its words
 --     edged_step                  an edge that counts: its operations, and what they lose and finish
 -- Assumes nothing.
-use Rattle.std.specs.Prelude.{◌+◌, ◌*◌, ◌-◌, ◌^◌, ◌≤◌, ◌<◌, ◌&&◌, ◌||◌, ◌++◌, ◌≡◌}
+use Rattle.std.specs.Prelude.{◌+◌, ◌*◌, ◌-◌, ◌^◌, ◌≤◌, ◌<◌, ◌&&◌, ◌||◌, ◌++◌, ◌≡◌, Option, Some, None}
 use Rattle.laws.proofs.Common.{ℕ, Bool, true, false, not, or-false, or-true, List}
 use Rattle.laws.proofs.Common.{refl, sym, ap, subst, ◌∙◌, arith, eqb-true, ne_eqb, eqb, ltb, length, when◌then◌else◌}
 use Rattle.laws.proofs.Common.{if_keeps, if_both, if_false, by_test}
@@ -12,11 +12,7 @@ use Rattle.word_order.specs.Ledger.{Op}
 use Rattle.word_order.specs.Port.{Way, sends, Port, played_all, Shows, LegalAll, is_under, edges_under, advanced, loses_at, ends_at, losses_in, finishes_in}
 use Rattle.word_order.specs.Port as port
 use Rattle.ti_rules.specs.declared.Settings.{Settings}
-use Rattle.ti_rules.specs.declared.Buffer.{Buffer}
-use Rattle.ti_rules.specs.declared.Buffer.TheVariants.{Empty, Holds}
 use Rattle.ti_rules.specs.declared.Character.{Character}
-use Rattle.ti_rules.specs.declared.Shift.{Shift}
-use Rattle.ti_rules.specs.declared.Shift.TheVariants.{Free, Busy}
 use Rattle.ti_rules.specs.declared.Engine.{Engine}
 use Rattle.ti_rules.specs.Characters.{is_full, fresh}
 use Rattle.ti_rules.specs.Finish.{finished}
@@ -37,14 +33,14 @@ module _ (s : Settings) (most : s.length ≤ 16) (sdi : Bool) (c : Character) (n
   abbrev onwards : ℕ → Character
   onwards r = record { zeros = c.zeros; bits = c.bits; edges = c.edges + 1; received = r }
 
-  way_on : (r : ℕ) → way_of (Busy (onwards r)) ≡ sends (under_of (onwards r))
+  way_on : (r : ℕ) → way_of (Some (onwards r)) ≡ sends (under_of (onwards r))
   unfolding way_of
   way_on r = if_false (eqb (c.edges + 1) 0) _ _ (ne_eqb (c.edges + 1) 0 (λ e. omega arith))
 
   clocked_port : (way : Way) →
       port_of (clocked s sdi c n)
       ≡ advanced (terms_of s) sdi (sends (under_of c))
-      (record { owed = unsent (Busy c) ++ in_buffer n.waiting; way = way; unread = in_buffer n.unread; marked = false })
+      (record { owed = unsent (Some c) ++ in_buffer n.waiting; way = way; unread = in_buffer n.unread; marked = false })
   unfolding clocked advanced shifted port.progressed
   clocked_port way =
       if_both (λ (x : Engine) (p : Port). port_of x ≡ p) (ltb (c.edges + 1) (2 * s.length)) _ _ _ _ _ refl
@@ -52,11 +48,11 @@ module _ (s : Settings) (most : s.length ≤ 16) (sdi : Bool) (c : Character) (n
       (λ e. rw (← received_law) (finish_port s c.zeros c.bits (c.edges + 1) _ n.waiting n n.unread way))
 
 -- What an edge loses and finishes, by its words.
-full_some : (s : Settings) (owed : List ℕ) (way : Way) (unread : Buffer) →
+full_some : (s : Settings) (owed : List ℕ) (way : Way) (unread : Option ℕ) →
     loses_at (terms_of s) (record { owed = owed; way = way; unread = in_buffer unread; marked = false }) ≡ is_full unread
 unfolding loses_at
-full_some s owed way Empty = refl
-full_some s owed way (Holds c) = refl
+full_some s owed way None = refl
+full_some s owed way (Some c) = refl
 
 module _ (s : Settings) (sdi : Bool) (c : Character) (n : Engine) where
   clocked_overrun : (owed : List ℕ) (way : Way) →
@@ -108,23 +104,23 @@ pub record EdgeStep (s : Settings) (sdi : Bool) (os : List Op) (n : Engine) : Ty
   pub unread : is_full (edged s sdi n).unread ≡ (is_full n.unread || ltb 0 (finishes_in (terms_of s) os (port_of n)))
 
 -- What is on the wire, by the shift register.
-free_way : is_under (way_of Free) ≡ false
+free_way : is_under (way_of None) ≡ false
 unfolding way_of
 free_way = refl
 
-fresh_way : (bits : ℕ) → is_under (way_of (Busy (fresh false bits))) ≡ false
+fresh_way : (bits : ℕ) → is_under (way_of (Some (fresh false bits))) ≡ false
 unfolding way_of when◌then◌else◌
 fresh_way bits = refl
 
-pub begun_way_lem : (c : Character) → eqb c.edges 0 ≡ false → way_of (Busy c) ≡ sends (under_of c)
+pub begun_way_lem : (c : Character) → eqb c.edges 0 ≡ false → way_of (Some c) ≡ sends (under_of c)
 unfolding way_of
 begun_way_lem c e = if_false (eqb c.edges 0) _ _ e
 
 -- What the ledger has on its wire is the edges that the shift register's character was given.
-pub way_edges : (sh : Shift) → edges_under (way_of sh) ≡ (under_way sh).edges
+pub way_edges : (sh : Option Character) → edges_under (way_of sh) ≡ (under_way sh).edges
 unfolding way_of
-way_edges Free = refl
-way_edges (Busy c) =
+way_edges None = refl
+way_edges (Some c) =
     if_keeps (λ (w : Way). edges_under w ≡ c.edges) (eqb c.edges 0) _ _ (λ e. sym (eqb-true c.edges 0 e)) (λ e. refl)
 
 -- A character that was loaded and has had no edge.
@@ -139,40 +135,40 @@ loaded_fresh s sdo c h e =
     none = let fits : c.received < 2 ^ sampled_in (latched s.phase) 0 = rw e at h.received in omega arith
 
 module _ (s : Settings) (least : 1 ≤ s.length) (most : s.length ≤ 16) (sdi : Bool) (n : Engine) where
-  abbrev at : Shift → Buffer → Engine
+  abbrev at : Option Character → Option ℕ → Engine
   at sh w = record { waiting = w; shift = sh; unread = n.unread; pins = n.pins; overrun = n.overrun }
 
-  free_step : (w : Buffer) → ShiftHolds s (at Free w) Free → EdgeStep s sdi (edge_ops false n.pins.sdo sdi) (at Free w)
+  free_step : (w : Option ℕ) → ShiftHolds s (at None w) None → EdgeStep s sdi (edge_ops false n.pins.sdo sdi) (at None w)
   unfolding edged edge_ops way_of when◌then◌else◌
-  free_step Empty k =
+  free_step None k =
       record {
-        ports = clocked_port s most sdi (fresh true 0) (at Free Empty) (omega arith) (omega arith) _;
+        ports = clocked_port s most sdi (fresh true 0) (at None None) (omega arith) (omega arith) _;
         legal = (tt, (character_shows s n.pins.sdo (fresh true 0) (zeros_shown s n.pins.sdo k.1), tt));
-        overrun = rw (← later_bit) (clocked_overrun s sdi (fresh true 0) (at Free Empty) _ _);
-        unread = rw (← later_bit) (clocked-unread s sdi (fresh true 0) (at Free Empty));
+        overrun = rw (← later_bit) (clocked_overrun s sdi (fresh true 0) (at None None) _ _);
+        unread = rw (← later_bit) (clocked-unread s sdi (fresh true 0) (at None None));
       }
-  free_step (Holds x) k = let z : ◌≡◌ {A = ℕ} 1 0 = ap (λ (b : Buffer). length (in_buffer b)) k.0 in absurd (omega arith)
+  free_step (Some x) k = let z : ◌≡◌ {A = ℕ} 1 0 = ap (λ (b : Option ℕ). length (in_buffer b)) k.0 in absurd (omega arith)
 
-  loaded-step : (bits : ℕ) (w : Buffer) → CharacterHolds s n.pins.sdo (fresh false bits) →
-      EdgeStep s sdi (edge_ops false n.pins.sdo sdi) (at (Busy (fresh false bits)) w)
+  loaded-step : (bits : ℕ) (w : Option ℕ) → CharacterHolds s n.pins.sdo (fresh false bits) →
+      EdgeStep s sdi (edge_ops false n.pins.sdo sdi) (at (Some (fresh false bits)) w)
   unfolding edged edge_ops way_of when◌then◌else◌
   loaded-step bits w k =
       record {
-        ports = clocked_port s most sdi (fresh false bits) (at (Busy (fresh false bits)) w) k.short k.received _;
+        ports = clocked_port s most sdi (fresh false bits) (at (Some (fresh false bits)) w) k.short k.received _;
         legal = (tt, (character_shows s n.pins.sdo (fresh false bits) k.shows, tt));
-        overrun = rw (← later_bit) (clocked_overrun s sdi (fresh false bits) (at (Busy (fresh false bits)) w) _ _);
-        unread = rw (← later_bit) (clocked-unread s sdi (fresh false bits) (at (Busy (fresh false bits)) w));
+        overrun = rw (← later_bit) (clocked_overrun s sdi (fresh false bits) (at (Some (fresh false bits)) w) _ _);
+        unread = rw (← later_bit) (clocked-unread s sdi (fresh false bits) (at (Some (fresh false bits)) w));
       }
 
-  begun-step : (c : Character) (w : Buffer) → CharacterHolds s n.pins.sdo c → way_of (Busy c) ≡ sends (under_of c) →
-      EdgeStep s sdi (edge_ops true n.pins.sdo sdi) (at (Busy c) w)
+  begun-step : (c : Character) (w : Option ℕ) → CharacterHolds s n.pins.sdo c → way_of (Some c) ≡ sends (under_of c) →
+      EdgeStep s sdi (edge_ops true n.pins.sdo sdi) (at (Some c) w)
   unfolding edged edge_ops
   begun-step c w k way =
       record {
-        ports = rw way (clocked_port s most sdi c (at (Busy c) w) k.short k.received (sends (under_of c)));
+        ports = rw way (clocked_port s most sdi c (at (Some c) w) k.short k.received (sends (under_of c)));
         legal = (rw way (character_shows s n.pins.sdo c k.shows), tt);
-        overrun = rw (way, ← one_bit_lem) (clocked_overrun s sdi c (at (Busy c) w) _ _);
-        unread = rw (way, ← one_bit_lem) (clocked-unread s sdi c (at (Busy c) w));
+        overrun = rw (way, ← one_bit_lem) (clocked_overrun s sdi c (at (Some c) w) _ _);
+        unread = rw (way, ← one_bit_lem) (clocked-unread s sdi c (at (Some c) w));
       }
 
   -- Whatever is in the shift register, by what the ledger has on its wire.
@@ -180,12 +176,12 @@ module _ (s : Settings) (least : 1 ≤ s.length) (most : s.length ≤ 16) (sdi :
       EdgeStep s sdi (edge_ops busy n.pins.sdo sdi) n
   edged_step busy h e = rw e (go n.shift n.waiting h)
     where
-      go : (sh : Shift) (w : Buffer) → ShiftHolds s (at sh w) sh → EdgeStep s sdi (edge_ops (is_under (way_of sh)) n.pins.sdo sdi) (at sh w)
-      go Free w k = rw free_way (free_step w k)
-      go (Busy c) w k =
+      go : (sh : Option Character) (w : Option ℕ) → ShiftHolds s (at sh w) sh → EdgeStep s sdi (edge_ops (is_under (way_of sh)) n.pins.sdo sdi) (at sh w)
+      go None w k = rw free_way (free_step w k)
+      go (Some c) w k =
           by_test (eqb c.edges 0)
           (λ e.
           let loaded : c ≡ fresh false c.bits = loaded_fresh s n.pins.sdo c k (eqb-true c.edges 0 e) in
-          subst (λ (x : Character). EdgeStep s sdi (edge_ops (is_under (way_of (Busy x))) n.pins.sdo sdi) (at (Busy x) w)) (sym loaded)
+          subst (λ (x : Character). EdgeStep s sdi (edge_ops (is_under (way_of (Some x))) n.pins.sdo sdi) (at (Some x) w)) (sym loaded)
           (rw (fresh_way c.bits) (loaded-step c.bits w (subst (CharacterHolds s n.pins.sdo) loaded k))))
           (λ e. rw (ap is_under (begun_way_lem c e)) (begun-step c w k (begun_way_lem c e)))

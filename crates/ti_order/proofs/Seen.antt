@@ -4,7 +4,7 @@
 --     sdo_due                      the output shows the bit that is due
 --     waits_seen, left_seen        what waits, and whether anything is to be sent
 -- Assumes nothing.
-use Rattle.std.specs.Prelude.{◌-◌, ◌≤◌, ◌&&◌, ◌||◌, ◌∷◌, ◌++◌, ◌≡◌}
+use Rattle.std.specs.Prelude.{◌-◌, ◌≤◌, ◌&&◌, ◌||◌, ◌∷◌, ◌++◌, ◌≡◌, Option, Some, None}
 use Rattle.laws.proofs.Common.{ℕ, suc, and-true, Bool, true, false, not, List, refl}
 use Rattle.laws.proofs.Common.{sym, ap, ◌∙◌, arith, eqb-true, eqb-false, ne_eqb, lt-ltb, le-ltb, eqb, ltb, length, drop}
 use Rattle.laws.proofs.Common.{when◌then◌else◌, and-false, or_rest_first, if_true, if_false, by_test}
@@ -16,11 +16,7 @@ use Rattle.word_order.specs.Machine.{Entry, opens, notes, entered, LegalEntry}
 use Rattle.word_order.proofs.Tied.{Carries, Tied}
 use Rattle.word_order.proofs.Counts.{lost_ops, arrived_ops, grew}
 use Rattle.ti_rules.specs.declared.Settings.{Settings}
-use Rattle.ti_rules.specs.declared.Buffer.{Buffer}
-use Rattle.ti_rules.specs.declared.Buffer.TheVariants.{Empty, Holds}
 use Rattle.ti_rules.specs.declared.Character.{Character}
-use Rattle.ti_rules.specs.declared.Shift.{Shift}
-use Rattle.ti_rules.specs.declared.Shift.TheVariants.{Free, Busy}
 use Rattle.ti_rules.specs.declared.Engine.{Engine}
 use Rattle.ti_rules.specs.Characters.{is_full, is_free, fresh}
 use Rattle.ti_rules.specs.Edge.{under_way}
@@ -64,10 +60,10 @@ busy_wire t owed c e (busy x) k =
     let some : ltb 0 c.edges ≡ true = lt-ltb 0 c.edges e in
     record { moving = sym some; given = k.edges; filler = k.filler ∙ rw some (sym (and-true c.zeros)) }
 
-pub wire_is : (t : Terms) (owed : List ℕ) (sh : Shift) (wire : Wire) → Carries t owed (way_of sh) wire → WireIs wire (under_way sh)
+pub wire_is : (t : Terms) (owed : List ℕ) (sh : Option Character) (wire : Wire) → Carries t owed (way_of sh) wire → WireIs wire (under_way sh)
 unfolding way_of
-wire_is t owed Free wire k = idle_wire t owed (fresh true 0) refl wire k
-wire_is t owed (Busy c) wire k =
+wire_is t owed None wire k = idle_wire t owed (fresh true 0) refl wire k
+wire_is t owed (Some c) wire k =
     by_test (eqb c.edges 0)
     (λ e. idle_wire t owed c (eqb-true c.edges 0 e) wire (rw (if_true (eqb c.edges 0) _ _ e) at k))
     (λ e.
@@ -83,17 +79,17 @@ module _ (s : Settings) (n : Engine) (l : Ledger) (h : ShiftHolds s n n.shift) (
   left = left_owed (terms_of s) (port_of n) l tied
 
   -- What each shift register says of the wire and of what is left.
-  abbrev Due : Shift → Type 0
+  abbrev Due : Option Character → Type 0
   Due sh =
       (s.phase || ltb 0 (under_way sh).edges) ≡ true →
       n.pins.sdo ≡ bit_of (current l) (s.length - 1 - shown_at s.phase (under_way sh).edges)
 
-  due : (sh : Shift) → ShiftHolds s n sh → carries_filler l.wire ≡ ((under_way sh).zeros && ltb 0 (under_way sh).edges) →
+  due : (sh : Option Character) → ShiftHolds s n sh → carries_filler l.wire ≡ ((under_way sh).zeros && ltb 0 (under_way sh).edges) →
       left_over l ≡ unsent sh ++ in_buffer n.waiting → Due sh
   unfolding current when◌then◌else◌
-  due Free k filler left e =
+  due None k filler left e =
       rw (filler, left ∙ ap in_buffer k.0) (k.1 (or_rest_first s.phase _ e refl) ∙ sym (bit_zero _))
-  due (Busy c) k filler left e =
+  due (Some c) k filler left e =
       k.shows e ∙ ap (λ (x : ℕ). bit_of x (s.length - 1 - shown_at s.phase c.edges)) (sym (bits c.zeros refl))
     where
       bits : (z : Bool) → c.zeros ≡ z → (when carries_filler l.wire then 0 else first_of (left_over l)) ≡ c.bits
@@ -105,23 +101,23 @@ module _ (s : Settings) (n : Engine) (l : Ledger) (h : ShiftHolds s n n.shift) (
   sdo_due e = rw is.given (due n.shift h is.filler left (rw is.moving at e))
 
   -- What waits, and whether anything is to be sent.
-  waits : (sh : Shift) (w : Buffer) → ShiftHolds s (record { waiting = w; shift = sh; unread = n.unread; pins = n.pins; overrun = n.overrun }) sh →
+  waits : (sh : Option Character) (w : Option ℕ) → ShiftHolds s (record { waiting = w; shift = sh; unread = n.unread; pins = n.pins; overrun = n.overrun }) sh →
       carries_filler l.wire ≡ ((under_way sh).zeros && ltb 0 (under_way sh).edges) → left_over l ≡ unsent sh ++ in_buffer w →
       is_full w ≡ some_wait l
   unfolding some_wait when◌then◌else◌
-  waits Free Empty k filler left = rw (filler, left)
-  waits Free (Holds x) k filler left =
-      let z : ◌≡◌ {A = ℕ} 1 0 = ap (λ (b : Buffer). length (in_buffer b)) k.0 in absurd (omega arith)
-  waits (Busy c) w k filler left =
+  waits None None k filler left = rw (filler, left)
+  waits None (Some x) k filler left =
+      let z : ◌≡◌ {A = ℕ} 1 0 = ap (λ (b : Option ℕ). length (in_buffer b)) k.0 in absurd (omega arith)
+  waits (Some c) w k filler left =
       by_test c.zeros (λ z. rw (filler, left, z, lt-ltb 0 c.edges (k.begun z)) (one w)) (λ z. rw (filler, left, z) (two w))
     where
-      one : (b : Buffer) → is_full b ≡ ltb 0 (length (in_buffer b))
-      one Empty = refl
-      one (Holds x) = refl
+      one : (b : Option ℕ) → is_full b ≡ ltb 0 (length (in_buffer b))
+      one None = refl
+      one (Some x) = refl
 
-      two : (b : Buffer) → is_full b ≡ ltb 1 (length (c.bits ∷ in_buffer b))
-      two Empty = refl
-      two (Holds x) = refl
+      two : (b : Option ℕ) → is_full b ≡ ltb 1 (length (c.bits ∷ in_buffer b))
+      two None = refl
+      two (Some x) = refl
 
   pub waits_seen : is_full n.waiting ≡ some_wait l
   waits_seen = waits n.shift n.waiting h is.filler left
@@ -129,8 +125,8 @@ module _ (s : Settings) (n : Engine) (l : Ledger) (h : ShiftHolds s n n.shift) (
   pub left_seen : s.master ≡ true → is_free n.shift ≡ eqb (length (left_over l)) 0
   left_seen own = go n.shift h left
     where
-      go : (sh : Shift) → ShiftHolds s n sh → left_over l ≡ unsent sh ++ in_buffer n.waiting → is_free sh ≡ eqb (length (left_over l)) 0
-      go Free k left = rw (left ∙ ap in_buffer k.0)
-      go (Busy c) k left =
+      go : (sh : Option Character) → ShiftHolds s n sh → left_over l ≡ unsent sh ++ in_buffer n.waiting → is_free sh ≡ eqb (length (left_over l)) 0
+      go None k left = rw (left ∙ ap in_buffer k.0)
+      go (Some c) k left =
           rw (left, if_false c.zeros _ _ (k.own own))
           (sym (ne_eqb (suc (length (in_buffer n.waiting))) 0 (λ z. omega arith)))

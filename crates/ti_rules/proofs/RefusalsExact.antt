@@ -3,12 +3,10 @@
 --     refused_unchanged_lem   a refused call leaves the module as it was
 --     in_kind_lem             the kinds of answer that each call may get
 -- Assumes nothing.
-use Rattle.std.specs.Prelude.{◌∷◌, ◌≡◌}
+use Rattle.std.specs.Prelude.{◌∷◌, ◌≡◌, Option, Some, None, ℕ}
 use Rattle.laws.proofs.Common.{Bool, true, false, not, Bool·beq, refl, eqb, ltb, length, when◌then◌else◌, if_keeps}
 use Rattle.laws.proofs.Common.{by_test}
 use Rattle.ti_rules.specs.declared.Settings.{Settings}
-use Rattle.ti_rules.specs.declared.Buffer.{Buffer}
-use Rattle.ti_rules.specs.declared.Buffer.TheVariants.{Empty, Holds}
 use Rattle.ti_rules.specs.declared.Ti.{Ti}
 use Rattle.ti_rules.specs.declared.Refusal.{Refusal}
 use Rattle.ti_rules.specs.declared.Answer.TheVariants.{Refused}
@@ -37,14 +35,14 @@ other_same master talk polarity phase s =
     turn false false = refl
 
 -- A full buffer, and a read, by the table.
-full_same : (b : Buffer) → eqb (length (in_buffer b)) 1 ≡ is_full b
-full_same Empty = refl
-full_same (Holds c) = refl
+full_same : (b : Option ℕ) → eqb (length (in_buffer b)) 1 ≡ is_full b
+full_same None = refl
+full_same (Some c) = refl
 
-read_number : (m : Ti) (b : Buffer) → (said_of (read_from m b).answer).number ≡ (when eqb (length (in_buffer b)) 0 then 6 else 0)
+read_number : (m : Ti) (b : Option ℕ) → (said_of (read_from m b).answer).number ≡ (when eqb (length (in_buffer b)) 0 then 6 else 0)
 unfolding number_of when◌then◌else◌
-read_number m Empty = refl
-read_number m (Holds c) = refl
+read_number m None = refl
+read_number m (Some c) = refl
 
 -- Test by test, in the order of the rules.
 pub refused_exactly_lem : (m : Ti) (c : Call) → (said_of (perform_of m c).answer).number ≡ first_number (rows m c)
@@ -93,9 +91,9 @@ fair m (Write v) =
     (λ x. if_keeps (Fair m (Write v)) _ _ _ (λ y. (λ r e. refl, refl)) (λ y. (λ r e. cc, refl)))
 fair m Read = if_keeps (Fair m Read) m.reset _ _ (λ x. (λ r e. refl, refl)) (λ x. go m.engine.unread)
   where
-    go : (b : Buffer) → Fair m Read (read_from m b)
-    go Empty = (λ r e. refl, refl)
-    go (Holds c) = (λ r e. cc, refl)
+    go : (b : Option ℕ) → Fair m Read (read_from m b)
+    go None = (λ r e. refl, refl)
+    go (Some c) = (λ r e. cc, refl)
 fair m (Tick sdi) =
     if_keeps (Fair m (Tick sdi)) m.reset _ _ (λ x. (λ r e. refl, refl))
     (λ x.

@@ -1,9 +1,7 @@
 -- Request Ten: the calls of the TI module, each with its answer and the module after it, and what is seen of a module between calls.
 -- Tests stand in the order of the refusals.
-use Rattle.std.specs.Prelude.{ℕ, Bool, true, false, not, ◌&&◌, ◌||◌}
+use Rattle.std.specs.Prelude.{ℕ, Bool, true, false, not, ◌&&◌, ◌||◌, Option, Some, None}
 use Rattle.laws.specs.Choice.{when◌then◌else◌}
-use Rattle.ti_rules.specs.declared.Buffer.{Buffer}
-use Rattle.ti_rules.specs.declared.Buffer.TheVariants.{Empty, Holds}
 use Rattle.ti_rules.specs.declared.Engine.{Engine}
 use Rattle.ti_rules.specs.declared.Ti.{Ti}
 use Rattle.ti_rules.specs.declared.Refusal.{Refusal}
@@ -72,9 +70,9 @@ write_of m v =
     else when is_full m.engine.waiting then refuse m TransmitFull
     else answering m Done (written m.settings (character_in m.settings v) m.engine)
 
-abbrev pub read_from : Ti → Buffer → Outcome
-read_from m Empty = refuse m ReceiveEmpty
-read_from m (Holds c) = answering m (Value c) (taken m.engine)
+abbrev pub read_from : Ti → Option ℕ → Outcome
+read_from m None = refuse m ReceiveEmpty
+read_from m (Some c) = answering m (Value c) (taken m.engine)
 
 unfoldable pub read_of : Ti → Outcome
 read_of m = when m.reset then refuse m InReset else read_from m m.engine.unread

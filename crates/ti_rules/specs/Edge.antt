@@ -1,14 +1,12 @@
 -- Document 002, 1.3.2 and 2.1.1, with request Ten: one edge. A character takes two edges a bit, highest bit first; odd edges lead to the
 -- clock's active level.
-use Rattle.std.specs.Prelude.{ℕ, ◌+◌, ◌*◌, ◌-◌, ◌/◌, ◌%◌, Bool, true, not, ◌||◌, ltb, eqb}
+use Rattle.std.specs.Prelude.{ℕ, ◌+◌, ◌*◌, ◌-◌, ◌/◌, ◌%◌, Bool, true, not, ◌||◌, ltb, eqb, Option, Some, None}
 use Rattle.std.specs.Bool.{beq}
 use mir.Val.{bool_byte}
 use Rattle.laws.specs.Choice.{when◌then◌else◌}
 use Rattle.word_order.specs.Bits.{bit_of}
 use Rattle.ti_rules.specs.declared.Settings.{Settings}
 use Rattle.ti_rules.specs.declared.Character.{Character}
-use Rattle.ti_rules.specs.declared.Shift.{Shift}
-use Rattle.ti_rules.specs.declared.Shift.TheVariants.{Free, Busy}
 use Rattle.ti_rules.specs.declared.Engine.{Engine}
 use Rattle.ti_rules.specs.Characters.{fresh, with_sdo}
 use Rattle.ti_rules.specs.Finish.{finished}
@@ -33,7 +31,7 @@ shifted s sdi c n =
     record {
       waiting = n.waiting;
       shift =
-          Busy
+          Some
           (record {
             zeros = c.zeros;
             bits = c.bits;
@@ -52,9 +50,9 @@ clocked s sdi c n =
     else finished s (received_after s (c.edges + 1) sdi c.received) n
 
 -- What an edge finds in the shift register: with nothing written zeros go out.
-abbrev pub under_way : Shift → Character
-under_way Free = fresh true 0
-under_way (Busy c) = c
+abbrev pub under_way : Option Character → Character
+under_way None = fresh true 0
+under_way (Some c) = c
 
 unfoldable pub edged : Settings → Bool → Engine → Engine
 edged s sdi n = clocked s sdi (under_way n.shift) n

@@ -1,14 +1,12 @@
 -- Cases of request Ten that were worked out beforehand, as calls from power-up with what they must answer and show. Levels stand as
 -- decimal digits, 1 high, 0 low, 2 undriven. proofs/ExamplesHold.antt runs them.
-use Rattle.std.specs.Prelude.{ℕ, ◌-◌, ◌*◌, ◌/◌, ◌%◌, ◌^◌, Bool, true, false, ◌&&◌, List, [], ◌∷◌, eqb}
+use Rattle.std.specs.Prelude.{ℕ, ◌-◌, ◌*◌, ◌/◌, ◌%◌, ◌^◌, Bool, true, false, ◌&&◌, List, [], ◌∷◌, eqb, Option, Some, None, option_map, option_to_list}
 use Rattle.std.specs.Bool.{beq}
 use Rattle.std.specs.Float.{binary64}
 use Rattle.std.specs.Float.Ieee.{to_bits}
+use Rattle.laws.specs.Same.{same_numbers}
+use Rattle.ti_rules.specs.declared.Character.{Character}
 use Rattle.ti_rules.specs.declared.Settings.{Settings}
-use Rattle.ti_rules.specs.declared.Buffer.{Buffer}
-use Rattle.ti_rules.specs.declared.Buffer.TheVariants.{Empty, Holds}
-use Rattle.ti_rules.specs.declared.Shift.{Shift}
-use Rattle.ti_rules.specs.declared.Shift.TheVariants.{Free, Busy}
 use Rattle.ti_rules.specs.declared.Ti.{Ti}
 use Rattle.ti_rules.specs.declared.Answer.{Answer}
 use Rattle.ti_rules.specs.declared.Call.{Call}
@@ -53,19 +51,12 @@ shown Undriven = 2
 abbrev pub left : Settings → ℕ → ℕ
 left s c = c * 2 ^ (16 - s.length)
 
-abbrev pub left_in : Settings → Buffer → List ℕ
-left_in s Empty = []
-left_in s (Holds c) = left s c ∷ []
+abbrev pub left_in : Settings → Option ℕ → List ℕ
+left_in s b = option_to_list (option_map (left s) b)
 
-abbrev pub left_shift : Settings → Shift → List ℕ
-left_shift s Free = []
-left_shift s (Busy c) = left s c.bits ∷ c.edges ∷ []
-
-abbrev pub same : List ℕ → List ℕ → Bool
-same [] [] = true
-same [] (b ∷ bs) = false
-same (a ∷ rest) [] = false
-same (a ∷ rest) (b ∷ bs) = eqb a b && same rest bs
+abbrev pub left_shift : Settings → Option Character → List ℕ
+left_shift s None = []
+left_shift s (Some c) = left s c.bits ∷ c.edges ∷ []
 
 -- An answer has this kind, this refusal number and this value.
 abbrev pub says : ℕ → ℕ → ℕ → Answer → Bool
@@ -97,8 +88,8 @@ all_hold m (flags n ∷ rest) =
 all_hold m (holds n waits shifts unread ∷ rest) =
     beq m.engine.pins.sck (digit n 1)
     && (eqb (shown (sdo_of m)) (n % 10)
-    && (same (left_in m.settings m.engine.waiting) waits
-    && (same (left_shift m.settings m.engine.shift) shifts && (same (in_buffer m.engine.unread) unread && all_hold m rest))))
+    && (same_numbers (left_in m.settings m.engine.waiting) waits
+    && (same_numbers (left_shift m.settings m.engine.shift) shifts && (same_numbers (in_buffer m.engine.unread) unread && all_hold m rest))))
 
 -- Refusals.
 abbrev pub refusals : List TiStep

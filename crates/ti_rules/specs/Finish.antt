@@ -1,7 +1,6 @@
 -- Document 002, 1.3.2.1 and 1.4.1.4, with request Ten: what happens once the last bit of a character is through.
-use Rattle.std.specs.Prelude.{ℕ, ◌||◌}
+use Rattle.std.specs.Prelude.{ℕ, ◌||◌, None}
 use Rattle.ti_rules.specs.declared.Settings.{Settings}
-use Rattle.ti_rules.specs.declared.Buffer.TheVariants.{Empty}
 use Rattle.ti_rules.specs.declared.Engine.{Engine}
 use Rattle.ti_rules.specs.Characters.{is_full, loaded_from, between_sdo, with_sdo, unread_after}
 
@@ -9,7 +8,7 @@ use Rattle.ti_rules.specs.Characters.{is_full, loaded_from, between_sdo, with_sd
 unfoldable pub finished : Settings → ℕ → Engine → Engine
 finished s received n =
     record {
-      waiting = Empty;
+      waiting = None;
       shift = loaded_from n.waiting;
       unread = unread_after received n.unread;
       pins = with_sdo (between_sdo s n.waiting n.pins.sdo) n.pins;

@@ -1,20 +1,18 @@
 -- Document 002, 1.4.4 and 2.1.1, with request Ten: software reset, what may be set in it and out of it, and power-up.
-use Rattle.std.specs.Prelude.{ℕ, Bool, true, false, not, ◌&&◌, ◌||◌, ltb, eqb}
+use Rattle.std.specs.Prelude.{ℕ, Bool, true, false, not, ◌&&◌, ◌||◌, ltb, eqb, None}
 use Rattle.std.specs.Bool.{beq}
 use Rattle.ti_rules.specs.declared.Settings.{Settings}
 use Rattle.ti_rules.specs.declared.Engine.{Engine}
 use Rattle.ti_rules.specs.declared.Ti.{Ti}
-use Rattle.ti_rules.specs.declared.Buffer.TheVariants.{Empty}
-use Rattle.ti_rules.specs.declared.Shift.TheVariants.{Free}
 
 -- Reset empties both buffers and the shift register, takes the overrun flag down, and leaves the pins at rest: the clock at its inactive
 -- level, select high, the output low.
 unfoldable pub rested_at : Bool → Engine
 rested_at polarity =
     record {
-      waiting = Empty;
-      shift = Free;
-      unread = Empty;
+      waiting = None;
+      shift = None;
+      unread = None;
       pins = record { sck = polarity; select = true; sdo = false };
       overrun = false;
     }

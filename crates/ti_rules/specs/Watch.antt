@@ -1,7 +1,7 @@
 -- The TI module as a machine of the law of word order (crate word_order): its characters as a port's words, and what somebody writes down
 -- who watches calls, answers and levels. Nothing here asks a rule: which characters were accepted, which edges count and which of them
 -- latch is said anew, in the words of document 002.
-use Rattle.std.specs.Prelude.{ℕ, ◌*◌, ◌%◌, Bool, true, false, not, ◌||◌, List, [], ◌∷◌, ◌++◌, eqb}
+use Rattle.std.specs.Prelude.{ℕ, ◌*◌, ◌%◌, Bool, true, false, not, ◌||◌, List, [], ◌∷◌, ◌++◌, eqb, Option, Some, None, option_to_list}
 use Rattle.std.specs.Bool.{beq}
 use Rattle.laws.specs.Choice.{when◌then◌else◌}
 use Rattle.word_order.specs.Bits.{top_bits, spelled}
@@ -9,11 +9,7 @@ use Rattle.word_order.specs.Ledger.{replaces_old, Terms, Op, accepts, reads, beg
 use Rattle.word_order.specs.Port.{Under, Way, idle, sends, Port}
 use Rattle.word_order.specs.Machine.{Entry, opens, notes, Watching, Watched, watched_calls}
 use Rattle.ti_rules.specs.declared.Settings.{Settings}
-use Rattle.ti_rules.specs.declared.Buffer.{Buffer}
-use Rattle.ti_rules.specs.declared.Buffer.TheVariants.{Empty, Holds}
 use Rattle.ti_rules.specs.declared.Character.{Character}
-use Rattle.ti_rules.specs.declared.Shift.{Shift}
-use Rattle.ti_rules.specs.declared.Shift.TheVariants.{Free, Busy}
 use Rattle.ti_rules.specs.declared.Engine.{Engine}
 use Rattle.ti_rules.specs.declared.Ti.{Ti}
 use Rattle.ti_rules.specs.declared.Answer.{Answer}
@@ -25,20 +21,19 @@ use Rattle.ti_rules.specs.Calls.{perform_of}
 
 -- The words of a module: the character in the shift register, unless nobody wrote it, then the one that waits; the one that has begun;
 -- the unread one.
-abbrev pub in_buffer : Buffer → List ℕ
-in_buffer Empty = []
-in_buffer (Holds c) = c ∷ []
+abbrev pub in_buffer : Option ℕ → List ℕ
+in_buffer b = option_to_list b
 
-abbrev pub unsent : Shift → List ℕ
-unsent Free = []
-unsent (Busy c) = when c.zeros then [] else c.bits ∷ []
+abbrev pub unsent : Option Character → List ℕ
+unsent None = []
+unsent (Some c) = when c.zeros then [] else c.bits ∷ []
 
 abbrev pub under_of : Character → Under
 under_of c = record { filler = c.zeros; word = c.bits; edges = c.edges; received = c.received }
 
-unfoldable pub way_of : Shift → Way
-way_of Free = idle
-way_of (Busy c) = when eqb c.edges 0 then idle else sends (under_of c)
+unfoldable pub way_of : Option Character → Way
+way_of None = idle
+way_of (Some c) = when eqb c.edges 0 then idle else sends (under_of c)
 
 abbrev pub port_of : Engine → Port
 port_of n =

@@ -6,5 +6,5 @@ use Rattle.ti.proofs.between.Goals as goal
 pub returns-then-phase-ne0 : goal.returns-then-phase-ne0
 returns-then-phase-ne0 c = so _ _ _ (flag_on _ c.if-phase-ne0.true) refl
 
-pub returns : goal.returns
-returns c = not_so _ _ _ (flag_off _ c.if-phase-ne0.false) refl
+pub returns-else-phase-ne0 : goal.returns-else-phase-ne0
+returns-else-phase-ne0 c = not_so _ _ _ (flag_off _ c.if-phase-ne0.false) refl

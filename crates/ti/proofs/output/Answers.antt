@@ -12,6 +12,6 @@ pub returns-then-w-ne0 : goal.returns-then-w-ne0
 returns-then-w-ne0 c =
     (ap output_bits (sym (if_false _ _ _ c.if-w.false ∙ if_true _ _ _ (flag_on _ c.if-w-ne0.true))) ∙ output_is _, omega arith)
 
-pub returns : goal.returns
-returns c =
+pub returns-else-w-ne0 : goal.returns-else-w-ne0
+returns-else-w-ne0 c =
     (ap output_bits (sym (if_false _ _ _ c.if-w.false ∙ if_false _ _ _ (flag_off _ c.if-w-ne0.false))) ∙ output_is _, omega arith)

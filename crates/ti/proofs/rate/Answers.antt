@@ -5,4 +5,4 @@ use Rattle.ti.proofs.rate.Goals as goal
 
 pub returns : goal.returns
 unfolding rate_of
-returns c = rw c.divider-d.ensures refl
+returns c = rw (c.from.ensures, c.from-2.ensures, c.divider.ensures) refl
