@@ -1,5 +1,4 @@
 -- The total, beside what is told of the board's calls.
---     begun_counts                             a begun word, by the tests one after the other
 --     asks_list, asks_total                    the question, by what it finds
 --     owed_asked                               a call by its kind
 --     within_owed                              the total within a word
@@ -8,13 +7,12 @@
 --     owed_inside, owed_refused, owed_made     a call of one module of the list
 --     owed_insides, owed_pair_refused, owed_pair_made     a linked run of two
 -- Assumes nothing.
-use Rattle.std.specs.Prelude.{◌+◌, ◌*◌, ◌-◌, ◌%◌, ◌<◌, ◌≤◌, ◌&&◌, ◌||◌, ◌≡◌}
-use Rattle.laws.proofs.Common.{ℕ, Bool, true, false, not, List, refl, sym, ap}
+use Rattle.std.specs.Prelude.{◌+◌, ◌*◌, ◌-◌, ◌%◌, ◌<◌, ◌≤◌, ◌≡◌}
+use Rattle.laws.proofs.Common.{ℕ, true, false, List, refl, sym, ap}
 use Rattle.laws.proofs.Common.{ap₂, ◌∙◌, arith, eqb-true, eqb-false, eq-eqb, ne_eqb, leb-true, leb-false, eqb, leb}
-use Rattle.laws.proofs.Common.{length, when◌then◌else◌, by_case, if_keeps, if_true, if_false, by_test}
+use Rattle.laws.proofs.Common.{length, when◌then◌else◌, if_keeps, if_true, if_false, by_test}
 use lib.Ieee.{Float}
-use Rattle.module_rules.proofs.Types.{Settings, Progress, Shift, Free, Loaded, Begun, Module}
-use Rattle.module_rules.specs.Settings.{ssen_client}
+use Rattle.module_rules.proofs.Types.{Settings, Shift, Free, Loaded, Begun, Module}
 use Rattle.module_rules.specs.RefusalTable.{first_number}
 use Rattle.link_rules.specs.Link.{linked_of}
 use Rattle.board_rules.specs.declared.BoardCall.{BoardCall}
@@ -33,27 +31,14 @@ use Rattle.board_calls.specs.Owing.{board_in, both_in, owed_number, TellsOwed, r
 use Rattle.board_calls.proofs.Asks.{bad}
 use Rattle.board_calls.proofs.Boarding.{as_many, holds_set, holds_at, inside, refused_leaves, made_answer, made_leaves, insides, pair_refused_leaves, pair_made_is, pair_made_leaves}
 
--- A begun word, by the tests one after the other.
-by_tests : (x y : ℕ) (filler host ssen : Bool) →
-    (when filler then x else when host then y else when not host && ssen then x else y) ≡ (when filler || (not host && ssen) then x else y)
-unfolding when◌then◌else◌
-by_tests x y true host ssen = refl
-by_tests x y false true ssen = refl
-by_tests x y false false ssen = refl
-
-pub begun_counts : (s : Settings) (p : Progress) {sh : Shift} {r : ℕ} → sh ≡ Begun p →
-    r ≡ (when p.filler then 0 else when s.con1.msten then 1 else when ssen_client s then 0 else 1) → r ≡ in_shift s sh
-unfolding in_shift
-begun_counts s p e h = by_case (in_shift s) e (h ∙ by_tests 0 1 p.filler s.con1.msten _)
-
 -- The question.
 module _ {count owed : ℕ} where
   pub asks_list : bad count ≡ true → TellsOwed count owed 1376256
-  unfolding bad owes_of bad_list owed_number board_number_of
+  unfolding owes_of bad_list owed_number board_number_of
   asks_list e = record { number = λ ms n. sym (ap owed_number (if_true (bad_list ms) _ _ (ap bad n ∙ e))) }
 
   pub asks_total : bad count ≡ false → TellsOwed count owed (owed % 65536)
-  unfolding bad owes_of bad_list owed_number board_number_of
+  unfolding owes_of bad_list owed_number board_number_of
   asks_total e = record { number = λ ms n. sym (ap owed_number (if_false (bad_list ms) _ _ (ap bad n ∙ e))) }
 
 -- A total that is moved from one count to another.

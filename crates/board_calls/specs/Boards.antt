@@ -1,15 +1,16 @@
 -- The board in memory, and what a caller is told of its calls: answers as numbers, calls by a number for their kind.
-use Rattle.std.specs.Prelude.{ℕ, ◌*◌, ◌%◌, Bool, true, false, List, [], ◌∷◌, ◌≡◌, eqb, Float, get_or, set}
+use Rattle.std.specs.Prelude.{ℕ, ◌*◌, ◌%◌, Bool, true, false, List, [], ◌∷◌, ◌≡◌, eqb, Float, get_or, set, Result, Ok, Err}
 use Rattle.laws.specs.Choice.{when◌then◌else◌}
 use Rattle.module_types.specs.declared.Module.{Module}
+use Rattle.module_types.specs.declared.Refusal.{Refusal}
 use Rattle.module_types.specs.declared.Call.TheVariants.{Read, Write, Tick, Pin, Clear}
 use Rattle.module_rules.specs.RefusalTable.{first_number}
 use Rattle.clock_rules.specs.Clock.{said_clock}
 use Rattle.board_rules.specs.declared.BoardCall.{BoardCall}
 use Rattle.board_rules.specs.declared.BoardCall.TheVariants.{PowerUp, PowerUpAt, Make, Report, Look, StepAndLook, MakeWord}
+use Rattle.board_rules.specs.declared.BoardFault.{BoardFault}
 use Rattle.board_rules.specs.declared.BoardAnswer.{BoardAnswer}
 use Rattle.board_rules.specs.declared.BoardAnswer.TheVariants.{Refused, Powered, Made, Told, Shown, Stepped, Worded}
-use Rattle.board_rules.specs.declared.PairAnswer.{PairAnswer}
 use Rattle.board_rules.specs.Board.{board_number_of, answer_alone, after_alone, board_of, pair_of}
 use Rattle.board_rules.specs.BoardDemands.{board_rows, pair_rows}
 use Rattle.module_memory.specs.Memory.{module_in}
@@ -18,7 +19,6 @@ use Rattle.word_calls.specs.Speaking.{word_number}
 use Rattle.link_calls.specs.Wire.{is_refused}
 use Rattle.module_by_number.specs.Told.{answer_number, level_in, seen_number, step_number, clock_number, clock_floats, link_number}
 use Rattle.board_calls.specs.declared.Cells.{Cells}
-use Rattle.board_rules.specs.declared.PairAnswer.TheVariants as pair
 
 -- The modules that a list of records holds.
 abbrev pub modules_in : List Cells → List Module
@@ -62,9 +62,9 @@ board_number (Shown s) = seen_number s.interrupt s.sck s.sdo s.ss
 board_number (Stepped a s) = step_number a (seen_number s.interrupt s.sck s.sdo s.ss)
 board_number (Worded a count levels) = word_number a count levels
 
-unfoldable pub pair_number : PairAnswer → ℕ
-pair_number (pair.Refused w) = board_number_of w * 65536
-pair_number (pair.Ran a) = link_number a
+unfoldable pub pair_number : Result (Result ℕ Refusal) BoardFault → ℕ
+pair_number (Err w) = board_number_of w * 65536
+pair_number (Ok a) = link_number a
 
 -- The lent memory after an answer: the floats of a report that is not refused.
 unfoldable pub floats_after : BoardAnswer → List Float → List Float
@@ -86,9 +86,9 @@ keeps_all (Shown s) = true
 keeps_all (Stepped a s) = untouching a
 keeps_all (Worded a count levels) = untouching a
 
-abbrev pub pair_keeps_all : PairAnswer → Bool
-pair_keeps_all (pair.Refused w) = true
-pair_keeps_all (pair.Ran a) = is_refused a
+abbrev pub pair_keeps_all : Result (Result ℕ Refusal) BoardFault → Bool
+pair_keeps_all (Err w) = true
+pair_keeps_all (Ok a) = is_refused a
 
 -- The board's test of a call, by the list's length: the number of the first row of the table that applies, as the answer has it.
 unfoldable pub call_fault : ℕ → ℕ → ℕ

@@ -1,13 +1,12 @@
 -- Document 02, Eight, in memory: the total goes into a call beside the list, by its low 16 bits, and comes back above the answer.
-use Rattle.std.specs.Prelude.{ℕ, ◌+◌, ◌*◌, ◌%◌, Bool, List, ◌≡◌, eqb, Float, length}
+use Rattle.std.specs.Prelude.{ℕ, ◌+◌, ◌*◌, ◌%◌, Bool, List, ◌≡◌, eqb, Float, length, Result, Ok, Err, Option, None, Some, ⊤}
 use Rattle.laws.specs.Choice.{when◌then◌else◌}
 use Rattle.module_types.specs.declared.Module.{Module}
 use Rattle.module_types.specs.declared.Call.TheVariants.{Tick}
 use Rattle.link_rules.specs.Link.{linked_of}
 use Rattle.board_rules.specs.declared.BoardCall.{BoardCall}
 use Rattle.board_rules.specs.declared.BoardCall.TheVariants.{Make}
-use Rattle.board_rules.specs.declared.OwedAnswer.{OwedAnswer}
-use Rattle.board_rules.specs.declared.OwedAnswer.TheVariants.{Refused, Owes}
+use Rattle.board_rules.specs.declared.BoardFault.{BoardFault}
 use Rattle.board_rules.specs.Board.{board_number_of, answer_alone, board_of, pair_of}
 use Rattle.board_rules.specs.Owed.{Board, total_moved, owed_call, owed_run, owes_of}
 use Rattle.module_memory.specs.Memory.{module_in}
@@ -24,16 +23,25 @@ unfoldable pub both_in : ℕ → ℕ → ℕ
 both_in total answer = total * 4294967296 + answer
 
 -- The question's answer as a number: the upper 16 bits are the refusal number, 0 if it is answered, the lower 16 bits the words owed.
-unfoldable pub owed_number : OwedAnswer → ℕ
-owed_number (Refused w) = board_number_of w * 65536
-owed_number (Owes n) = n
+unfoldable pub owed_number : Result ℕ BoardFault → ℕ
+owed_number (Err w) = board_number_of w * 65536
+owed_number (Ok n) = n
 
 pub record TellsOwed (count owed r : ℕ) : Type 0 where
   pub number : (ms : List Module) → length ms ≡ count → r ≡ owed_number (owes_of (record { modules = ms; owed = owed % 65536 }))
 
+-- What the board's test of a call finds, as the table's number: 0 where it refuses nothing.
+abbrev pub fault_told : Result ⊤ BoardFault → ℕ
+fault_told (Ok done) = 0
+fault_told (Err w) = board_number_of w
+
 -- The board's test of a call: 0, or the whole number that a refused call returns, with the total as it was.
 unfoldable pub refused_number : ℕ → ℕ → ℕ
 refused_number owed fault = when eqb fault 0 then 0 else both_in (owed % 65536) fault
+
+-- The same as an Option: None for 0.
+unfoldable pub refused_as : ℕ → Option ℕ
+refused_as number = when eqb number 0 then None else Some number
 
 abbrev pub refused_call : ℕ → ℕ → ℕ → ℕ
 refused_call count owed n = refused_number owed (call_fault count n)

@@ -2,13 +2,15 @@
 // exported calls of crate thurafeqa lend a record of the list to it.
 #![tactic(auto)]
 
-ghost use Rattle.std.specs.Prelude.{◌+◌, ◌-◌, ◌≤◌, ◌≡◌};
+ghost use Rattle.std.specs.Prelude.{◌+◌, ◌-◌, ◌*◌, ◌≤◌, ◌||◌, ltb, ◌≡◌};
+ghost use Rattle.board_rules.specs.Board.{board_number_of};
 ghost use Rattle.board_rules.specs.Owed.{in_shift, words_owed, at_most65535};
 ghost use Rattle.module_memory.specs.Memory.{module_in};
 ghost use Rattle.module_by_number.specs.Told.{level_in};
-ghost use Rattle.board_calls.specs.Boards.{asked_of, MakeTells};
-ghost use Rattle.board_calls.specs.Owing.{both_in, TellsOwed, refused_call, refused_pair, MakesOwed, TicksOwed, LinksOwed};
+ghost use Rattle.board_calls.specs.Boards.{asked_of, MakeTells, call_fault, pair_fault};
+ghost use Rattle.board_calls.specs.Owing.{both_in, TellsOwed, fault_told, refused_number, refused_as, refused_call, refused_pair, MakesOwed, TicksOwed, LinksOwed};
 
+use board_rules::BoardFault;
 use module_types::{Settings, Shift};
 
 // A module's memory as a record of the board.
@@ -18,47 +20,27 @@ pub struct Cells {
     pub numbers: [u16; 96],
 }
 
-// The numbers of the two refusals, where an answer has them.
-const BAD_LIST: u32 = 21 * 65536;
-
-const NO_MODULE: u32 = 22 * 65536;
-
-// A call of one module by its kind and up to three numbers. A report's floats go into lent memory.
+// A call of one module by its kind, which the C interface hands over as a number, and up to three numbers. A report's floats go into lent
+// memory. It answers ticks too, though make_counted goes another way with them: its promise is of every kind.
 fn make(w: &mut [u16; 96], kind: u32, x: u32, y: u32, z: u32, report: &mut [f64; 3]) -> u32
     ensures { MakeTells (asked_of kind x y z) result report.old report.new w.old w.new }
 {
-    if kind == 3 {
-        return module_by_number::tick(w, x != 0, y != 0);
+    match kind {
+        0 => {
+            module_memory_stores::power_up(w);
+            0
+        }
+        1 => module_by_number::read(w, x),
+        2 => module_by_number::write(w, x, (y % 65536) as u16),
+        3 => module_by_number::tick(w, x != 0, y != 0),
+        4 => module_by_number::pins(w, x != 0, y != 0, z != 0),
+        5 => module_by_number::clear(w),
+        6 => module_by_number::clock(w, x, report),
+        8 => module_by_number::clock_step(w, x != 0, y != 0, z != 0),
+        9 => module_by_number::power_up_with(w, x),
+        10 => word_calls::told(w, x != 0, (y % 65536) as u16),
+        _ => module_by_number::levels(w),
     }
-    if kind == 4 {
-        return module_by_number::pins(w, x != 0, y != 0, z != 0);
-    }
-    if kind == 8 {
-        return module_by_number::clock_step(w, x != 0, y != 0, z != 0);
-    }
-    if kind == 10 {
-        return word_calls::told(w, x != 0, (y % 65536) as u16);
-    }
-    if kind == 1 {
-        return module_by_number::read(w, x);
-    }
-    if kind == 2 {
-        return module_by_number::write(w, x, (y % 65536) as u16);
-    }
-    if kind == 5 {
-        return module_by_number::clear(w);
-    }
-    if kind == 6 {
-        return module_by_number::clock(w, x, report);
-    }
-    if kind == 0 {
-        module_memory_stores::power_up(w);
-        return 0;
-    }
-    if kind == 9 {
-        return module_by_number::power_up_with(w, x);
-    }
-    module_by_number::levels(w)
 }
 
 // The word in the shift register, if it is an accepted one that has left the transmit buffer.
@@ -69,16 +51,11 @@ fn in_shift(s: Settings, sh: Shift) -> u32
         Shift::Free => 0,
         Shift::Loaded(_) => 1,
         Shift::Begun(p) => {
-            if p.filler {
-                return 0;
+            if p.filler | module_settings::ssen_client(s) {
+                0
+            } else {
+                1
             }
-            if s.con1.msten {
-                return 1;
-            }
-            if module_settings::ssen_client(s) {
-                return 0;
-            }
-            1
         }
     }
 }
@@ -98,18 +75,11 @@ fn moved(total: u32, was: u32, is: u32) -> u32
     requires { (total ≤ 65535) × (is ≤ 256) }
     ensures { (result ≡ at_most65535 (total + is - was)) × (result ≤ 65535) }
 {
-    let sum = total + is;
-    if sum <= was {
-        return 0;
-    }
-    let left = sum - was;
-    if left <= 65535 {
-        return left;
-    }
-    65535
+    (total + is).saturating_sub(was).min(65535)
 }
 
 // A total and an answer as one number.
+#[tactic(auto, unfolding(crate::specs::Owing::both_in))]
 fn both(total: u32, answer: u32) -> u64
     ensures { result ≡ both_in total answer }
 {
@@ -134,7 +104,8 @@ fn make_between(
     both(moved(owed % 65536, was, is), answer)
 }
 
-// A tick of one module, counted before and after it. A tick writes no report.
+// A tick of one module, counted before and after it. A tick writes no report, and takes none: this stands out of line behind the short way,
+// and as a case of make_between it would hand on three numbers and a report more.
 fn tick_between(w: &mut [u16; 96], owed: u32, sdi: bool, ss: bool) -> u64
     ensures { TicksOwed owed sdi ss result w.old w.new }
 {
@@ -154,7 +125,8 @@ pub fn tick_counted(w: &mut [u16; 96], owed: u32, sdi: u32, ss: u32) -> u64
     tick_between(w, owed, sdi != 0, ss != 0)
 }
 
-// A call of one module, with the board's total moved by it. A tick goes the way of ticks, in line.
+// A call of one module, with the board's total moved by it. A tick goes the way of ticks, in line: with a call of tick_counted the compiler
+// takes tick_between into that, and an exported tick of a board becomes two calls.
 pub fn make_counted(
     w: &mut [u16; 96],
     owed: u32,
@@ -186,46 +158,77 @@ pub fn join_counted(host: &mut [u16; 96], client: &mut [u16; 96], owed: u32, lim
     both(moved(first, client_was, count(client)), answer)
 }
 
-// Why a call of module `n` is refused, as the whole number that it returns: 0 if it is not.
-pub fn refused(count: usize, owed: u32, n: u32) -> u64
-    ensures { result ≡ refused_call count owed n }
+// The number of a fault, where an answer has it.
+fn fault_number(fault: BoardFault) -> u32
+    ensures { result ≡ board_number_of fault * 65536 }
 {
-    let total = owed % 65536;
-    if 4 < count {
-        return both(total, BAD_LIST);
-    }
-    if (n as usize) < count {
-        return 0;
-    }
-    if count < 1 {
-        return both(total, BAD_LIST);
-    }
-    both(total, NO_MODULE)
+    u8::from(fault) as u32 * 65536
 }
 
-// The same of a linked run of modules `a` and `b`: the first is tested, then whether it is named twice, then the second.
-pub fn refused_two(count: usize, owed: u32, a: u32, b: u32) -> u64
-    ensures { result ≡ refused_pair count owed a b }
+// Whether a list of `count` modules is no board.
+fn is_bad_list(count: usize) -> bool
+    ensures { result ≡ (ltb count 1 || ltb 4 count) }
 {
-    let first = refused(count, owed, a);
-    if first != 0 {
-        return first;
+    (count < 1) | (4 < count)
+}
+
+// The board's test of a call of module `n`, on a board of `count` modules. A call that is not refused passes two tests.
+fn tested(count: usize, n: u32) -> Result<(), BoardFault>
+    ensures { fault_told result * 65536 ≡ call_fault count n }
+{
+    if 4 < count {
+        return Err(BoardFault::BadList);
     }
+    if (n as usize) < count {
+        return Ok(());
+    }
+    if count < 1 {
+        return Err(BoardFault::BadList);
+    }
+    Err(BoardFault::NoModule)
+}
+
+// That of a linked run of modules `a` and `b`: the first is tested, then whether it is named twice, then the second.
+fn tested_two(count: usize, a: u32, b: u32) -> Result<(), BoardFault>
+    ensures { fault_told result * 65536 ≡ pair_fault count a b }
+{
+    tested(count, a)?;
     if a == b {
-        return both(owed % 65536, NO_MODULE);
+        return Err(BoardFault::NoModule);
     }
-    refused(count, owed, b)
+    tested(count, b)
+}
+
+// What a refused call returns: the fault's number, and the total as it was. None where the test refuses nothing.
+fn refusal(owed: u32, test: Result<(), BoardFault>) -> Option<u64>
+    ensures { result ≡ refused_as (refused_number owed (fault_told test * 65536)) }
+{
+    match test {
+        Ok(()) => None,
+        Err(fault) => Some(both(owed % 65536, fault_number(fault))),
+    }
+}
+
+// Why a call of module `n` is refused, as the whole number that it returns, if it is.
+pub fn refused(count: usize, owed: u32, n: u32) -> Option<u64>
+    ensures { result ≡ refused_as (refused_call count owed n) }
+{
+    refusal(owed, tested(count, n))
+}
+
+// The same of a linked run of modules `a` and `b`.
+pub fn refused_two(count: usize, owed: u32, a: u32, b: u32) -> Option<u64>
+    ensures { result ≡ refused_as (refused_pair count owed a b) }
+{
+    refusal(owed, tested_two(count, a, b))
 }
 
 // The question: the words that a board of `count` modules owes, as a number.
 pub fn owes(count: usize, owed: u32) -> u32
     ensures { TellsOwed count owed result }
 {
-    if count < 1 {
-        return BAD_LIST;
-    }
-    if count > 4 {
-        return BAD_LIST;
+    if is_bad_list(count) {
+        return fault_number(BoardFault::BadList);
     }
     owed % 65536
 }

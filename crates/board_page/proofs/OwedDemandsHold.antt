@@ -1,7 +1,7 @@
 -- The demands on the total of specs/OwedDemands.antt, all of them.
 --     totals_hold   what the buyer signs for, of the words that the board owes
 -- Assumes nothing.
-use Rattle.std.specs.Prelude.{◌<◌, ◌≤◌, ◌∷◌, ◌≡◌}
+use Rattle.std.specs.Prelude.{◌<◌, ◌≤◌, ◌∷◌, ◌≡◌, Ok, Err}
 use Rattle.laws.proofs.Common.{ℕ, zero, suc, Bool, true, false, List, [], refl, sym, ap, subst, ◌∙◌}
 use Rattle.laws.proofs.Common.{arith, ltb-false, eqb-true, eqb, ltb, length, set, replicate, length-set, when◌then◌else◌}
 use Rattle.laws.proofs.Common.{if_keeps, if_true, if_false, by_test, or_right}
@@ -18,7 +18,6 @@ use Rattle.word_rules.proofs.WordHolds.{steps_leave}
 use Rattle.board_rules.specs.declared.BoardCall.{BoardCall}
 use Rattle.board_rules.specs.declared.BoardCall.TheVariants.{PowerUp, PowerUpAt, Make, Report, Look, StepAndLook, MakeWord}
 use Rattle.board_rules.specs.declared.BoardFault.TheVariants.{BadList}
-use Rattle.board_rules.specs.declared.OwedAnswer.TheVariants.{Refused, Owes}
 use Rattle.board_rules.specs.Board.{board_number_of, bad_list, no_module, no_pair, module_at, after_alone, ran_of, board_of, Paired, BoardStep, one, two, board_stepped, board_after}
 use Rattle.board_rules.specs.BoardDemands.{board_rows, pair_rows, at}
 use Rattle.board_rules.specs.Owed.{Board, total_moved, owed_call, owed_run, owes_of, owed_step, owed_after}
@@ -29,13 +28,13 @@ use Rattle.board_page.proofs.OwedMoves.{call_total, run_total, call_moves_lem, r
 use Rattle.board_page.proofs.OwedCounts.{AllHold, holds_at, hold_set, one_moved, counts_unsent_lem, counts_none_lem}
 
 -- The question.
-rows_law : (wrong : Bool) (n : ℕ) → owed_fault_in (when wrong then Refused BadList else Owes n) ≡ first_number (row 21 wrong ∷ [])
+rows_law : (wrong : Bool) (n : ℕ) → owed_fault_in (when wrong then Err BadList else Ok n) ≡ first_number (row 21 wrong ∷ [])
 unfolding when◌then◌else◌ board_number_of
 rows_law true n = refl
 rows_law false n = refl
 
-tells_law : (wrong : Bool) (n : ℕ) → owed_fault_in (when wrong then Refused BadList else Owes n) ≡ 0 →
-    words_in (when wrong then Refused BadList else Owes n) ≡ n
+tells_law : (wrong : Bool) (n : ℕ) → owed_fault_in (when wrong then Err BadList else Ok n) ≡ 0 →
+    words_in (when wrong then Err BadList else Ok n) ≡ n
 unfolding when◌then◌else◌ board_number_of
 tells_law true n e = absurd (omega (arith, e))
 tells_law false n e = refl

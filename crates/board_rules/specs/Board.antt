@@ -1,8 +1,9 @@
 -- Document 02, Seven: a board of one to four modules, SPI1 first, numbered from 0. A board is a list of modules. A call names one
 -- of them, a linked run two.
-use Rattle.std.specs.Prelude.{ℕ, Bool, ◌||◌, List, [], ◌∷◌, eqb, leb, ltb, length, get_or, set}
+use Rattle.std.specs.Prelude.{ℕ, Bool, ◌||◌, List, [], ◌∷◌, eqb, leb, ltb, length, get_or, set, Result, Ok, Err}
 use Rattle.laws.specs.Choice.{when◌then◌else◌}
 use Rattle.module_types.specs.declared.Module.{Module}
+use Rattle.module_types.specs.declared.Refusal.{Refusal}
 use Rattle.module_types.specs.declared.Outcome.{Outcome}
 use Rattle.module_rules.specs.Calls.{powered_up, power_up_of, clock_step_of, perform_of, interrupt_of, sck_of, sdo_of, ss_of}
 use Rattle.link_rules.specs.declared.Linked.{Linked}
@@ -16,17 +17,15 @@ use Rattle.board_rules.specs.declared.BoardFault.{BoardFault}
 use Rattle.board_rules.specs.declared.BoardFault.TheVariants.{BadList, NoModule}
 use Rattle.board_rules.specs.declared.BoardAnswer.{BoardAnswer}
 use Rattle.board_rules.specs.declared.BoardAnswer.TheVariants.{Refused, Powered, Made, Told, Shown, Stepped, Worded}
-use Rattle.board_rules.specs.declared.PairAnswer.{PairAnswer}
-use Rattle.board_rules.specs.declared.PairAnswer.TheVariants as pair
 
 -- What a call of one module comes to: its answer, and the list after it.
 pub record Boarded : Type 0 where
   pub answer : BoardAnswer
   pub after : List Module
 
--- The same of a linked run.
+-- The same of a linked run: what the two modules alone answer, or why the board refuses it.
 pub record Paired : Type 0 where
-  pub answer : PairAnswer
+  pub answer : Result (Result ℕ Refusal) BoardFault
   pub after : List Module
 
 -- The table's number for each fault.
@@ -84,7 +83,7 @@ unfoldable pub refuse_call : List Module → BoardFault → Boarded
 refuse_call ms w = record { answer = Refused w; after = ms }
 
 unfoldable pub refuse_pair : List Module → BoardFault → Paired
-refuse_pair ms w = record { answer = pair.Refused w; after = ms }
+refuse_pair ms w = record { answer = Err w; after = ms }
 
 -- A call of one module: 21, then 22, then what the module alone answers. Its record is replaced, the rest stay.
 unfoldable pub board_of : List Module → ℕ → BoardCall → Boarded
@@ -95,7 +94,7 @@ board_of ms n c =
 
 -- A linked run of host `a` and client `b`: 21, then 22, then what the two alone answer. Their records are replaced, the rest stay.
 unfoldable pub ran_of : List Module → ℕ → ℕ → Linked → Paired
-ran_of ms a b l = record { answer = pair.Ran l.answer; after = set (set ms a l.host) b l.client }
+ran_of ms a b l = record { answer = Ok l.answer; after = set (set ms a l.host) b l.client }
 
 unfoldable pub pair_of : List Module → ℕ → ℕ → ℕ → Paired
 pair_of ms a b limit =

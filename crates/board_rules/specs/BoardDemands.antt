@@ -1,7 +1,8 @@
 -- The customer's demands on the board. The record Boards holds every statement, and proofs/BoardDemandsHold.antt proves it.
-use Rattle.std.specs.Prelude.{ℕ, ◌≤◌, ◌<◌, Bool, true, false, ◌&&◌, ◌||◌, List, [], ◌∷◌, ◌++◌, ◌≡◌, eqb, ltb, leb, length, get_or, replicate}
+use Rattle.std.specs.Prelude.{ℕ, ◌≤◌, ◌<◌, Bool, true, false, ◌&&◌, ◌||◌, List, [], ◌∷◌, ◌++◌, ◌≡◌, eqb, ltb, leb, length, get_or, replicate, Result, Ok, Err}
 use Rattle.laws.specs.Choice.{when◌then◌else◌}
 use Rattle.module_types.specs.declared.Module.{Module}
+use Rattle.module_types.specs.declared.Refusal.{Refusal}
 use Rattle.module_types.specs.declared.Call.{Call}
 use Rattle.module_types.specs.declared.Call.TheVariants.{ClockStep}
 use Rattle.module_rules.specs.RefusalTable.{Row, row, first_number}
@@ -15,13 +16,12 @@ use Rattle.clock_rules.specs.Clock.{report_of}
 use Rattle.word_rules.specs.Word.{word_of, steps_of}
 use Rattle.board_rules.specs.declared.BoardCall.{BoardCall}
 use Rattle.board_rules.specs.declared.BoardCall.TheVariants.{PowerUp, PowerUpAt, Make, Report, Look, StepAndLook, MakeWord}
+use Rattle.board_rules.specs.declared.BoardFault.{BoardFault}
 use Rattle.board_rules.specs.declared.Seen.{Seen}
 use Rattle.board_rules.specs.declared.BoardAnswer.{BoardAnswer}
 use Rattle.board_rules.specs.declared.BoardAnswer.TheVariants.{Refused, Powered, Made, Told, Shown, Stepped, Worded}
-use Rattle.board_rules.specs.declared.PairAnswer.{PairAnswer}
 use Rattle.board_rules.specs.Board.{Boarded, Paired, board_number_of, board_of, pair_of, BoardStep, one, two, board_stepped, board_after}
 use Rattle.board_rules.specs.BoardExamples.{board_examples}
-use Rattle.board_rules.specs.declared.PairAnswer.TheVariants as pair
 
 -- The number with which the board refuses, 0 if it hands the call on.
 abbrev pub fault_in : BoardAnswer → ℕ
@@ -33,9 +33,9 @@ fault_in (Shown s) = 0
 fault_in (Stepped a s) = 0
 fault_in (Worded a count levels) = 0
 
-abbrev pub pair_fault_in : PairAnswer → ℕ
-pair_fault_in (pair.Refused w) = board_number_of w
-pair_fault_in (pair.Ran a) = 0
+abbrev pub pair_fault_in : Result (Result ℕ Refusal) BoardFault → ℕ
+pair_fault_in (Err w) = board_number_of w
+pair_fault_in (Ok a) = 0
 
 -- The rows of the table for a list of so many modules, in the order of the tests. Both stand before every row of one module and of a
 -- linked run.
@@ -91,7 +91,7 @@ pub record Alone (ms : List Module) (n : ℕ) : Type 0 where
 
 -- What a linked run of two modules, which the board hands on, answers and does: that of the two alone.
 pub record Joined (ms : List Module) (a b limit : ℕ) : Type 0 where
-  pub answer : (pair_of ms a b limit).answer ≡ pair.Ran (linked_of (at ms a) (at ms b) limit).answer
+  pub answer : (pair_of ms a b limit).answer ≡ Ok (linked_of (at ms a) (at ms b) limit).answer
   pub host : at (pair_of ms a b limit).after a ≡ (linked_of (at ms a) (at ms b) limit).host
   pub client : at (pair_of ms a b limit).after b ≡ (linked_of (at ms a) (at ms b) limit).client
   pub others : Others (λ k. eqb a k || eqb b k) ms (pair_of ms a b limit).after

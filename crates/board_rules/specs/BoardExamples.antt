@@ -1,7 +1,8 @@
 -- Document 02, Seven: boards with what calls must answer, and what must stand in each module afterwards.
 -- proofs/BoardExamplesHold.antt runs the definitions on them.
-use Rattle.std.specs.Prelude.{ℕ, Bool, true, false, ◌&&◌, List, [], ◌∷◌, eqb, replicate}
+use Rattle.std.specs.Prelude.{ℕ, Bool, true, false, ◌&&◌, List, [], ◌∷◌, eqb, replicate, Result, Ok, Err}
 use Rattle.module_types.specs.declared.Module.{Module}
+use Rattle.module_types.specs.declared.Refusal.{Refusal}
 use Rattle.module_types.specs.declared.Call.TheVariants.{Read, Write}
 use Rattle.module_rules.specs.Refusals.{said_of}
 use Rattle.module_rules.specs.Registers.{con1_value, stat_value}
@@ -10,11 +11,10 @@ use Rattle.link_rules.specs.Link.{link_said_of}
 use Rattle.clock_rules.specs.Clock.{said_clock}
 use Rattle.board_rules.specs.declared.BoardCall.{BoardCall}
 use Rattle.board_rules.specs.declared.BoardCall.TheVariants.{PowerUp, PowerUpAt, Make, Report, Look, StepAndLook, MakeWord}
+use Rattle.board_rules.specs.declared.BoardFault.{BoardFault}
 use Rattle.board_rules.specs.declared.BoardAnswer.{BoardAnswer}
 use Rattle.board_rules.specs.declared.BoardAnswer.TheVariants.{Refused, Powered, Made, Told, Shown, Stepped, Worded}
-use Rattle.board_rules.specs.declared.PairAnswer.{PairAnswer}
 use Rattle.board_rules.specs.Board.{board_number_of, board_of, pair_of, BoardStep, one, two, board_after}
-use Rattle.board_rules.specs.declared.PairAnswer.TheVariants as pair
 
 -- So many modules at power-up, and after some steps.
 abbrev pub fresh : ℕ → List Module
@@ -42,13 +42,13 @@ value_of (Shown s) = 0
 value_of (Stepped a s) = 0
 value_of (Worded a count levels) = levels
 
-abbrev pub pair_refused_with : PairAnswer → ℕ
-pair_refused_with (pair.Refused w) = board_number_of w
-pair_refused_with (pair.Ran a) = (link_said_of a).number
+abbrev pub pair_refused_with : Result (Result ℕ Refusal) BoardFault → ℕ
+pair_refused_with (Err w) = board_number_of w
+pair_refused_with (Ok a) = (link_said_of a).number
 
-abbrev pub edges_of : PairAnswer → ℕ
-edges_of (pair.Refused w) = 0
-edges_of (pair.Ran a) = (link_said_of a).edges
+abbrev pub edges_of : Result (Result ℕ Refusal) BoardFault → ℕ
+edges_of (Err w) = 0
+edges_of (Ok a) = (link_said_of a).edges
 
 -- A call is refused with this number, 0 if not at all; a BUF read gives this word; a word at a time sends this one; a linked run is refused with
 -- this number; it uses so many edges.

@@ -1,18 +1,17 @@
 -- Document 02, Eight: beside the list of modules the board keeps the total of accepted words that are not finished, and answers from
 -- it. Each call of Seven moves the total by what the counts of the modules that it names change by.
-use Rattle.std.specs.Prelude.{ℕ, ◌+◌, ◌-◌, ◌||◌, List, [], ◌∷◌, leb}
+use Rattle.std.specs.Prelude.{ℕ, ◌+◌, ◌-◌, ◌||◌, List, [], ◌∷◌, leb, Result, Ok, Err}
 use Rattle.laws.specs.Choice.{when◌then◌else◌}
 use Rattle.module_types.specs.declared.Settings.{Settings}
 use Rattle.module_types.specs.declared.Module.{Module}
+use Rattle.module_types.specs.declared.Refusal.{Refusal}
 use Rattle.module_types.specs.declared.Shift.{Shift}
 use Rattle.module_types.specs.declared.Shift.TheVariants.{Free, Loaded, Begun}
 use Rattle.module_rules.specs.Settings.{ssen_client}
 use Rattle.board_rules.specs.declared.BoardCall.{BoardCall}
+use Rattle.board_rules.specs.declared.BoardFault.{BoardFault}
 use Rattle.board_rules.specs.declared.BoardFault.TheVariants.{BadList}
 use Rattle.board_rules.specs.declared.BoardAnswer.{BoardAnswer}
-use Rattle.board_rules.specs.declared.PairAnswer.{PairAnswer}
-use Rattle.board_rules.specs.declared.OwedAnswer.{OwedAnswer}
-use Rattle.board_rules.specs.declared.OwedAnswer.TheVariants.{Refused, Owes}
 use Rattle.board_rules.specs.Board.{bad_list, no_module, no_pair, module_at, board_of, pair_of, BoardStep, one, two}
 
 -- The board's record: its modules, and the total beside them.
@@ -26,7 +25,7 @@ pub record OwedCall : Type 0 where
   pub after : Board
 
 pub record OwedRun : Type 0 where
-  pub answer : PairAnswer
+  pub answer : Result (Result ℕ Refusal) BoardFault
   pub after : Board
 
 -- The accepted words of a module that are not finished: those waiting, and the one in the shift register. A begun word of an SSEN
@@ -81,9 +80,9 @@ owed_run b h c limit =
           };
     }
 
--- The question: the total, or 21. No module is looked at.
-unfoldable pub owes_of : Board → OwedAnswer
-owes_of b = when bad_list b.modules then Refused BadList else Owes b.owed
+-- The question, how many words the board still owes: the total, or 21. No module is looked at.
+unfoldable pub owes_of : Board → Result ℕ BoardFault
+owes_of b = when bad_list b.modules then Err BadList else Ok b.owed
 
 -- The board after some steps.
 unfoldable pub owed_step : Board → BoardStep → Board

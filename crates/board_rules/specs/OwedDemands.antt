@@ -1,6 +1,6 @@
 -- The customer's demands on the total of words that the board owes. The record Totals holds every statement, and
 -- proofs/OwedDemandsHold.antt proves it.
-use Rattle.std.specs.Prelude.{ℕ, ◌+◌, ◌-◌, true, false, ◌||◌, List, [], ◌∷◌, ◌≡◌, eqb, ltb, length, replicate}
+use Rattle.std.specs.Prelude.{ℕ, ◌+◌, ◌-◌, true, false, ◌||◌, List, [], ◌∷◌, ◌≡◌, eqb, ltb, length, replicate, Result, Ok, Err}
 use Rattle.laws.specs.Choice.{when◌then◌else◌}
 use Rattle.word_order.specs.Ledger.{unsent}
 use Rattle.module_types.specs.declared.Module.{Module}
@@ -9,21 +9,20 @@ use Rattle.module_rules.specs.RefusalTable.{row, first_number}
 use Rattle.module_rules.specs.Calls.{powered_up}
 use Rattle.module_rules.specs.Lives.{Beginning, life}
 use Rattle.board_rules.specs.declared.BoardCall.{BoardCall}
-use Rattle.board_rules.specs.declared.OwedAnswer.{OwedAnswer}
-use Rattle.board_rules.specs.declared.OwedAnswer.TheVariants.{Refused, Owes}
+use Rattle.board_rules.specs.declared.BoardFault.{BoardFault}
 use Rattle.board_rules.specs.Board.{board_number_of, board_of, pair_of, BoardStep, board_after}
 use Rattle.board_rules.specs.BoardDemands.{board_rows, pair_rows, at}
 use Rattle.board_rules.specs.Owed.{Board, OwedCall, OwedRun, words_owed, owed_call, owed_run, owes_of, owed_after}
 use Rattle.board_rules.specs.OwedExamples.{owed_examples}
 
 -- The number with which the question is refused, 0 if it is answered, and the words that it tells.
-abbrev pub owed_fault_in : OwedAnswer → ℕ
-owed_fault_in (Refused w) = board_number_of w
-owed_fault_in (Owes n) = 0
+abbrev pub owed_fault_in : Result ℕ BoardFault → ℕ
+owed_fault_in (Err w) = board_number_of w
+owed_fault_in (Ok n) = 0
 
-abbrev pub words_in : OwedAnswer → ℕ
-words_in (Refused w) = 0
-words_in (Owes n) = n
+abbrev pub words_in : Result ℕ BoardFault → ℕ
+words_in (Err w) = 0
+words_in (Ok n) = n
 
 -- The full count, by walking the modules.
 abbrev pub full_count : List Module → ℕ
@@ -73,4 +72,4 @@ pub record Totals : Type 0 where
   pub one_call : (b : Board) (n : ℕ) (c : BoardCall) (x y : OwedCall) → x ≡ owed_call b n c → y ≡ owed_call b n c → x ≡ y
   pub one_run : (b : Board) (host client limit : ℕ) (x y : OwedRun) → x ≡ owed_run b host client limit →
       y ≡ owed_run b host client limit → x ≡ y
-  pub one_answer : (b : Board) (x y : OwedAnswer) → x ≡ owes_of b → y ≡ owes_of b → x ≡ y
+  pub one_answer : (b : Board) (x y : Result ℕ BoardFault) → x ≡ owes_of b → y ≡ owes_of b → x ≡ y

@@ -1,18 +1,17 @@
 -- Document 02, Eight: boards with the words that they owe. proofs/OwedExamplesHold.antt runs the definitions on them.
-use Rattle.std.specs.Prelude.{ℕ, Bool, true, false, ◌&&◌, List, [], ◌∷◌, ◌++◌, eqb, replicate}
+use Rattle.std.specs.Prelude.{ℕ, Bool, true, false, ◌&&◌, List, [], ◌∷◌, ◌++◌, eqb, replicate, Result, Ok, Err}
 use Rattle.module_types.specs.declared.Call.TheVariants.{Tick, Pin}
 use Rattle.board_rules.specs.declared.BoardCall.{BoardCall}
 use Rattle.board_rules.specs.declared.BoardCall.TheVariants.{PowerUp, PowerUpAt, Make, StepAndLook, MakeWord}
-use Rattle.board_rules.specs.declared.OwedAnswer.{OwedAnswer}
-use Rattle.board_rules.specs.declared.OwedAnswer.TheVariants.{Refused, Owes}
+use Rattle.board_rules.specs.declared.BoardFault.{BoardFault}
 use Rattle.board_rules.specs.Board.{board_number_of, BoardStep, one, two, board_after}
 use Rattle.board_rules.specs.BoardExamples.{fresh, write, every, ready}
 use Rattle.board_rules.specs.Owed.{owes_of, owed_after}
 
 -- What the question answers: the words owed, or a refusal.
-abbrev pub tells : OwedAnswer → ℕ → ℕ → Bool
-tells (Refused w) number words = eqb (board_number_of w) number && eqb words 0
-tells (Owes n) number words = eqb number 0 && eqb n words
+abbrev pub tells : Result ℕ BoardFault → ℕ → ℕ → Bool
+tells (Err w) number words = eqb (board_number_of w) number && eqb words 0
+tells (Ok n) number words = eqb number 0 && eqb n words
 
 -- So many modules owe so many words after some steps from power-up.
 abbrev pub owes : ℕ → List BoardStep → ℕ → Bool

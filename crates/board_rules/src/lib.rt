@@ -2,9 +2,11 @@
 // from them is in proofs/.
 #![tactic(auto)]
 
-use clock_rules::Reported;
-use link_rules::LinkAnswer;
-use module_types::{Answer, Call, Output};
+ghost use Rattle.std.specs.Prelude.{◌≡◌};
+ghost use Rattle.board_rules.specs.Board.{board_number_of};
+
+use clock_rules::Clock;
+use module_types::{Answer, Call, Output, Refusal};
 
 // A call of one module of the board: power-up, power-up with a depth, a call, a clock report for an instruction rate, a look at its pins,
 // a clock step with the levels SCK, SDI and SS and a look at its pins after it, or a word at a time with the level SS and the caller's word.
@@ -36,29 +38,29 @@ pub enum BoardFault {
     NoModule,
 }
 
+// The table's number for it.
+impl From<BoardFault> for u8 {
+    ghost from_gives = { λ fault n. n ≡ board_number_of fault };
+
+    #[tactic(auto, unfolding(crate::specs::Board::board_number_of))]
+    fn from(fault: BoardFault) -> u8 {
+        match fault {
+            BoardFault::BadList => 21,
+            BoardFault::NoModule => 22,
+        }
+    }
+}
+
 // What a call of one module answers: why the board refuses it, or what the module alone answers. A word at a time answers as its first clock
-// step does, and tells how many levels SDO was at and those levels as a number.
+// step does, and tells how many levels SDO was at and those levels as a number. Each kind of call answers in its own way: a Result
+// would put all but a refusal a level deeper.
 #[derive(Clone, Copy)]
 pub enum BoardAnswer {
     Refused(BoardFault),
     Powered,
     Made(Answer),
-    Told(Reported),
+    Told(Result<Clock, Refusal>),
     Shown(Seen),
     Stepped(Answer, Seen),
     Worded(Answer, u8, u32),
-}
-
-// What a linked run of two modules of the board answers: why the board refuses it, or what the two alone answer.
-#[derive(Clone, Copy)]
-pub enum PairAnswer {
-    Refused(BoardFault),
-    Ran(LinkAnswer),
-}
-
-// What the question answers, how many words the board still owes: why the board refuses it, or the total.
-#[derive(Clone, Copy)]
-pub enum OwedAnswer {
-    Refused(BoardFault),
-    Owes(u16),
 }

@@ -4,7 +4,7 @@
 ghost use Rattle.std.specs.Prelude.{◌≡◌};
 ghost use Rattle.clock_rules.specs.Clock.{quartered, primary_of, secondary_of, divider_of, rates_of, clock_of, report_by, report_of, said_clock};
 
-use clock_rules::{Clock, ClockSaid, Rates, Reported};
+use clock_rules::{Clock, ClockSaid, Rates};
 use module_types::{Module, Refusal, Settings};
 
 // A number divided by four, so many times.
@@ -19,6 +19,7 @@ fn quarter(steps: u8, n: u8) -> u8
 }
 
 // The primary prescaler: from 64, each step of PPRE divides by four.
+#[tactic(auto, unfolding(clock_rules::specs::Clock::primary_of))]
 pub fn primary(ppre: u8) -> u8
     ensures { result ≡ primary_of ppre }
 {
@@ -26,6 +27,7 @@ pub fn primary(ppre: u8) -> u8
 }
 
 // The secondary prescaler.
+#[tactic(auto, unfolding(clock_rules::specs::Clock::secondary_of))]
 pub fn secondary(spre: u8) -> u8
     ensures { result ≡ secondary_of spre }
 {
@@ -40,6 +42,7 @@ fn divider(s: Settings) -> u16
 }
 
 // The rate F / D and the bit time D / F, each by one division.
+#[tactic(auto, unfolding(clock_rules::specs::Clock::rates_of))]
 fn rates(s: Settings, f: u32) -> Rates
     ensures { result ≡ rates_of s f }
 {
@@ -67,62 +70,51 @@ fn clock_of(s: Settings, f: u32) -> Clock
 }
 
 // The report for an instruction rate, by settings. Refuses the rate 0, also on a disabled module.
-pub fn report_by(s: Settings, f: u32) -> Reported
+pub fn report_by(s: Settings, f: u32) -> Result<Clock, Refusal>
     ensures { result ≡ report_by s f }
 {
     if f == 0 {
-        Reported::Refused(Refusal::NoRate)
-    } else {
-        Reported::Answered(clock_of(s, f))
+        return Err(Refusal::NoRate);
     }
+    Ok(clock_of(s, f))
 }
 
 // The report of a module.
-pub fn report(m: Module, f: u32) -> Reported
+#[tactic(auto, unfolding(clock_rules::specs::Clock::report_of))]
+pub fn report(m: Module, f: u32) -> Result<Clock, Refusal>
     ensures { result ≡ report_of m f }
 {
-    let s = m.settings;
-    report_by(s, f)
+    report_by(m.settings, f)
 }
 
-// A report in the paper's numbers.
-pub fn said(r: Reported) -> ClockSaid
+// A report in the paper's numbers, which docs/PROMISES.md promises. The crates above match on the Result.
+pub fn said(r: Result<Clock, Refusal>) -> ClockSaid
     ensures { result ≡ said_clock r }
 {
+    let none = ClockSaid {
+        number: 0,
+        internal: false,
+        external: false,
+        rate: 0.0,
+        bittime: 0.0,
+        below: 0.0,
+    };
     match r {
-        Reported::Refused(why) => ClockSaid {
+        Err(why) => ClockSaid {
             number: module_looks::refusal_number(why),
-            internal: false,
-            external: false,
-            rate: 0.0,
-            bittime: 0.0,
-            below: 0.0,
+            ..none
         },
-        Reported::Answered(clock) => match clock {
-            Clock::Internal(x) => ClockSaid {
-                number: 0,
-                internal: true,
-                external: false,
-                rate: x.rate,
-                bittime: x.bittime,
-                below: 0.0,
-            },
-            Clock::External(f) => ClockSaid {
-                number: 0,
-                internal: false,
-                external: true,
-                rate: 0.0,
-                bittime: 0.0,
-                below: f,
-            },
-            Clock::None => ClockSaid {
-                number: 0,
-                internal: false,
-                external: false,
-                rate: 0.0,
-                bittime: 0.0,
-                below: 0.0,
-            },
+        Ok(Clock::Internal(x)) => ClockSaid {
+            internal: true,
+            rate: x.rate,
+            bittime: x.bittime,
+            ..none
         },
+        Ok(Clock::External(f)) => ClockSaid {
+            external: true,
+            below: f,
+            ..none
+        },
+        Ok(Clock::None) => none,
     }
 }

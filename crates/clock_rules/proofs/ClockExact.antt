@@ -7,7 +7,7 @@
 --     rate_0_is_refused, disabled_has_none, own_clock_says, pin_clock_says
 --                                             what each module is told, in the paper's numbers
 -- Assumes nothing.
-use Rattle.std.specs.Prelude.{◌+◌, ◌-◌, ◌*◌, ◌/◌, ◌%◌, ◌^◌, ◌≤◌, ◌<◌, ◌≡◌, ◌∷◌}
+use Rattle.std.specs.Prelude.{◌+◌, ◌-◌, ◌*◌, ◌/◌, ◌%◌, ◌^◌, ◌≤◌, ◌<◌, ◌≡◌, ◌∷◌, Ok}
 use Rattle.laws.proofs.Common.{ℕ, zero, suc, true, false, not}
 use Rattle.laws.proofs.Common.{refl, sym, ap, ◌∙◌, subst, [], mul-le-mul, mul-le-mul_left, le_trans, le_of_eq}
 use Rattle.laws.proofs.Common.{lt_of_le_of_lt, arith, lit≤, lit<, get_or, when◌then◌else◌, so, not_so}
@@ -24,7 +24,6 @@ use Rattle.module_rules.specs.Settings.{own_clock}
 use Rattle.module_rules.specs.Refusals.{number_of}
 use Rattle.clock_rules.specs.declared.Clock.{Clock}
 use Rattle.clock_rules.specs.declared.Clock.TheVariants.{Internal, External, None}
-use Rattle.clock_rules.specs.declared.Reported.TheVariants.{Answered}
 use Rattle.clock_rules.specs.Clock.{quartered, primary_of, secondary_of, divider_of, rates_of, clock_of, report_of, said_refused, said_internal, said_external, said_none, said_clock}
 use Rattle.clock_rules.specs.ClockDemands.{tabled}
 
@@ -139,10 +138,10 @@ forty_million s p q =
 -- ---- what each module is told
 
 -- An instruction rate above 0 is answered with the clock.
-answered : (m : Module) (f : ℕ) (x : Clock) → 0 < f → x ≡ clock_of m.settings f → said_clock (report_of m f) ≡ said_clock (Answered x)
+answered : (m : Module) (f : ℕ) (x : Clock) → 0 < f → x ≡ clock_of m.settings f → said_clock (report_of m f) ≡ said_clock (Ok x)
 unfolding report_of
 answered m f x p e =
-    let r : Answered x ≡ report_of m f = not_so_eq f 0 _ _ (above_zero f p) (ap Answered e) in
+    let r : Ok x ≡ report_of m f = not_so_eq f 0 _ _ (above_zero f p) (ap Ok e) in
     ap said_clock (sym r)
 
 -- Test 8 comes first: the rate 0 is refused with 8, whatever the module.

@@ -1,19 +1,18 @@
 -- Document 01, "The clock report".
-use Rattle.std.specs.Prelude.{ℕ, zero, suc, ◌-◌, ◌*◌, ◌/◌, ◌%◌, true, false, not, eqb, pos, Float}
+use Rattle.std.specs.Prelude.{ℕ, zero, suc, ◌-◌, ◌*◌, ◌/◌, ◌%◌, true, false, not, eqb, pos, Float, Result, Ok, Err}
 use Rattle.std.specs.Float.{fin, binary64}
 use Rattle.std.specs.Float.Ieee.{div}
 use Rattle.floats.specs.Whole.{float_of}
 use Rattle.laws.specs.Choice.{when◌then◌else◌}
 use Rattle.module_types.specs.declared.Module.{Module}
 use Rattle.module_types.specs.declared.Settings.{Settings}
+use Rattle.module_types.specs.declared.Refusal.{Refusal}
 use Rattle.module_types.specs.declared.Refusal.TheVariants.{NoRate}
 use Rattle.module_rules.specs.Settings.{own_clock}
 use Rattle.module_rules.specs.Refusals.{number_of}
 use Rattle.clock_rules.specs.declared.Rates.{Rates}
 use Rattle.clock_rules.specs.declared.Clock.{Clock}
 use Rattle.clock_rules.specs.declared.Clock.TheVariants.{Internal, External, None}
-use Rattle.clock_rules.specs.declared.Reported.{Reported}
-use Rattle.clock_rules.specs.declared.Reported.TheVariants.{Refused, Answered}
 use Rattle.clock_rules.specs.declared.ClockSaid.{ClockSaid}
 
 -- A number divided by four, so many times.
@@ -50,10 +49,10 @@ clock_of s f =
     else External (float_of f)
 
 -- The report for an instruction rate F. Test 8 comes first: the rate 0 is refused, of a disabled module too.
-abbrev pub report_by : Settings → ℕ → Reported
-report_by s f = when eqb f 0 then Refused NoRate else Answered (clock_of s f)
+abbrev pub report_by : Settings → ℕ → Result Clock Refusal
+report_by s f = when eqb f 0 then Err NoRate else Ok (clock_of s f)
 
-unfoldable pub report_of : Module → ℕ → Reported
+unfoldable pub report_of : Module → ℕ → Result Clock Refusal
 report_of m f = report_by m.settings f
 
 -- What each case of a report says in the paper's numbers. A float that a case does not carry is told as 0.
@@ -81,8 +80,8 @@ said_none =
     record { number = 0; internal = false; external = false; rate = nought; bittime = nought; below = nought }
 
 -- A report in the paper's numbers.
-unfoldable pub said_clock : Reported → ClockSaid
-said_clock (Refused r) = said_refused (number_of r)
-said_clock (Answered (Internal x)) = said_internal x.rate x.bittime
-said_clock (Answered (External f)) = said_external f
-said_clock (Answered None) = said_none
+unfoldable pub said_clock : Result Clock Refusal → ClockSaid
+said_clock (Err r) = said_refused (number_of r)
+said_clock (Ok (Internal x)) = said_internal x.rate x.bittime
+said_clock (Ok (External f)) = said_external f
+said_clock (Ok None) = said_none

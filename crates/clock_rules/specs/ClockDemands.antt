@@ -1,13 +1,14 @@
 -- The customer's demands on the clock report. The record ClockReports holds every statement, and
 -- proofs/ClockDemandsHold.antt proves it.
-use Rattle.std.specs.Prelude.{ℕ, ◌-◌, ◌*◌, ◌%◌, ◌^◌, ◌<◌, true, false, [], ◌∷◌, ◌≡◌, get_or}
+use Rattle.std.specs.Prelude.{ℕ, ◌-◌, ◌*◌, ◌%◌, ◌^◌, ◌<◌, true, false, [], ◌∷◌, ◌≡◌, get_or, Result}
 use Rattle.std.specs.Float.{binary64}
 use Rattle.std.specs.Float.Ieee.{round}
 use Rattle.floats.specs.Whole.{float_of}
 use Rattle.module_types.specs.declared.Settings.{Settings}
 use Rattle.module_types.specs.declared.Module.{Module}
+use Rattle.module_types.specs.declared.Refusal.{Refusal}
 use Rattle.module_rules.specs.InBits.{clocks_itself}
-use Rattle.clock_rules.specs.declared.Reported.{Reported}
+use Rattle.clock_rules.specs.declared.Clock.{Clock}
 use Rattle.clock_rules.specs.Clock.{divider_of, nought, report_of, said_refused, said_internal, said_external, said_none, said_clock}
 
 -- Document 01's table of primaries, by PPRE 0 to 3. The rule gives the same divider for every PPRE and SPRE, in range or not
@@ -31,4 +32,4 @@ pub record ClockReports : Type 0 where
       said_clock (report_of m f) ≡ said_external (float_of f)
   pub as_tabled : (s : Settings) → divider_of s ≡ tabled s
   pub told_as0 : nought ≡ float_of 0
-  pub one_outcome : (m : Module) (f : ℕ) (x y : Reported) → x ≡ report_of m f → y ≡ report_of m f → x ≡ y
+  pub one_outcome : (m : Module) (f : ℕ) (x y : Result Clock Refusal) → x ≡ report_of m f → y ≡ report_of m f → x ≡ y

@@ -2,8 +2,6 @@
 // in proofs/.
 #![tactic(auto)]
 
-use module_types::Refusal;
-
 // What a host's own clock gives: bits per second, and seconds per bit.
 #[derive(Clone, Copy)]
 pub struct Rates {
@@ -12,7 +10,7 @@ pub struct Rates {
 }
 
 // Where a module's clock comes from: its own divider, its pin, whose clock must stay below the instruction rate that is
-// carried, or nowhere while it is disabled.
+// carried, or nowhere while it is disabled. These are three cases of one rank: in an Option the first two would stand a level deeper.
 #[derive(Clone, Copy)]
 pub enum Clock {
     Internal(Rates),
@@ -20,15 +18,9 @@ pub enum Clock {
     None,
 }
 
-// What the clock report answers: a refusal, or the clock.
-#[derive(Clone, Copy)]
-pub enum Reported {
-    Refused(Refusal),
-    Answered(Clock),
-}
-
 // A clock report in the paper's numbers: the refusal number, 0 if not refused; which clock it is, neither if there is
-// none; and the floats that it carries, 0 where it carries none. said_clock in specs/Clock.antt gives them for each case.
+// none; and the floats that it carries, 0 where it carries none. said_clock in specs/Clock.antt gives them for each case, and the demands
+// of specs/ speak of them.
 #[derive(Clone, Copy)]
 pub struct ClockSaid {
     pub number: u8,

@@ -1,13 +1,13 @@
 -- What a linked run comes to at both ends.
 --     kept, changed   a run that is refused, and one that is not
 -- Assumes nothing.
-use Rattle.std.specs.Prelude.{◌≡◌}
+use Rattle.std.specs.Prelude.{◌≡◌, Result}
 use Rattle.laws.proofs.Common.{ℕ, false, List, refl, clash}
-use Rattle.link_rules.specs.declared.LinkAnswer.{LinkAnswer}
+use Rattle.module_types.specs.declared.Refusal.{Refusal}
 use Rattle.link_rules.specs.declared.Linked.{Linked}
 use Rattle.link_calls.specs.Wire.{linked_in, is_refused, Links}
 
-module _ {l : Linked} {x : LinkAnswer} where
+module _ {l : Linked} {x : Result ℕ Refusal} where
   pub kept : {a c : List ℕ} → linked_in x a c ≡ l → Links l x a a c c
   kept e = record { outcome = e; host_untouched = λ _. refl; client_untouched = λ _. refl }
 

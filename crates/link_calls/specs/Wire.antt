@@ -1,9 +1,8 @@
 -- A linked run of two modules in memory: what it comes to.
-use Rattle.std.specs.Prelude.{ℕ, Bool, true, false, not, ◌&&◌, List, ◌≡◌}
+use Rattle.std.specs.Prelude.{ℕ, Bool, true, false, not, ◌&&◌, List, ◌≡◌, Result, Ok, Err}
 use Rattle.module_types.specs.declared.Module.{Module}
+use Rattle.module_types.specs.declared.Refusal.{Refusal}
 use Rattle.link_rules.specs.declared.Run.{Run}
-use Rattle.link_rules.specs.declared.LinkAnswer.{LinkAnswer}
-use Rattle.link_rules.specs.declared.LinkAnswer.TheVariants.{Refused, Used}
 use Rattle.link_rules.specs.declared.Linked.{Linked}
 use Rattle.module_memory.specs.Memory.{module_in}
 
@@ -16,16 +15,16 @@ abbrev pub run_in : ℕ → List ℕ → List ℕ → Run
 run_in used host client = record { used = used; host = module_in host; client = module_in client }
 
 -- An answer with the modules that two memories hold.
-abbrev pub linked_in : LinkAnswer → List ℕ → List ℕ → Linked
+abbrev pub linked_in : Result ℕ Refusal → List ℕ → List ℕ → Linked
 linked_in a host client = record { answer = a; host = module_in host; client = module_in client }
 
-abbrev pub is_refused : LinkAnswer → Bool
-is_refused (Refused r) = true
-is_refused (Used n) = false
+abbrev pub is_refused : Result ℕ Refusal → Bool
+is_refused (Err r) = true
+is_refused (Ok n) = false
 
 -- A run answers as its definition says, and the two memories then hold the definition's modules. A refused run leaves every
 -- number as it was.
-pub record Links (l : Linked) (a : LinkAnswer) (host hostAfter client clientAfter : List ℕ) : Type 0 where
+pub record Links (l : Linked) (a : Result ℕ Refusal) (host hostAfter client clientAfter : List ℕ) : Type 0 where
   pub outcome : linked_in a hostAfter clientAfter ≡ l
   pub host_untouched : is_refused a ≡ true → hostAfter ≡ host
   pub client_untouched : is_refused a ≡ true → clientAfter ≡ client

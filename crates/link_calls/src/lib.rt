@@ -11,7 +11,7 @@ ghost use Rattle.link_words.proofs.Begins.{first_levels};
 ghost use Rattle.module_memory.specs.Memory.{settings_in, engine_in, module_in};
 ghost use Rattle.link_calls.specs.Wire.{open_level, run_in, Links};
 
-use link_rules::{LinkAnswer, LinkSaid};
+use link_rules::LinkSaid;
 use module_types::{Refusal, Settings};
 
 // The most edges that a run may be asked for: two for each of 16 bits of 17 words.
@@ -36,8 +36,12 @@ fn client_sees(host: &[u16; 96], client: &mut [u16; 96])
     module_calls::see(client, pins.sck, sdi, false);
 }
 
+// Running is asked in three places and is in no type: it is of two lent memories that each turn changes, and a struct of both would prove it anew
+// after each store.
+
 // The host's turn: with no edge left the run ends, and so it does if no word is loaded or begun. Else the host's clock goes
-// to its other level with the client's present SDO, and that hands over to the client's turn.
+// to its other level with the client's present SDO, and that hands over to the client's turn. The turns recurse on the edges left, as those
+// of the definition do (host_turn, client_turn): each is a clause of it.
 #[cycle(client_turn_host_turn)]
 fn host_turn(host: &mut [u16; 96], client: &mut [u16; 96], left: u16) -> u16
     requires { Running (module_in host.old) (module_in client.old) }
@@ -67,6 +71,7 @@ fn client_turn(host: &mut [u16; 96], client: &mut [u16; 96], left: u16) -> u16
 }
 
 // Whether both ends are at a word's beginning and the host has a word to send.
+#[tactic(auto, unfolding(link_words::specs::LinkWords::at_beginning))]
 fn are_beginning(host: &[u16; 96], client: &[u16; 96]) -> bool
     ensures { result ≡ at_beginning (module_in host.now) (module_in client.now) }
 {
@@ -100,7 +105,8 @@ fn exchange(host: &mut [u16; 96], client: &mut [u16; 96])
     word_calls::make_first(client, answered.filler, answered.word, to_client);
 }
 
-// A run with some edges left: whole words while both ends are at a word's beginning and enough edges are left for it, and then turns.
+// A run with some edges left: whole words while both ends are at a word's beginning and enough edges are left for it, and then turns. It
+// recurses as they do: a loop would carry the edges used beside those left, with an invariant that says what the contract says.
 fn run(host: &mut [u16; 96], client: &mut [u16; 96], left: u16) -> u16
     requires { Running (module_in host.old) (module_in client.old) }
     ensures client_after { run_in result host.new client.new ≡ host_turn left (module_in host.old) (module_in client.old) }
@@ -140,41 +146,38 @@ fn different_modes(host: Settings, client: Settings) -> bool
     !same_ckp | (!same_cke | !same_width)
 }
 
-// A linked run with an edge limit.
-pub fn linked(host: &mut [u16; 96], client: &mut [u16; 96], limit: u32) -> LinkAnswer
+// A linked run with an edge limit: the edges used, the host's only, or a refusal.
+pub fn linked(host: &mut [u16; 96], client: &mut [u16; 96], limit: u32) -> Result<u16, Refusal>
     ensures { Links (linked_of (module_in host.old) (module_in client.old) limit) result host.old host.new client.old client.new }
 {
     let h = module_memory_looks::settings_in(host);
     let c = module_memory_looks::settings_in(client);
     if MOST_EDGES < limit {
-        return LinkAnswer::Refused(Refusal::TooManyEdges);
+        return Err(Refusal::TooManyEdges);
     }
     if either_disabled(h, c) {
-        return LinkAnswer::Refused(Refusal::Disabled);
+        return Err(Refusal::Disabled);
     }
     if wrong_roles(h, c) {
-        return LinkAnswer::Refused(Refusal::WrongClock);
+        return Err(Refusal::WrongClock);
     }
     if different_modes(h, c) {
-        return LinkAnswer::Refused(Refusal::DifferentModes);
+        return Err(Refusal::DifferentModes);
     }
     client_sees(host, client);
-    let used = run(host, client, limit as u16);
-    LinkAnswer::Used(used)
+    Ok(run(host, client, limit as u16))
 }
 
-// The answer of a linked run in the paper's numbers.
-pub fn link_said(a: LinkAnswer) -> LinkSaid
+// The answer of a linked run in the paper's numbers, which docs/PROMISES.md promises. The crates above match on the Result.
+#[tactic(auto, unfolding(link_rules::specs::Link::link_said_of))]
+pub fn link_said(a: Result<u16, Refusal>) -> LinkSaid
     ensures { result ≡ link_said_of a }
 {
     match a {
-        LinkAnswer::Refused(r) => LinkSaid {
+        Err(r) => LinkSaid {
             number: module_looks::refusal_number(r),
             edges: 0,
         },
-        LinkAnswer::Used(n) => LinkSaid {
-            number: 0,
-            edges: n,
-        },
+        Ok(edges) => LinkSaid { number: 0, edges },
     }
 }

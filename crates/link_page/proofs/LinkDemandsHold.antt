@@ -1,7 +1,7 @@
 -- The demands of specs/LinkDemands.antt, all of them.
 --     linked_runs_lem   what the buyer signs for, of two modules on one wire
 -- Assumes nothing.
-use Rattle.std.specs.Prelude.{◌≤◌, ◌≡◌}
+use Rattle.std.specs.Prelude.{◌≤◌, ◌≡◌, Result, Ok, Err}
 use Rattle.laws.proofs.Common.{ℕ, zero-le, refl, sym, subst, ◌∙◌, arith, lit≤}
 use Rattle.module_rules.proofs.Types.{Module, Refusal, NoSuchRegister, Disabled, Enabled, TransmitFull, ReceiveEmpty}
 use Rattle.module_rules.proofs.Types.{WrongClock, NoRate, UnreadableLine, DifferentModes, TooManyEdges, Undivided}
@@ -11,7 +11,6 @@ use Rattle.module_rules.specs.Lives.{begins, life}
 use Rattle.module_rules.specs.Demands.{edges_still_owed}
 use Rattle.module_order.proofs.Order.{life_holds}
 use Rattle.module_edges_owed.proofs.Hold.{owed_is_held}
-use Rattle.link_rules.specs.declared.LinkAnswer.{LinkAnswer}
 use Rattle.link_rules.specs.Link.{linked_of, link_said_of}
 use Rattle.link_rules.specs.LinkDemands.{refusal_of, edges_used, LinkedRuns}
 use Rattle.link_page.proofs.LinkRuns.{link_when, link_refused_unchanged, link_calls_lem, link_counts, link_within_limit}
@@ -20,7 +19,6 @@ use Rattle.link_page.proofs.LinkSelect.{link_selected}
 use Rattle.link_page.proofs.LinkRefusals.{link_refused_exactly}
 use Rattle.link_rules.proofs.LinkPageHolds.{life_goes_on}
 use Rattle.link_rules.proofs.LinkExamplesHold.{link_examples_hold}
-use Rattle.link_rules.specs.declared.LinkAnswer.TheVariants as linked
 
 -- No refusal has the number 0.
 numbered : (r : Refusal) → 1 ≤ number_of r
@@ -42,25 +40,25 @@ numbered Overflowed = lit≤ tt
 numbered NoSuchDepth = lit≤ tt
 
 -- An answer with the number 0 tells the edges used, and one with another number is a refusal.
-is_used : (a : LinkAnswer) → (link_said_of a).number ≡ 0 → a ≡ linked.Used (link_said_of a).edges
+is_used : (a : Result ℕ Refusal) → (link_said_of a).number ≡ 0 → a ≡ Ok (link_said_of a).edges
 unfolding link_said_of
-is_used (linked.Refused r) e = absurd (omega (arith, numbered r, e))
-is_used (linked.Used n) e = refl
+is_used (Err r) e = absurd (omega (arith, numbered r, e))
+is_used (Ok n) e = refl
 
-refused_by : {P : Type 0} (a : LinkAnswer) → 1 ≤ (link_said_of a).number → ((r : Refusal) → a ≡ linked.Refused r → P) → P
+refused_by : {P : Type 0} (a : Result ℕ Refusal) → 1 ≤ (link_said_of a).number → ((r : Refusal) → a ≡ Err r → P) → P
 unfolding link_said_of
-refused_by (linked.Refused r) some k = k r refl
-refused_by (linked.Used n) some k = absurd (omega (arith, some))
+refused_by (Err r) some k = k r refl
+refused_by (Ok n) some k = absurd (omega (arith, some))
 
 -- A refused run uses no edges.
-within : (a : LinkAnswer) (limit : ℕ) → ((n : ℕ) → a ≡ linked.Used n → n ≤ limit) → (link_said_of a).edges ≤ limit
+within : (a : Result ℕ Refusal) (limit : ℕ) → ((n : ℕ) → a ≡ Ok n → n ≤ limit) → (link_said_of a).edges ≤ limit
 unfolding link_said_of
-within (linked.Refused r) limit h = zero-le
-within (linked.Used n) limit h = h n refl
+within (Err r) limit h = zero-le
+within (Ok n) limit h = h n refl
 
 module _ (host client : Module) (limit : ℕ) where
   -- A run that is made tells the edges used.
-  pub made : refusal_of host client limit ≡ 0 → (linked_of host client limit).answer ≡ linked.Used (edges_used host client limit)
+  pub made : refusal_of host client limit ≡ 0 → (linked_of host client limit).answer ≡ Ok (edges_used host client limit)
   made e = is_used (linked_of host client limit).answer e
 
 pub linked_runs_lem : LinkedRuns

@@ -4,7 +4,7 @@
 --     link_uses_owed   with a limit of at least what the host owes, exactly that is used and the host is idle
 --     link_uses_limit  with a limit of at most that, exactly the limit is used
 -- Assumes nothing.
-use Rattle.std.specs.Prelude.{◌+◌, ◌*◌, ◌≤◌, ◌<◌, ◌||◌, ◌∷◌, ◌≡◌}
+use Rattle.std.specs.Prelude.{◌+◌, ◌*◌, ◌≤◌, ◌<◌, ◌||◌, ◌∷◌, ◌≡◌, Ok}
 use Rattle.laws.proofs.Common.{ℕ, zero, suc, Bool, true, false, not, List, [], refl, sym}
 use Rattle.laws.proofs.Common.{ap, subst, ◌∙◌, le_trans, mul-le-mul, arith, ltb-true, ltb-false, ltb, length, if_keeps}
 use Rattle.laws.proofs.Common.{by_test, and-false, and_left, and_both, clash}
@@ -28,7 +28,6 @@ use Rattle.link_rules.specs.declared.Linked.{Linked}
 use Rattle.link_rules.specs.Link.{most_edges, made_edge, run_stops, one_more, host_turn, told_of, linked_of}
 use Rattle.link_rules.specs.LinkDemands.{read_as, tick_beside, host_calls, run_host_calls}
 use Rattle.link_page.proofs.LinkRuns.{Allowed, allowed_accepts, link_when, link_is, edge_is, ticked, turn_is, run_is, link_calls_lem, link_counts, link_within_limit}
-use Rattle.link_rules.specs.declared.LinkAnswer.TheVariants as linked
 
 -- At most one word has left the transmit buffer and is not finished.
 pub one_unfinished : (s : Settings) (sh : Shift) → length (unfinished s sh) ≤ 1
@@ -111,7 +110,7 @@ pub host_own : (host client : Module) (limit : ℕ) → Allowed host client limi
 host_own host client limit a =
     let is = allowed_accepts host client limit a in and_both (own_clock host.settings) _ is.own (ap not is.unframed)
 
-module _ (host client : Module) (limit n : ℕ) (h : ModuleHolds host) (e : (linked_of host client limit).answer ≡ linked.Used n) where
+module _ (host client : Module) (limit n : ℕ) (h : ModuleHolds host) (e : (linked_of host client limit).answer ≡ Ok n) where
   -- What the tests have found.
   allowed : Allowed host client limit
   allowed = (link_when host client limit n e).0

@@ -9,7 +9,7 @@
 --     link_holds_lem                both ends keep the invariant, whatever the limit
 --     link_within_limit         the edges used are never above the limit
 -- Assumes nothing.
-use Rattle.std.specs.Prelude.{◌≤◌, ◌&&◌, ◌||◌, ◌≡◌}
+use Rattle.std.specs.Prelude.{◌≤◌, ◌&&◌, ◌||◌, ◌≡◌, Result, Ok, Err}
 use Rattle.laws.proofs.Common.{ℕ, zero, suc, zero-le, Bool, true, false, not, Bool·beq, List, refl, sym}
 use Rattle.laws.proofs.Common.{ap, ap₂, subst, ◌∙◌, arith, not-false, eqb-true, ltb, eqb, when◌then◌else◌, by_test, if_keeps}
 use Rattle.laws.proofs.Common.{if_false, clash, or_left, or_right, like}
@@ -22,22 +22,20 @@ use Rattle.module_rules.specs.Refusals.{said_of, is_edge}
 use Rattle.module_rules.specs.Demands.{edges_made}
 use Rattle.module_invariant.proofs.Holds.{calls_keep}
 use Rattle.link_rules.specs.declared.Run.{Run}
-use Rattle.link_rules.specs.declared.LinkAnswer.{LinkAnswer}
 use Rattle.link_rules.specs.declared.Linked.{Linked}
 use Rattle.link_rules.specs.Link.{most_edges, level_read, made_edge, host_ticked, client_sees, run_stops, one_more, client_turn, handed_over, host_turn, run_of, either_disabled, wrong_roles, different_modes, refuse_link, told_of, linked_of}
 use Rattle.link_rules.specs.LinkDemands.{read_as, tick_beside, pins_beside, host_calls, client_calls, run_host_calls, run_client_calls}
-use Rattle.link_rules.specs.declared.LinkAnswer.TheVariants as linked
 
 -- An answer that tells of edges is no refusal.
-abbrev tells_edges : LinkAnswer → Bool
-tells_edges (linked.Refused r) = false
-tells_edges (linked.Used n) = true
+abbrev tells_edges : Result ℕ Refusal → Bool
+tells_edges (Err r) = false
+tells_edges (Ok n) = true
 
 -- A run that may be refused by a test and is not has passed the test.
 passes : (host client : Module) (r : Refusal) (n : ℕ) (b : Bool) (l : Linked) →
-    (when b then refuse_link host client r else l).answer ≡ linked.Used n → (b ≡ false) × (l.answer ≡ linked.Used n)
+    (when b then refuse_link host client r else l).answer ≡ Ok n → (b ≡ false) × (l.answer ≡ Ok n)
 unfolding when◌then◌else◌ refuse_link
-passes host client r n true l e = clash (tells_edges (linked.Used n)) refl (sym (ap tells_edges e))
+passes host client r n true l e = clash (tells_edges (Ok n)) refl (sym (ap tells_edges e))
 passes host client r n false l e = (refl, e)
 
 -- What every test of a run has found if the run is not refused.
@@ -89,7 +87,7 @@ module _ (host client : Module) (limit : ℕ) where
   allowed_accepts a = accepts host.settings client.settings a.enabled a.roles a.alike
 
   -- A run that is not refused has passed every test, and tells its edges.
-  pub link_when : (n : ℕ) → (linked_of host client limit).answer ≡ linked.Used n →
+  pub link_when : (n : ℕ) → (linked_of host client limit).answer ≡ Ok n →
       Allowed host client limit × ((run_of host client limit).used ≡ n)
   unfolding linked_of told_of
   link_when n e =
@@ -97,7 +95,7 @@ module _ (host client : Module) (limit : ℕ) where
       let q = passes host client Disabled n (either_disabled host.settings client.settings) _ p.1 in
       let v = passes host client WrongClock n (wrong_roles host.settings client.settings) _ q.1 in
       let w = passes host client DifferentModes n (different_modes host.settings client.settings) _ v.1 in
-      let told : linked.Used (run_of host client limit).used ≡ linked.Used n = w.1 in
+      let told : Ok (run_of host client limit).used ≡ Ok n = w.1 in
       (record { limited = p.0; enabled = q.0; roles = v.0; alike = w.0 }, cc)
 
   -- A run that passes every test is the run.
@@ -125,11 +123,11 @@ link_keeps P host client limit h k =
 
 -- A refused run leaves both modules as they were.
 pub link_refused_unchanged : (host client : Module) (limit : ℕ) (r : Refusal) →
-    (linked_of host client limit).answer ≡ linked.Refused r →
+    (linked_of host client limit).answer ≡ Err r →
     ((linked_of host client limit).host ≡ host) × ((linked_of host client limit).client ≡ client)
 unfolding refuse_link told_of
 link_refused_unchanged host client limit r =
-    link_keeps (λ (l : Linked). l.answer ≡ linked.Refused r → (l.host ≡ host) × (l.client ≡ client)) host client limit
+    link_keeps (λ (l : Linked). l.answer ≡ Err r → (l.host ≡ host) × (l.client ≡ client)) host client limit
     (λ s e. (refl, refl))
     (λ e. clash true refl (ap tells_edges e))
 
@@ -229,7 +227,7 @@ run_ran host client limit =
     (record { host_does = t.host_does; client_does = t.client_does; counts = t.counts; within = t.within })
 
 -- A linked run that is not refused does to each end what the calls that it makes there do.
-pub link_calls_lem : (host client : Module) (limit n : ℕ) → (linked_of host client limit).answer ≡ linked.Used n →
+pub link_calls_lem : (host client : Module) (limit n : ℕ) → (linked_of host client limit).answer ≡ Ok n →
     ((linked_of host client limit).host ≡ after_calls host (run_host_calls host client limit))
     × ((linked_of host client limit).client ≡ after_calls client (run_client_calls host client limit))
 unfolding told_of
@@ -240,7 +238,7 @@ link_calls_lem host client limit n e =
     )
 
 -- The edges used are the host's only: those that its calls make.
-pub link_counts : (host client : Module) (limit n : ℕ) → (linked_of host client limit).answer ≡ linked.Used n →
+pub link_counts : (host client : Module) (limit n : ℕ) → (linked_of host client limit).answer ≡ Ok n →
     n ≡ edges_made host (run_host_calls host client limit)
 link_counts host client limit n e = sym (link_when host client limit n e).1 ∙ (run_ran host client limit).counts
 
@@ -256,5 +254,5 @@ link_holds_lem host client limit h k =
     )
 
 -- The edges used are never above the limit.
-pub link_within_limit : (host client : Module) (limit n : ℕ) → (linked_of host client limit).answer ≡ linked.Used n → n ≤ limit
+pub link_within_limit : (host client : Module) (limit n : ℕ) → (linked_of host client limit).answer ≡ Ok n → n ≤ limit
 link_within_limit host client limit n e = omega (arith, (run_ran host client limit).within, (link_when host client limit n e).1)

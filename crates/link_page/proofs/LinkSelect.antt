@@ -1,7 +1,7 @@
 -- A linked run leaves its client's select low.
 --     link_selected    after a linked run the client's select is low
 -- Assumes nothing.
-use Rattle.std.specs.Prelude.{◌&&◌, ◌≡◌}
+use Rattle.std.specs.Prelude.{◌&&◌, ◌≡◌, Ok}
 use Rattle.laws.proofs.Common.{ℕ, zero, suc, Bool, true, false, not, sym, ap, subst, ◌∙◌, if_keeps}
 use Rattle.module_rules.proofs.Types.{Module, Outcome, Done}
 use Rattle.module_rules.specs.Settings.{own_clock}
@@ -15,7 +15,6 @@ use Rattle.link_rules.specs.declared.Linked.{Linked}
 use Rattle.link_rules.specs.Link.{run_stops, one_more, host_turn, told_of, linked_of}
 use Rattle.link_rules.specs.LinkDemands.{read_as, pins_beside}
 use Rattle.link_page.proofs.LinkRuns.{Allowed, allowed_accepts, link_when, link_is, ticked, shown, turn_is, run_is}
-use Rattle.link_rules.specs.declared.LinkAnswer.TheVariants as linked
 
 -- An enabled module clocked from its pin, with its select low.
 record Selected (m : Module) : Type 0 where
@@ -52,7 +51,7 @@ turn_selected (suc left) host client h =
     (λ e. h))
 
 -- After a linked run the client's select is low.
-pub link_selected : (host client : Module) (limit n : ℕ) → (linked_of host client limit).answer ≡ linked.Used n →
+pub link_selected : (host client : Module) (limit n : ℕ) → (linked_of host client limit).answer ≡ Ok n →
     (linked_of host client limit).client.engine.pins.ss ≡ false
 unfolding told_of
 link_selected host client limit n e =

@@ -1,5 +1,5 @@
 -- Document 01, "Two modules on one wire": a linked run of a host with its own clock and a client, both unframed.
-use Rattle.std.specs.Prelude.{ℕ, zero, suc, ◌+◌, ◌*◌, Bool, true, false, not, ◌||◌, eqb, ltb}
+use Rattle.std.specs.Prelude.{ℕ, zero, suc, ◌+◌, ◌*◌, Bool, true, false, not, ◌||◌, eqb, ltb, Result, Ok, Err}
 use Rattle.std.specs.Bool.{beq}
 use Rattle.laws.specs.Choice.{when◌then◌else◌}
 use Rattle.module_types.specs.declared.Depth.TheVariants.{Sixteen}
@@ -16,10 +16,8 @@ use Rattle.module_rules.specs.Settings.{width_of, words_of, framed, own_clock}
 use Rattle.module_rules.specs.Refusals.{number_of}
 use Rattle.module_rules.specs.Calls.{tick_of, pins_of, sck_of, sdo_of}
 use Rattle.link_rules.specs.declared.Run.{Run}
-use Rattle.link_rules.specs.declared.LinkAnswer.{LinkAnswer}
 use Rattle.link_rules.specs.declared.LinkSaid.{LinkSaid}
 use Rattle.link_rules.specs.declared.Linked.{Linked}
-use Rattle.link_rules.specs.declared.LinkAnswer.TheVariants as linked
 
 -- The most edges that one host can still owe, and that a run may be asked for whatever the depths: two for each of 16 bits, for
 -- every word of a full buffer of 16 and the one in the shift register (document 02, Twelve).
@@ -92,11 +90,11 @@ different_modes host client =
 
 -- A refused run leaves both modules as they were.
 unfoldable pub refuse_link : Module → Module → Refusal → Linked
-refuse_link host client r = record { answer = linked.Refused r; host = host; client = client }
+refuse_link host client r = record { answer = Err r; host = host; client = client }
 
 -- A run tells the edges used, the host's only.
 unfoldable pub told_of : Run → Linked
-told_of r = record { answer = linked.Used r.used; host = r.host; client = r.client }
+told_of r = record { answer = Ok r.used; host = r.host; client = r.client }
 
 -- A linked run: 11, then 2 for the host and the client, 7, 10; then the run.
 unfoldable pub linked_of : Module → Module → ℕ → Linked
@@ -108,6 +106,6 @@ linked_of host client limit =
     else told_of (run_of host client limit)
 
 -- What the answer of a linked run says in the paper's numbers.
-unfoldable pub link_said_of : LinkAnswer → LinkSaid
-link_said_of (linked.Refused r) = record { number = number_of r; edges = 0 }
-link_said_of (linked.Used n) = record { number = 0; edges = n }
+unfoldable pub link_said_of : Result ℕ Refusal → LinkSaid
+link_said_of (Err r) = record { number = number_of r; edges = 0 }
+link_said_of (Ok n) = record { number = 0; edges = n }

@@ -12,25 +12,18 @@ pub struct Run {
     pub client: Module,
 }
 
-// What a linked run answers: a refusal, or the edges used, the host's only.
-#[derive(Clone, Copy)]
-pub enum LinkAnswer {
-    Refused(Refusal),
-    Used(u16),
-}
-
-// That answer in the paper's numbers: the refusal number, 0 if not refused, and the edges used, 0 if refused. link_said_of
-// in specs/Link.antt gives them.
+// The answer of a linked run in the paper's numbers: the refusal number, 0 if not refused, and the edges used, 0 if refused.
+// link_said_of in specs/Link.antt gives them, and the examples and demands of specs/ speak of them.
 #[derive(Clone, Copy)]
 pub struct LinkSaid {
     pub number: u8,
     pub edges: u16,
 }
 
-// What a linked run returns: its answer, and both modules after it.
+// What a linked run returns: its answer, the edges used, the host's only, or a refusal; and both modules after it.
 #[derive(Clone, Copy)]
 pub struct Linked {
-    pub answer: LinkAnswer,
+    pub answer: Result<u16, Refusal>,
     pub host: Module,
     pub client: Module,
 }

@@ -1,7 +1,8 @@
 -- What a caller is told of modules in memory: each answer as one number, levels as numbers, and the memory after a call.
-use Rattle.std.specs.Prelude.{ℕ, ◌+◌, ◌*◌, Bool, true, not, List, [], ◌∷◌, ◌≡◌, eqb, Float}
+use Rattle.std.specs.Prelude.{ℕ, ◌+◌, ◌*◌, Bool, true, not, List, [], ◌∷◌, ◌≡◌, eqb, Float, Result}
 use Rattle.laws.specs.Choice.{when◌then◌else◌}
 use Rattle.module_types.specs.declared.Module.{Module}
+use Rattle.module_types.specs.declared.Refusal.{Refusal}
 use Rattle.module_types.specs.declared.Answer.{Answer}
 use Rattle.module_types.specs.declared.Answer.TheVariants.{Refused, Done, Value, NoEdge, Edge}
 use Rattle.module_types.specs.declared.Outcome.{Outcome}
@@ -9,7 +10,6 @@ use Rattle.module_types.specs.declared.Output.{Output}
 use Rattle.module_types.specs.declared.Output.TheVariants.{Low, High, Undriven}
 use Rattle.module_rules.specs.Refusals.{number_of, said_of}
 use Rattle.module_rules.specs.Calls.{interrupt_of, sck_of, sdo_of, ss_of}
-use Rattle.link_rules.specs.declared.LinkAnswer.{LinkAnswer}
 use Rattle.link_rules.specs.declared.Linked.{Linked}
 use Rattle.link_rules.specs.Link.{link_said_of}
 use Rattle.clock_rules.specs.declared.ClockSaid.{ClockSaid}
@@ -80,7 +80,7 @@ pub record ClockTells (s : ClockSaid) (r : ℕ) (before after : List Float) : Ty
 
 -- The answer of a linked run: the upper 16 bits are the refusal number, 0 if it was not refused, the lower 16 bits the
 -- edges used.
-unfoldable pub link_number : LinkAnswer → ℕ
+unfoldable pub link_number : Result ℕ Refusal → ℕ
 link_number a = (link_said_of a).number * 65536 + (link_said_of a).edges
 
 -- A linked run returns the number of its answer, and both memories hold the definition's ends. A refused one leaves every number of both memories as it was.

@@ -25,13 +25,11 @@ pub fn perform(m: Module, c: Call) -> Outcome
     let mut w = module_memory_stores::memory_of(m);
     let answer = module_calls::perform(&mut w, c);
     let after = module_memory_looks::module_in(&w);
-    Outcome {
-        answer: answer,
-        after: after,
-    }
+    Outcome { answer, after }
 }
 
 // A read of a register.
+#[tactic(auto, unfolding(module_rules::specs::Calls::perform_of))]
 pub fn read(m: Module, register: u32) -> Outcome
     ensures { result ≡ read_of m register }
 {
@@ -39,6 +37,7 @@ pub fn read(m: Module, register: u32) -> Outcome
 }
 
 // A write of a register.
+#[tactic(auto, unfolding(module_rules::specs::Calls::perform_of))]
 pub fn write(m: Module, register: u32, v: u16) -> Outcome
     ensures { result ≡ write_of m register v }
 {
@@ -47,6 +46,7 @@ pub fn write(m: Module, register: u32, v: u16) -> Outcome
 
 // A tick of a host's own clock, with the levels SDI and SS: one edge, or none if the host is unframed and no word is loaded.
 // SS counts for a frame client alone.
+#[tactic(auto, unfolding(module_rules::specs::Calls::perform_of))]
 pub fn tick(m: Module, sdi: bool, ss: bool) -> Outcome
     ensures { result ≡ tick_of m sdi ss }
 {
@@ -54,6 +54,7 @@ pub fn tick(m: Module, sdi: bool, ss: bool) -> Outcome
 }
 
 // The levels of SCK, SDI and SS are shown to a module that is clocked from its pin.
+#[tactic(auto, unfolding(module_rules::specs::Calls::perform_of))]
 pub fn pins(m: Module, sck: bool, sdi: bool, ss: bool) -> Outcome
     ensures { result ≡ pins_of m sck sdi ss }
 {
@@ -62,6 +63,7 @@ pub fn pins(m: Module, sck: bool, sdi: bool, ss: bool) -> Outcome
 
 // A clock step with the levels SCK, SDI and SS: the next edge of a host with its own clock, if any, which ignores SCK, and SS unless it is
 // a frame client; any other module sees the levels.
+#[tactic(auto, unfolding(module_rules::specs::Calls::perform_of))]
 pub fn clock_step(m: Module, sck: bool, sdi: bool, ss: bool) -> Outcome
     ensures { result ≡ clock_step_of m sck sdi ss }
 {
@@ -69,6 +71,7 @@ pub fn clock_step(m: Module, sck: bool, sdi: bool, ss: bool) -> Outcome
 }
 
 // The interrupt flag is cleared.
+#[tactic(auto, unfolding(module_rules::specs::Calls::perform_of))]
 pub fn clear(m: Module) -> Outcome
     ensures { result ≡ clear_of m }
 {
@@ -82,11 +85,11 @@ pub fn linked(host: Module, client: Module, limit: u32) -> Linked
     let mut h = module_memory_stores::memory_of(host);
     let mut c = module_memory_stores::memory_of(client);
     let answer = link_calls::linked(&mut h, &mut c, limit);
-    let host_after = module_memory_looks::module_in(&h);
-    let client_after = module_memory_looks::module_in(&c);
+    let host = module_memory_looks::module_in(&h);
+    let client = module_memory_looks::module_in(&c);
     Linked {
-        answer: answer,
-        host: host_after,
-        client: client_after,
+        answer,
+        host,
+        client,
     }
 }

@@ -3,6 +3,7 @@
 // is printed where it is a whole number, and as `-` where it is not.
 #![tactic(auto)]
 
+use clock_rules::Clock;
 use module_types::Module;
 use run_text::Output;
 use std::io;
@@ -10,26 +11,22 @@ use std::io::Write;
 
 // A module with this CON1, enabled or not.
 fn module(con1: u16, on: bool) -> Module {
-    let m = module_by_value::power_up();
-    let named = module_by_value::write(m, 1, con1);
-    let after = named.after;
+    let m = module_by_value::write(module_by_value::power_up(), 1, con1).after;
     if on {
-        let enabled = module_by_value::write(after, 0, 0x8000);
-        return enabled.after;
+        module_by_value::write(m, 0, 0x8000).after
+    } else {
+        m
     }
-    after
 }
 
 // A space and a float.
 fn print_float(x: f64, to: &mut Output<impl Write>) {
     to.print(b" ");
-    if x > -1.0 {
-        if x < 18446744073709551616.0 {
-            let n = std::num::truncating_f64_to_u64(x);
-            if std::num::nearest_u64_to_f64(n) == x {
-                to.print_decimal(n);
-                return;
-            }
+    if x > -1.0 && x < 18446744073709551616.0 {
+        let n = std::num::truncating_f64_to_u64(x);
+        if std::num::nearest_u64_to_f64(n) == x {
+            to.print_decimal(n);
+            return;
         }
     }
     to.print(b"-");
@@ -37,46 +34,49 @@ fn print_float(x: f64, to: &mut Output<impl Write>) {
 
 // The line of one report.
 fn print_report(m: Module, f: u32, to: &mut Output<impl Write>) {
-    let x = clock_report::said(clock_report::report(m, f));
     to.print_decimal(f as u64);
-    if x.number > 0 {
-        to.print(b" E ");
-        to.print_decimal(x.number as u64);
-    } else {
-        if x.internal {
+    match clock_report::report(m, f) {
+        Err(why) => {
+            to.print(b" E ");
+            to.print_decimal(module_looks::refusal_number(why) as u64);
+        }
+        Ok(Clock::Internal(x)) => {
             to.print(b" internal");
             print_float(x.rate, to);
             print_float(x.bittime, to);
-        } else {
-            if x.external {
-                to.print(b" external");
-                print_float(x.below, to);
-            } else {
-                to.print(b" none");
-            }
         }
+        Ok(Clock::External(below)) => {
+            to.print(b" external");
+            print_float(below, to);
+        }
+        Ok(Clock::None) => to.print(b" none"),
     }
     to.print(b"\n");
 }
 
 fn main(rt: HostRuntime) -> io::Result<()> {
     let mut output = Output::new(rt.stdout());
-    let to = &mut output;
-    // the paper's two: PPRE 2 and SPRE 6 divide by 8
-    print_report(module(0x003A, true), 40000000, to);
-    print_report(module(0x003A, true), 0, to);
-    // a bit time that is a whole number, and neither float one
-    print_report(module(0x003A, true), 4, to);
-    print_report(module(0x0024, true), 40000000, to);
-    // the largest whole rates, divided by 2 and by 512
-    print_report(module(0x003B, true), 4294967294, to);
-    print_report(module(0x0020, true), 4294966784, to);
-    // clocked from the pin: a client, and a host with DISSCK
-    print_report(module(0x001A, true), 40000000, to);
-    print_report(module(0x103A, true), 4294967295, to);
-    // disabled: none, but the rate 0 is refused first
-    print_report(module(0x003A, false), 40000000, to);
-    print_report(module(0x003A, false), 0, to);
+    // CON1, whether the module is enabled, and the instruction rate
+    let reports = [
+        // the paper's two: PPRE 2 and SPRE 6 divide by 8
+        (0x003A, true, 40000000),
+        (0x003A, true, 0),
+        // a bit time that is a whole number, and neither float one
+        (0x003A, true, 4),
+        (0x0024, true, 40000000),
+        // the largest whole rates, divided by 2 and by 512
+        (0x003B, true, 4294967294),
+        (0x0020, true, 4294966784),
+        // clocked from the pin: a client, and a host with DISSCK
+        (0x001A, true, 40000000),
+        (0x103A, true, 4294967295),
+        // disabled: none, but the rate 0 is refused first
+        (0x003A, false, 40000000),
+        (0x003A, false, 0),
+    ];
+    for (con1, on, rate) in reports {
+        print_report(module(con1, on), rate, &mut output);
+    }
     output.finish()?;
     Ok(())
 }

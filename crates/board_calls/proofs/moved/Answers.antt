@@ -1,13 +1,7 @@
--- Each branch is what the definition comes to there.
+-- Both ends of the total.
 use Rattle.laws.proofs.Common.{arith}
 use Rattle.board_calls.proofs.Owing.{at_most}
 use Rattle.board_calls.proofs.moved.Goals as goal
 
-pub returns-then-sum-was : goal.returns-then-sum-was
-returns-then-sum-was c = (at_most _ (λ h. omega arith) (λ h. omega arith), omega arith)
-
-pub returns-then-left-le65535 : goal.returns-then-left-le65535
-returns-then-left-le65535 c = (at_most _ (λ h. omega arith) (λ h. omega arith), omega arith)
-
 pub returns : goal.returns
-returns c = (at_most _ (λ h. omega arith) (λ h. omega arith), omega arith)
+returns c = let m = c.min.ensures in let s = c.saturating_sub.ensures in (at_most _ (λ h. omega (arith, m, s)) (λ h. omega (arith, m, s)), omega (arith, m))

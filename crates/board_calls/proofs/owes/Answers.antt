@@ -1,14 +1,12 @@
--- The first row of the table, or the total.
-use native.Mathlib.Omega.{arith}
-use Rattle.board_calls.proofs.Asks.{few, many, right}
+-- The list's row of the table, or the total.
+use Rattle.laws.proofs.Common.{sym, ◌∙◌}
+use Rattle.board_rules.specs.Board.{board_number_of}
 use Rattle.board_calls.proofs.Owing.{asks_list, asks_total}
 use Rattle.board_calls.proofs.owes.Goals as goal
 
-pub returns-then-count-lt1 : goal.returns-then-count-lt1
-returns-then-count-lt1 c = asks_list (few (omega arith))
-
-pub returns-then-count-gt4 : goal.returns-then-count-gt4
-returns-then-count-gt4 c = asks_list (many (omega arith) (omega arith))
+pub returns-then-is_bad_list : goal.returns-then-is_bad_list
+unfolding board_number_of
+returns-then-is_bad_list c = rw c.fault_number.ensures (asks_list (sym c.is_bad_list.ensures ∙ c.if-is_bad_list.true))
 
 pub returns : goal.returns
-returns c = asks_total (right (omega arith) (omega arith))
+returns c = asks_total (sym c.is_bad_list.ensures ∙ c.if-is_bad_list.false)

@@ -1,18 +1,7 @@
--- The first module is tested, then whether it is named twice, then the second.
-use borrow.Author.Rules.{rules}
-use Rattle.laws.proofs.Common.{refl, so_eq, not_so_eq}
-use Rattle.board_calls.proofs.Asks.{pair_refused}
+-- The number of the test, as the answer has it.
+use Rattle.laws.proofs.Common.{ℕ, ap, ◌∙◌}
+use Rattle.board_calls.specs.Owing.{refused_number, refused_as}
 use Rattle.board_calls.proofs.refused_two.Goals as goal
 
-pub returns-then-first-ne0 : goal.returns-then-first-ne0
-returns-then-first-ne0 c = pair_refused _ _ _ _ c.refused-first.ensures (not_so_eq c.refused-first.result 0 _ _ (search rules) refl)
-
-pub returns-then-a-b : goal.returns-then-a-b
-returns-then-a-b c =
-    pair_refused _ _ c.args.a c.args.b c.refused-first.ensures
-    (so_eq c.refused-first.result 0 _ _ (search rules) (so_eq c.args.a c.args.b _ _ (search rules) c.both.ensures))
-
 pub returns : goal.returns
-returns c =
-    pair_refused _ _ c.args.a c.args.b c.refused-first.ensures
-    (so_eq c.refused-first.result 0 _ _ (search rules) (not_so_eq c.args.a c.args.b _ _ (search rules) c.refused.ensures))
+returns c = c.refusal.ensures ∙ ap (λ (k : ℕ). refused_as (refused_number c.args.owed k)) c.tested_two.ensures

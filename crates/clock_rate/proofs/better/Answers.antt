@@ -1,4 +1,4 @@
--- The test is the definition's. Assumes nothing.
+-- The test is the definition's.
 use Rattle.laws.proofs.Common.{refl, so, not_so}
 use Rattle.clock_rate_rules.specs.Rate.{better}
 use Rattle.clock_rate.proofs.better.Goals as goal

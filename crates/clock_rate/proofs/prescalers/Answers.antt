@@ -10,7 +10,8 @@ unfolding best_of
 loop-k-init c = (refl, search rules)
 
 pub loop-k-preserved : goal.loop-k-preserved
-loop-k-preserved c = (best_next _ _ _ _ _ c.loop-k.invariant.0 c.better-found.ensures, search rules)
+loop-k-preserved c =
+    (best_next _ _ _ _ _ c.loop-k.invariant.0 c.better-found.ensures, search rules)
 
 pub returns : goal.returns
 returns c = best_all _ _ _ _ _ c.loop-k.invariant.1 (search rules) c.loop-k.invariant.0 c.in_con1.ensures

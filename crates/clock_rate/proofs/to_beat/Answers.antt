@@ -1,12 +1,16 @@
--- The test is the definition's. Assumes nothing.
-use Rattle.laws.proofs.Common.{refl, so_eq, not_so_eq}
+-- What is found is below 31, so that it is not the definition's 32.
+use Rattle.std.specs.Prelude.{Option}
+use Rattle.laws.proofs.Common.{refl, by_case, arith, not_so_eq, when◌then◌else◌}
 use Rattle.clock_rate_rules.specs.Rate.{to_beat}
+use Rattle.clock_rate.specs.declared.setting.Setting.{Setting}
+use Rattle.clock_rate.specs.Found.{setting_in}
 use Rattle.clock_rate.proofs.to_beat.Goals as goal
 
-pub returns-then-found-eq32 : goal.returns-then-found-eq32
+pub returns-in-Some : goal.returns-in-Some
 unfolding to_beat
-returns-then-found-eq32 c = so_eq _ _ _ _ c.if-found-eq32.true refl
+returns-in-Some c =
+    by_case (λ (o : Option Setting). to_beat (setting_in o)) c.in-Some.is (not_so_eq c.in-Some.setting.k 32 _ _ (λ e. absurd (omega (arith, c.in-Some.setting.is_one, e))) c.divider_at.ensures)
 
-pub returns : goal.returns
-unfolding to_beat
-returns c = not_so_eq _ _ _ _ c.if-found-eq32.false (cc)
+pub returns-in-None : goal.returns-in-None
+unfolding to_beat when◌then◌else◌
+returns-in-None c = by_case (λ (o : Option Setting). to_beat (setting_in o)) c.in-None.is refl

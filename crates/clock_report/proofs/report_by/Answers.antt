@@ -5,5 +5,5 @@ use Rattle.clock_report.proofs.report_by.Goals as goal
 pub returns-then-f-eq0 : goal.returns-then-f-eq0
 returns-then-f-eq0 c = so_eq _ _ _ _ c.if-f-eq0.true refl
 
-pub returns-else-f-eq0 : goal.returns-else-f-eq0
-returns-else-f-eq0 c = not_so_eq _ _ _ _ c.if-f-eq0.false (cc)
+pub returns : goal.returns
+returns c = not_so_eq _ _ _ _ c.if-f-eq0.false (cc)

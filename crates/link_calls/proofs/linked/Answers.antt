@@ -37,8 +37,8 @@ returns-then-different_modes c =
     let modes = looked different_modes c.settings_in-h.ensures c.settings_in-c.ensures c.different_modes.ensures c.if-different_modes.true in
     kept (not_so_lt _ _ _ _ c.if-limit-gt-MOST_EDGES.false (not_so _ _ _ disabled (not_so _ _ _ roles (so _ _ _ modes refl))))
 
-pub run-used-requires : goal.run-used-requires
-run-used-requires c =
+pub run-requires : goal.run-requires
+run-requires c =
     let disabled = looked either_disabled c.settings_in-h.ensures c.settings_in-c.ensures c.either_disabled.ensures c.if-either_disabled.false in
     let roles = looked wrong_roles c.settings_in-h.ensures c.settings_in-c.ensures c.wrong_roles.ensures c.if-wrong_roles.false in
     let modes = looked different_modes c.settings_in-h.ensures c.settings_in-c.ensures c.different_modes.ensures c.if-different_modes.false in
@@ -55,4 +55,4 @@ returns c =
     (not_so _ _ _ disabled
     (not_so _ _ _ roles
     (not_so _ _ _ modes
-    (ap told_of (c.run-used.ensures.client_after ∙ ap (host_turn _ _) c.client_sees.ensures))))))
+    (ap told_of (c.run.ensures.client_after ∙ ap (host_turn _ _) c.client_sees.ensures))))))

@@ -7,4 +7,4 @@ use Rattle.module_by_number.proofs.levels.Goals as goal
 pub returns : goal.returns
 unfolding levels_number seen_number interrupt_of sck_of
 returns c =
-    (rw (c.weight-flag.ensures.0, c.weight-sck.ensures.0, c.sdo_bits-sdo.ensures.0, c.ss_bits-ss.ensures.0, c.interrupt_in.ensures, c.pins_in-pins.ensures), search rules)
+    (rw (c.weigh-flag.ensures.value, c.weigh-sck.ensures.value, c.sdo_bits.ensures.0, c.ss_bits.ensures.0, c.interrupt_in.ensures, c.pins_in-pins.ensures), search rules)

@@ -10,4 +10,4 @@ returns-then-pins_within c = told (c.pins_within.ensures.taken c.if-pins_within.
 
 pub returns : goal.returns
 returns c =
-    rw (c.pins_within.ensures.left c.if-pins_within.false) at (told c.pins-answer.ensures c.answer_number.ensures)
+    rw (c.pins_within.ensures.left c.if-pins_within.false) at (told c.pins.ensures c.answer_number.ensures)

@@ -6,4 +6,4 @@ use Rattle.module_by_number.proofs.read_buf.Goals as goal
 
 pub returns : goal.returns
 unfolding read_of when◌then◌else◌
-returns c = told c.read_buf-answer.ensures c.answer_number.ensures
+returns c = told c.read_buf.ensures c.answer_number.ensures

@@ -10,4 +10,4 @@ returns-then-frame_within c = told (c.frame_within.ensures.taken c.if-frame_with
 
 pub returns : goal.returns
 returns c =
-    rw (c.frame_within.ensures.left c.if-frame_within.false) at (told c.tick-answer.ensures c.answer_number.ensures)
+    rw (c.frame_within.ensures.left c.if-frame_within.false) at (told c.tick.ensures c.answer_number.ensures)

@@ -1,0 +1,2 @@
+-- The setting that the walk has found.
+pub mod Found

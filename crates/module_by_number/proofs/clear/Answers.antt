@@ -1,6 +1,0 @@
--- The number of the answer is told.
-use Rattle.module_by_number.proofs.Answers.{told}
-use Rattle.module_by_number.proofs.clear.Goals as goal
-
-pub returns : goal.returns
-returns c = told c.clear-answer.ensures c.answer_number.ensures
