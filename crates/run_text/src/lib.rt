@@ -5,6 +5,8 @@ ghost use Rattle.std.specs.Prelude.{◌≡◌, ◌<◌, IfOk, IsNone, IsSome, le
 ghost use Rattle.std.specs.Fmt.{decimal};
 ghost use Rattle.std.specs.Io.{ReadsAtMost};
 ghost use Rattle.std.specs.Io.KnownBytes.{Appends, Consumes, IsAtEnd};
+ghost use Rattle.run_text.specs.Hex.{four_hex};
+ghost use Rattle.run_text.specs.Line.{refusal_line};
 
 use std::io;
 use std::io::{Read, Write};
@@ -17,6 +19,7 @@ pub fn read_full<R: Read>(from: &mut R, buf: &mut [u8]) -> io::Result<usize>
     ensures end { IfOk result (λ n. n < length buf.new → IsAtEnd (R.remaining from.new)) }
 {
     let mut done = 0;
+    // no index is counted here: a read may give fewer bytes than are asked for
     while done < buf.len() {
         let n = from.read(&mut buf[done..])?;
         if n == 0 {
@@ -48,9 +51,7 @@ impl<W: Write> Output<W> {
         ensures stopped { IsSome self.old.failed → (self.new.to ≡ self.old.to) × (self.new.failed ≡ self.old.failed) }
     {
         if self.failed.is_none() {
-            if let Err(e) = self.to.write_all(text) {
-                self.failed = Some(e);
-            }
+            self.failed = self.to.write_all(text).err();
         }
     }
 
@@ -61,9 +62,38 @@ impl<W: Write> Output<W> {
         ensures stopped { IsSome self.old.failed → (self.new.to ≡ self.old.to) × (self.new.failed ≡ self.old.failed) }
     {
         if self.failed.is_none() {
-            if let Err(e) = write!(self.to, "{n}") {
-                self.failed = Some(e);
-            }
+            self.failed = write!(self.to, "{n}").err();
+        }
+    }
+
+    // A number in four hexadecimal digits, in upper case. The clause says each digit as `{:X}` writes it, so each is written by itself:
+    // of padded text, as `{n:04X}` writes it, std has a lemma for a byte alone (`hex_byte`).
+    pub fn print_hex(&mut self, n: u16)
+        ensures text { IsNone self.new.failed → Appends (W.contents self.old.to) (W.contents self.new.to) (four_hex n) }
+        ensures kept { IsNone self.new.failed → IsNone self.old.failed }
+        ensures stopped { IsSome self.old.failed → (self.new.to ≡ self.old.to) × (self.new.failed ≡ self.old.failed) }
+    {
+        if self.failed.is_none() {
+            self.failed = write!(
+                self.to,
+                "{:X}{:X}{:X}{:X}",
+                n / 4096,
+                n / 256 % 16,
+                n / 16 % 16,
+                n % 16,
+            )
+            .err();
+        }
+    }
+
+    // The line that tells a refusal by its number.
+    pub fn print_refusal(&mut self, number: u8)
+        ensures text { IsNone self.new.failed → Appends (W.contents self.old.to) (W.contents self.new.to) (refusal_line number) }
+        ensures kept { IsNone self.new.failed → IsNone self.old.failed }
+        ensures stopped { IsSome self.old.failed → (self.new.to ≡ self.old.to) × (self.new.failed ≡ self.old.failed) }
+    {
+        if self.failed.is_none() {
+            self.failed = writeln!(self.to, "E {number}").err();
         }
     }
 
@@ -166,6 +196,35 @@ mod tests {
         out.print_decimal(18446744073709551615);
         let text = out.finish()?;
         assert_eq!(rt; text.as_slice(), b"at 0 18446744073709551615".as_slice());
+        Ok(())
+    }
+
+    #[test]
+    fn prints_four_hexadecimal_digits(rt: HostRuntime) -> Result<(), Fail> {
+        let mut out = Output::new(Vec::new(rt.alloc()));
+        out.print_hex(0);
+        out.print_hex(0x0A5F);
+        out.print_hex(0xFFFF);
+        let text = out.finish()?;
+        assert_eq!(rt; text.as_slice(), b"00000A5FFFFF".as_slice());
+        Ok(())
+    }
+
+    #[test]
+    fn prints_a_refusal_as_a_line(rt: HostRuntime) -> Result<(), Fail> {
+        let mut out = Output::new(Vec::new(rt.alloc()));
+        out.print_refusal(0);
+        out.print_refusal(255);
+        let text = out.finish()?;
+        assert_eq!(rt; text.as_slice(), b"E 0\nE 255\n".as_slice());
+        let mut narrow = Output::new(Narrow {
+            room: 3,
+            taken: Vec::new(rt.alloc()),
+        });
+        narrow.print_refusal(12);
+        narrow.print_refusal(7);
+        assert!(rt; narrow.failed.is_some());
+        assert_eq!(rt; narrow.to.taken.as_slice(), b"E 1".as_slice());
         Ok(())
     }
 

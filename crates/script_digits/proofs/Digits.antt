@@ -3,24 +3,23 @@
 --     digits_length    so many digits are so many
 --     last_first       the last digit may be put before the others
 --     no_room          a text without room is not put
---     same_size        two buffers that the same text completes are as long
 --     decimal_digits   a number in decimal is so many digits in base ten
 --     four_hex         a value in four hexadecimal digits is four digits in base sixteen
---     fewer_left       a number of more than one digit: its tenth has one digit fewer
 --     one_digit        a number below ten has one digit
+--     decimal_size     a number from a power of ten to below the next has one digit more than the power's exponent
+--     decimal_many     so a number has one digit more than its logarithm in base ten
 --     decimal_short    a number of 32 bits has at most ten digits
 -- Assumes nothing.
-use Rattle.std.specs.Prelude.{◌+◌, ◌-◌, ◌/◌, ◌%◌, ◌^◌, ◌<◌, ◌≤◌, ◌∷◌, ◌++◌, ◌≡◌}
+use Rattle.std.specs.Prelude.{Option, Some, None, IfSome, IfNone, MatchOption, ◌+◌, ◌-◌, ◌/◌, ◌%◌, ◌*◌, ◌^◌, ◌<◌, ◌≤◌, ◌∷◌, ◌++◌, ◌≡◌}
 use Rattle.laws.proofs.Common.{ℕ, zero, suc, List, [], refl, sym, ◌∙◌, ap}
-use Rattle.laws.proofs.Common.{pow-suc, arith, ltb-true, lt-ltb, le-ltb, ltb, length, set, length-append, if_true, if_false}
+use Rattle.laws.proofs.Common.{pow-succ', one-le-pow, arith, ltb-true, lt-ltb, le-ltb, ltb, length, set, length-append, if_true, if_false}
 use Rattle.laws.proofs.Common.{if_keeps}
 use Prim.Native.Char.{code}
-use native.Mathlib.Nat.{div-lt_iff_lt-mul}
 use lib.Seq.{set_comm}
 use Rattle.script_rules.specs.Script.{decimal_in, decimal_of, hex_of, four_hex_of}
 use Rattle.script_rules.specs.Texts.{put}
 use Rattle.script_rules.proofs.ScriptSizes.{decimal_length}
-use Rattle.script_rules.proofs.Texts.{put_then, put_length}
+use Rattle.script_rules.proofs.Texts.{put_then}
 use Rattle.script_digits.specs.Digits.{digits_of, PutWhole}
 
 pub low_letter : (d : ℕ) → d < 10 → hex_of d ≡ code "0" + d
@@ -57,9 +56,6 @@ last_first buffer place base (suc left) n h =
 pub no_room : (text before : List ℕ) (place : ℕ) → length before < place + length text → PutWhole text before place before place
 no_room text before place h = record { fits = λ room. absurd (omega arith); fails = λ _. (refl, refl) }
 
-pub same_size : (a b : List ℕ) (p : ℕ) (x y : List ℕ) → put a p x ≡ put b p y → length a ≡ length b
-same_size a b p x y e = sym (put_length a p x) ∙ ap length e ∙ put_length b p y
-
 pub decimal_digits : (places n : ℕ) → decimal_in places n ≡ digits_of 10 (length (decimal_in places n)) n
 unfolding decimal_in digits_of
 decimal_digits zero n = refl
@@ -78,23 +74,30 @@ four_hex v =
     let fourth : v / 4096 ≡ v / 16 / 16 / 16 = omega arith in
     cc
 
-pub fewer_left : (spare n : ℕ) → 9 < n → n < 10 ^ suc spare →
-    (0 < spare) × (n / 10 < 10 ^ suc (spare - 1))
-    × (length (decimal_in (suc spare) n) ≡ 1 + length (decimal_in (suc (spare - 1)) (n / 10)))
-unfolding decimal_in
-fewer_left zero n h k = absurd (omega arith)
-fewer_left (suc spare) n h k =
-    let one : spare ≡ suc spare - 1 = omega arith in
-    let tens = decimal_in (suc spare) (n / 10) in (
-      omega arith,
-      rw one at ((div-lt_iff_lt-mul {k = 10} {x = n} {y = 10 ^ suc spare} (omega arith)).1 (rw pow-suc at k)),
-      ap length (if_false (ltb n 10) _ _ (le-ltb n 10 h))
-          ∙ omega (arith, length-append tens ((code "0" + n % 10) ∷ []), ap (λ (p : ℕ). length (decimal_in (suc p) (n / 10))) one),
-    )
-
 pub one_digit : (spare n : ℕ) → n ≤ 9 → length (decimal_in (suc spare) n) ≡ 1
 unfolding decimal_in
 one_digit spare n h = ap length (if_true (ltb n 10) _ _ (lt-ltb n 10 (omega arith)))
+
+pub decimal_size : (k spare n : ℕ) → k ≤ spare → 10 ^ k ≤ n → n < 10 * 10 ^ k → length (decimal_in (suc spare) n) ≡ suc k
+unfolding decimal_in
+decimal_size zero spare n h low high = one_digit spare n (omega arith)
+decimal_size (suc k) zero n h low high = absurd (omega arith)
+decimal_size (suc k) (suc spare) n h low high =
+    let power = pow-succ' 10 k in
+    let one = one-le-pow k 10 (omega arith) in
+    let tens = decimal_in (suc spare) (n / 10) in
+    ap length (if_false (ltb n 10) _ _ (le-ltb n 10 (omega (arith, power, one))))
+    ∙ omega (
+      arith,
+      length-append tens ((code "0" + n % 10) ∷ []),
+      decimal_size k spare (n / 10) (omega arith) (omega (arith, power)) (omega (arith, power)),
+    )
+
+pub decimal_many : {P : ℕ → Type 0} (n r : ℕ) (o : Option ℕ) → IfNone o (n ≡ 0) → IfSome o (λ k. 10 ^ k ≤ n) → IfSome o (λ k. n < 10 * 10 ^ k) →
+    IfSome o (λ k. k < 10) → MatchOption o (r ≡ 1) P → ((k : ℕ) → P k → r ≡ k + 1) → r ≡ length (decimal_of n)
+unfolding decimal_of
+decimal_many n r None none low high bound many one_more = omega (arith, none, many, one_digit 9 n (omega (arith, none)))
+decimal_many n r (Some k) none low high bound many one_more = omega (arith, one_more k many, decimal_size k 9 n (omega (arith, bound)) low high)
 
 pub decimal_short : (n : ℕ) → n < 10 ^ 10 → length (decimal_of n) ≤ 10
 unfolding decimal_of

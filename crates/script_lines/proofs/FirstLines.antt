@@ -1,29 +1,36 @@
--- How long the line is that begins at a place of some bytes, by the byte at that place.
---     stops       at an LF it has no byte
---     goes_on     any other byte makes it one longer than the line that begins at the next place
+-- How long the line is that begins at a place of some bytes.
+--     to_first_lf, first_place  the first line of some bytes is as long as the place of their first LF, or as they are if they have none
+--     from_place  the bytes from a place on, as a slice of them all
 --     runs_out    past the last byte it has no byte
 --     within      it ends within the bytes
 --     part        it is a part of them
 --     no_line     past the last byte nothing can be read
 -- Assumes nothing.
-use Rattle.std.specs.Prelude.{◌+◌, ◌-◌, ◌<◌, ◌≤◌, ◌≡◌}
-use Rattle.laws.proofs.Common.{ℕ, List, ap, ◌∙◌, arith, eq-eqb, ne_eqb, length, get_or, take, drop}
-use Rattle.laws.proofs.Common.{drop_of_length-le, length-take, length-drop, drop-cons, when◌then◌else◌}
-use native.Mathlib.Numerals.{add-one}
-use Rattle.script_rules.specs.declared.Line.TheVariants.{Unreadable}
+use Rattle.std.specs.Prelude.{◌+◌, ◌-◌, ◌<◌, ◌≤◌, ◌≡◌, ◌==◌, None, eqb, ltb, unwrap_or}
+use Rattle.std.specs.List.{position, position_or_len}
+use Rattle.std.proofs.lemmas.List.Recursion.{is_position_or_len}
+use Rattle.laws.proofs.Common.{ℕ, List, ap, ◌∙◌, refl, sym, arith, ltb-false, length, take, drop, by_test}
+use Rattle.laws.proofs.Common.{drop_of_length-le, length-take, length-drop, take_all, when◌then◌else◌}
 use Rattle.script_rules.specs.Script.{lf, has_form, write_form, read_form, tick_form, tick_ss_form, pin_form, clear_form, reading_of}
 use Rattle.script_rules.specs.Session.{first_line}
 use Rattle.script_rules.proofs.ScriptLines.{first_line_taken}
 
-module _ (bytes : List ℕ) (place : ℕ) where
-  pub stops : place < length bytes → get_or bytes place 0 ≡ lf → length (first_line (drop place bytes)) ≡ 0
-  unfolding first_line when◌then◌else◌
-  stops h e = rw (drop-cons bytes place 0, eq-eqb _ _ e)
+pub to_first_lf : (bytes : List ℕ) → length (first_line bytes) ≡ position_or_len (λ b. b == lf) bytes
+unfolding first_line when◌then◌else◌
+to_first_lf bytes =
+    is_position_or_len (λ bs. length (first_line bs)) (λ b. b == lf) refl
+    (λ b bs. by_test (eqb b lf) (λ e. rw e refl) (λ e. rw e (omega arith)))
+    bytes
 
-  pub goes_on : place < length bytes → (get_or bytes place 0 ≡ lf → ⊥) →
-      length (first_line (drop place bytes)) ≡ length (first_line (drop (place + 1) bytes)) + 1
-  unfolding first_line when◌then◌else◌
-  goes_on h e = simp add-one (rw (drop-cons bytes place 0, ne_eqb _ _ e))
+pub first_place : (bytes : List ℕ) → unwrap_or (position (λ b. b == lf) bytes) (length bytes) ≡ length (first_line bytes)
+first_place bytes =
+    sym (by_test (ltb (position_or_len (λ b. b == lf) bytes) (length bytes))
+    (λ e. rw e (to_first_lf bytes))
+    (λ e. rw e (omega (arith, ltb-false _ _ e, to_first_lf bytes, ap length (first_line_taken bytes), length-take (length (first_line bytes)) bytes))))
+
+module _ (bytes : List ℕ) (place : ℕ) where
+  pub from_place : take (length bytes - place) (drop place bytes) ≡ drop place bytes
+  from_place = take_all _ (drop place bytes) (omega (arith, length-drop place bytes))
 
   pub runs_out : length bytes ≤ place → length (first_line (drop place bytes)) ≡ 0
   unfolding first_line
@@ -38,11 +45,9 @@ module _ (bytes : List ℕ) (place : ℕ) where
         length-drop place bytes,
       )
 
-  pub part : (n : ℕ) → n ≡ length (first_line (drop place bytes)) → take (place + n - place) (drop place bytes) ≡ first_line (drop place bytes)
-  part n e =
-      ap (λ (k : ℕ). take k (drop place bytes)) (let same : place + n - place ≡ length (first_line (drop place bytes)) = omega arith in same)
-      ∙ first_line_taken (drop place bytes)
+  pub part : (n : ℕ) → n ≡ length (first_line (drop place bytes)) → take n (drop place bytes) ≡ first_line (drop place bytes)
+  part n e = ap (λ (k : ℕ). take k (drop place bytes)) e ∙ first_line_taken (drop place bytes)
 
-  pub no_line : length bytes ≤ place → reading_of (first_line (drop place bytes)) ≡ Unreadable
+  pub no_line : length bytes ≤ place → reading_of (first_line (drop place bytes)) ≡ None
   unfolding first_line reading_of has_form write_form read_form tick_form tick_ss_form pin_form clear_form when◌then◌else◌
   no_line h = rw (drop_of_length-le bytes h)

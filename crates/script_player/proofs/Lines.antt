@@ -3,14 +3,14 @@
 --     cut_part, read_again, played_read, answers_read
 --                                         cutting a script that is cut changes nothing
 --     Playing                             what holds of the loop: the lines that are left finish the piece
---     playing_starts, playing_goes_on, playing_ends
+--     playing_goes_on, playing_ends
 -- Assumes nothing.
-use Rattle.std.specs.Prelude.{◌+◌, ◌*◌, ◌-◌, ◌≤◌, ◌<◌, ◌||◌, ◌++◌, ◌≡◌}
+use Rattle.std.specs.Prelude.{◌+◌, ◌*◌, ◌-◌, ◌≤◌, ◌<◌, ◌||◌, ◌++◌, ◌≡◌, Option}
 use Rattle.laws.proofs.Common.{ℕ, zero, suc, Bool, true, false, List, append-nil}
 use Rattle.laws.proofs.Common.{refl, sym, ◌∙◌, ap, arith, le-leb, lt-leb, lt-ltb, le-ltb, leb, length, take, drop}
 use Rattle.laws.proofs.Common.{length-append, take-take, when◌then◌else◌}
 use Rattle.module_types.specs.declared.Module.{Module}
-use Rattle.script_rules.specs.declared.Line.{Line}
+use Rattle.module_types.specs.declared.Call.{Call}
 use Rattle.script_rules.specs.declared.Session.{Session}
 use Rattle.script_rules.specs.Script.{most_bytes, read_from, reading_of, line_after, answer_line}
 use Rattle.script_rules.specs.Session.{first_line, bytes_left, ended, line_of, line_played, played, answers, piece_lines, piece_after, piece_text}
@@ -41,7 +41,7 @@ module _ (script : List ℕ) (cut : read_from script ≡ script) (s : Session) w
   unfolding ended most_bytes
   ended_past h = stays (rw (lt-ltb 65535 s.lines h) (or-true (leb (length (read_from script)) s.at)))
 
-  pub goes_on : s.at < length script → s.lines ≤ 65535 → (line : Line) → line ≡ reading_of (first_line (drop s.at script)) →
+  pub goes_on : s.at < length script → s.lines ≤ 65535 → (line : Option Call) → line ≡ reading_of (first_line (drop s.at script)) →
       (end : ℕ) → end ≡ s.at + length (first_line (drop s.at script)) → (spi : Module) → spi ≡ line_after s.spi line →
       {before after : List ℕ} {place next : ℕ} → Written (answer_line (s.lines + 1) s.spi line) before place after next →
       PlaysLine script s (record { spi = spi; lines = s.lines + 1; at = end + 1 }) before place after next
@@ -74,17 +74,6 @@ pub record Playing (n : ℕ) (script : List ℕ) (from : Session) (empty : List 
   pub session : played (n - k) script s ≡ played n script from
   pub buffer : put out w (answers (n - k) script s) ≡ put empty 0 (answers n script from)
   pub behind : w + length (answers (n - k) script s) ≡ length (answers n script from)
-
-pub playing_starts : (n : ℕ) (script : List ℕ) (from : Session) (empty : List ℕ) → Playing n script from empty 0 from 0 empty
-playing_starts n script from empty =
-    let all : n - 0 ≡ n = omega arith in
-    record {
-      within = omega arith;
-      room = omega arith;
-      session = ap (λ (k : ℕ). played k script from) all;
-      buffer = ap (λ (k : ℕ). put empty 0 (answers k script from)) all;
-      behind = omega (arith, ap (λ (k : ℕ). length (answers k script from)) all);
-    }
 
 module _ {n : ℕ} {script : List ℕ} {from : Session} {empty : List ℕ} {k : ℕ} {s : Session} {w : ℕ} {out : List ℕ}
     (h : Playing n script from empty k s w out) where

@@ -9,11 +9,10 @@
 --     first_line_taken            the first line is what the bytes begin with
 --     no_form, too_long_lem           a line of a length that no form has, as one of more than 16 bytes, cannot be read
 -- Assumes nothing.
-use Rattle.std.specs.Prelude.{◌+◌, ◌≤◌, ◌<◌, ◌&&◌, ◌∷◌, ◌++◌, ◌≡◌}
+use Rattle.std.specs.Prelude.{◌+◌, ◌≤◌, ◌<◌, ◌&&◌, ◌∷◌, ◌++◌, ◌≡◌, None}
 use Rattle.laws.proofs.Common.{ℕ, zero, suc, Bool, true, false, not, List, [], refl, ap}
 use Rattle.laws.proofs.Common.{◌∙◌, suc-add, arith, not-true, eqb, length, take, drop, length-take, take_all, take_at}
 use Rattle.laws.proofs.Common.{when◌then◌else◌, if_keeps, if_false, and-false, and_left, and_right}
-use Rattle.script_rules.specs.declared.Line.TheVariants.{Unreadable}
 use Rattle.script_rules.specs.Script.{lf, most_bytes, read_from, longer, lines_of, Place, fits_place, has_form, write_form, read_form, tick_form, tick_ss_form, pin_form, clear_form, reading_of}
 use Rattle.script_rules.specs.Session.{first_line}
 
@@ -123,7 +122,7 @@ not_fits (p ∷ ps) (b ∷ bs) h = and-false (fits_place p b) (has_form ps bs) (
 
 -- A line of a length that no form has cannot be read.
 pub no_form : (line : List ℕ) → (length line ≡ 8 → ⊥) → (length line ≡ 3 → ⊥) → (length line ≡ 5 → ⊥) → (length line ≡ 7 → ⊥) →
-    (length line ≡ 1 → ⊥) → reading_of line ≡ Unreadable
+    (length line ≡ 1 → ⊥) → reading_of line ≡ None
 unfolding reading_of write_form read_form tick_form tick_ss_form pin_form clear_form when◌then◌else◌
 no_form line w r t p c =
     rw (
@@ -135,5 +134,5 @@ no_form line w r t p c =
       not_fits clear_form line c,
     )
 
-pub too_long_lem : (line : List ℕ) → 16 < length line → reading_of line ≡ Unreadable
+pub too_long_lem : (line : List ℕ) → 16 < length line → reading_of line ≡ None
 too_long_lem line h = no_form line (λ e. omega arith) (λ e. omega arith) (λ e. omega arith) (λ e. omega arith) (λ e. omega arith)

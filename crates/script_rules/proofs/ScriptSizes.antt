@@ -5,7 +5,7 @@
 --     answers_fit         the answers to a number of lines take at most 16 bytes for each
 --     piece_fits_lem          those of a piece fit a buffer of 4,096 bytes
 -- Assumes nothing.
-use Rattle.std.specs.Prelude.{◌+◌, ◌*◌, ◌/◌, ◌^◌, ◌≤◌, ◌<◌, ◌≡◌}
+use Rattle.std.specs.Prelude.{◌+◌, ◌*◌, ◌/◌, ◌^◌, ◌≤◌, ◌<◌, ◌≡◌, Option, Some, None}
 use Rattle.laws.proofs.Common.{ℕ, zero, suc, false, List, pow-suc, arith, ltb-false, leb}
 use Rattle.laws.proofs.Common.{ltb, length, length-append, if_keeps, or_right}
 use Rattle.module_rules.proofs.Types.{Module, Refusal, NoSuchRegister, Disabled, Enabled, TransmitFull, ReceiveEmpty}
@@ -16,8 +16,6 @@ use Rattle.module_rules.proofs.Types.{Undriven}
 use Rattle.module_rules.specs.Refusals.{number_of}
 use Rattle.module_rules.specs.Calls.{ss_of}
 use Rattle.script_rules.specs.declared.Session.{Session}
-use Rattle.script_rules.specs.declared.Line.{Line}
-use Rattle.script_rules.specs.declared.Line.TheVariants.{Unreadable, Asked}
 use Rattle.script_rules.specs.Script.{bytes, most_bytes, read_from, reading_of, decimal_in, decimal_of, four_hex_of, refused_text, ok_text, ss_text, pin_text, edge_text, done_text, answer_text, line_text, answer_line}
 use Rattle.script_rules.specs.Session.{ended, line_of, line_played, answers, piece_lines, piece_text}
 
@@ -89,13 +87,13 @@ answer_length c NoEdge m = omega arith
 answer_length c Edge m = edge_length m
 
 -- What stands behind a line's number has at most seven bytes.
-pub line_text_length : (m : Module) (l : Line) → length (line_text m l) ≤ 7
+pub line_text_length : (m : Module) (l : Option Call) → length (line_text m l) ≤ 7
 unfolding line_text
-line_text_length m Unreadable = omega (arith, refused_length UnreadableLine)
-line_text_length m (Asked c) = answer_length c _ _
+line_text_length m None = omega (arith, refused_length UnreadableLine)
+line_text_length m (Some c) = answer_length c _ _
 
 -- Five digits, a space, seven bytes and LF are no more than 16 bytes.
-pub answer_line_fits : (k : ℕ) (m : Module) (l : Line) → k ≤ 65536 → length (answer_line k m l) ≤ 16
+pub answer_line_fits : (k : ℕ) (m : Module) (l : Option Call) → k ≤ 65536 → length (answer_line k m l) ≤ 16
 unfolding answer_line decimal_of
 answer_line_fits k m l h =
     simp length-append (omega (arith, decimal_length 10 5 k (omega arith) (omega arith), line_text_length m l))

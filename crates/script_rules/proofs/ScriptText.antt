@@ -5,7 +5,7 @@
 --     every_line_lem          the output has as many lines as the script
 --     in_order_lem            the k-th line of the output answers the k-th line of the script
 -- Assumes nothing.
-use Rattle.std.specs.Prelude.{◌+◌, ◌/◌, ◌%◌, ◌<◌, ◌∷◌, ◌++◌, ◌≡◌}
+use Rattle.std.specs.Prelude.{◌+◌, ◌/◌, ◌%◌, ◌<◌, ◌∷◌, ◌++◌, ◌≡◌, Option, Some, None}
 use Rattle.laws.proofs.Common.{ℕ, zero, suc, Bool, true, false, List, [], append_assoc}
 use Rattle.laws.proofs.Common.{refl, ap, ◌∙◌, zero-add, arith, ne_eqb, eqb, ltb, length, take, get_or, when◌then◌else◌, if_keeps}
 use Rattle.laws.proofs.Common.{by_test}
@@ -14,8 +14,6 @@ use Rattle.module_rules.proofs.Types.{Module, Refusal, UnreadableLine, Answer, R
 use Rattle.module_rules.proofs.Types.{Write, Tick, Pin, ClockStep, Clear, Output, Low, High, Undriven}
 use Rattle.module_rules.specs.Refusals.{number_of}
 use Rattle.module_rules.specs.Calls.{powered_up, after_calls, interrupt_of, sck_of, sdo_of, ss_of}
-use Rattle.script_rules.specs.declared.Line.{Line}
-use Rattle.script_rules.specs.declared.Line.TheVariants.{Unreadable, Asked}
 use Rattle.script_rules.specs.Script.{bytes, lf, space, read_from, lines_of, reading_of, decimal_in, decimal_of, hex_of, four_hex_of, level_digit, sdo_letter, refused_text, ok_text, ss_text, pin_text, edge_text, done_text, answer_text, line_text, line_after, answer_line, answers_from, asked, lines_calls, script_output}
 use Rattle.script_rules.proofs.ScriptLines.{NoLf, no_lf, no_lf_append, lines_end}
 
@@ -81,13 +79,13 @@ answer_without_lf c NoEdge m = (refl, tt)
 answer_without_lf c Edge m = (level_is_no_lf (sck_of m), (refl, pin_without_lf m))
 
 -- What stands behind a line's number has no LF.
-pub line_without_lf : (m : Module) (l : Line) → NoLf (line_text m l)
+pub line_without_lf : (m : Module) (l : Option Call) → NoLf (line_text m l)
 unfolding line_text
-line_without_lf m Unreadable = refused_without_lf UnreadableLine
-line_without_lf m (Asked c) = answer_without_lf c _ _
+line_without_lf m None = refused_without_lf UnreadableLine
+line_without_lf m (Some c) = answer_without_lf c _ _
 
 -- An answer is one line of the output.
-pub answer_is_a_line : (k : ℕ) (m : Module) (l : Line) (rest : List ℕ) →
+pub answer_is_a_line : (k : ℕ) (m : Module) (l : Option Call) (rest : List ℕ) →
     lines_of (answer_line k m l ++ rest) ≡ (decimal_of k ++ (space ∷ line_text m l)) ∷ lines_of rest
 unfolding answer_line decimal_of
 answer_is_a_line k m l rest =
@@ -97,10 +95,10 @@ answer_is_a_line k m l rest =
     (no_lf_append (decimal_of k) _ (decimal_without_lf 10 k) (refl, line_without_lf m l))
 
 -- What a line does is what the calls that it asks for do.
-pub call_of_line : (m : Module) (l : Line) (cs : List Call) → after_calls m (asked l ++ cs) ≡ after_calls (line_after m l) cs
+pub call_of_line : (m : Module) (l : Option Call) (cs : List Call) → after_calls m (asked l ++ cs) ≡ after_calls (line_after m l) cs
 unfolding asked line_after
-call_of_line m Unreadable cs = refl
-call_of_line m (Asked c) cs = refl
+call_of_line m None cs = refl
+call_of_line m (Some c) cs = refl
 
 -- The answers to some lines are as many lines.
 answers_every_line : (m : Module) (answered : ℕ) (lines : List (List ℕ)) →

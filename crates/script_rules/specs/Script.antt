@@ -1,6 +1,6 @@
 -- Document 01, "The script program": what a script's bytes ask for, and the bytes that answer them. A byte is a number;
 -- `code "W"` is the number of the letter W in ASCII.
-use Rattle.std.specs.Prelude.{ℕ, zero, suc, ◌+◌, ◌*◌, ◌-◌, ◌/◌, ◌%◌, Bool, true, false, ◌&&◌, ◌||◌, List, [], ◌∷◌, ◌++◌, eqb, leb, ltb, take, get_or}
+use Rattle.std.specs.Prelude.{ℕ, zero, suc, ◌+◌, ◌*◌, ◌-◌, ◌/◌, ◌%◌, Bool, true, false, ◌&&◌, ◌||◌, List, [], ◌∷◌, ◌++◌, eqb, leb, ltb, take, get_or, Option, Some, None}
 use Prim.Native.Char.{code}
 use Prim.Native.String.{String, [] as no_more, ◌∷◌ as ◌then◌}
 use Rattle.laws.specs.Choice.{when◌then◌else◌}
@@ -15,8 +15,6 @@ use Rattle.module_types.specs.declared.Output.{Output}
 use Rattle.module_types.specs.declared.Output.TheVariants.{Low, High, Undriven}
 use Rattle.module_rules.specs.Refusals.{number_of}
 use Rattle.module_rules.specs.Calls.{powered_up, perform_of, after_calls, interrupt_of, sck_of, sdo_of, ss_of}
-use Rattle.script_rules.specs.declared.Line.{Line}
-use Rattle.script_rules.specs.declared.Line.TheVariants.{Unreadable, Asked}
 
 -- The bytes of a text.
 unfoldable pub bytes : String → List ℕ
@@ -116,17 +114,17 @@ level_value b = eqb b (code "1")
 abbrev pub at : List ℕ → ℕ → ℕ
 at line k = get_or line k 0
 
--- The call that a line asks for; a T line that leaves SS out says 0. Anything else, an empty line too, cannot be read. No line
+-- The call that a line asks for; a T line that leaves SS out says 0. Anything else, an empty line too, cannot be read: None. No line
 -- of more than 8 bytes has one of the forms, so none of more than 16 can be read.
-unfoldable pub reading_of : List ℕ → Line
+unfoldable pub reading_of : List ℕ → Option Call
 reading_of line =
-    when has_form write_form line then Asked (Write (digit_value (at line 2)) (four_hex_value (at line 4) (at line 5) (at line 6) (at line 7)))
-    else when has_form read_form line then Asked (Read (digit_value (at line 2)))
-    else when has_form tick_form line then Asked (Tick (level_value (at line 2)) false)
-    else when has_form tick_ss_form line then Asked (Tick (level_value (at line 2)) (level_value (at line 4)))
-    else when has_form pin_form line then Asked (Pin (level_value (at line 2)) (level_value (at line 4)) (level_value (at line 6)))
-    else when has_form clear_form line then Asked Clear
-    else Unreadable
+    when has_form write_form line then Some (Write (digit_value (at line 2)) (four_hex_value (at line 4) (at line 5) (at line 6) (at line 7)))
+    else when has_form read_form line then Some (Read (digit_value (at line 2)))
+    else when has_form tick_form line then Some (Tick (level_value (at line 2)) false)
+    else when has_form tick_ss_form line then Some (Tick (level_value (at line 2)) (level_value (at line 4)))
+    else when has_form pin_form line then Some (Pin (level_value (at line 2)) (level_value (at line 4)) (level_value (at line 6)))
+    else when has_form clear_form line then Some Clear
+    else None
 
 -- Answering a line.
 
@@ -196,17 +194,17 @@ answer_text c NoEdge m = bytes "N"
 answer_text c Edge m = edge_text m
 
 -- What stands behind the line number. A line that cannot be read gives 9.
-unfoldable pub line_text : Module → Line → List ℕ
-line_text m Unreadable = refused_text UnreadableLine
-line_text m (Asked c) = answer_text c (perform_of m c).answer (perform_of m c).after
+unfoldable pub line_text : Module → Option Call → List ℕ
+line_text m None = refused_text UnreadableLine
+line_text m (Some c) = answer_text c (perform_of m c).answer (perform_of m c).after
 
 -- The module after a line: a line that cannot be read does nothing, and the script goes on.
-unfoldable pub line_after : Module → Line → Module
-line_after m Unreadable = m
-line_after m (Asked c) = (perform_of m c).after
+unfoldable pub line_after : Module → Option Call → Module
+line_after m None = m
+line_after m (Some c) = (perform_of m c).after
 
 -- The whole answer to a line: its number in decimal, a space, what it tells, and LF.
-unfoldable pub answer_line : ℕ → Module → Line → List ℕ
+unfoldable pub answer_line : ℕ → Module → Option Call → List ℕ
 answer_line number m line = decimal_of number ++ (space ∷ (line_text m line ++ (lf ∷ [])))
 
 -- The answers to some lines, in order, each numbered one more than those before it.
@@ -217,9 +215,9 @@ answers_from m answered (line ∷ lines) =
     ++ answers_from (line_after m (reading_of line)) (answered + 1) lines
 
 -- The calls that some lines ask for, in order: none for a line that cannot be read.
-unfoldable pub asked : Line → List Call
-asked Unreadable = []
-asked (Asked c) = c ∷ []
+unfoldable pub asked : Option Call → List Call
+asked None = []
+asked (Some c) = c ∷ []
 
 unfoldable pub lines_calls : List (List ℕ) → List Call
 lines_calls [] = []

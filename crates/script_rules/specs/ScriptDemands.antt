@@ -1,8 +1,7 @@
 -- The customer's demands on the script program. The record Scripts holds every statement, and
 -- proofs/ScriptDemandsHold.antt proves it.
-use Rattle.std.specs.Prelude.{ℕ, ◌+◌, ◌<◌, ◌≤◌, true, List, [], ◌∷◌, ◌++◌, ◌≡◌, length, take, get_or}
+use Rattle.std.specs.Prelude.{ℕ, ◌+◌, ◌<◌, ◌≤◌, true, List, [], ◌∷◌, ◌++◌, ◌≡◌, length, take, get_or, None}
 use Rattle.module_rules.specs.Calls.{powered_up, after_calls}
-use Rattle.script_rules.specs.declared.Line.TheVariants.{Unreadable}
 use Rattle.script_rules.specs.declared.Session.{Session}
 use Rattle.script_rules.specs.Script.{space, read_from, lines_of, reading_of, decimal_of, line_text, script_output, script_calls, lines_calls}
 use Rattle.script_rules.specs.Session.{started, piece_after, piece_text, pieces, pieces_text}
@@ -24,7 +23,7 @@ pub record Scripts : Type 0 where
       ++ (space
       ∷ line_text (after_calls powered_up (lines_calls (take k (lines_of (read_from input)))))
       (reading_of (get_or (lines_of (read_from input)) k [])))
-  pub too_long : (line : List ℕ) → 16 < length line → reading_of line ≡ Unreadable
+  pub too_long : (line : List ℕ) → 16 < length line → reading_of line ≡ None
   pub in_pieces : (input : List ℕ) → pieces_text 256 input started ≡ script_output input
   pub ends_there : (input : List ℕ) → (pieces 256 input started).spi ≡ after_calls powered_up (script_calls input)
   pub piece_fits : (input : List ℕ) (s : Session) → length (piece_text input s) ≤ 4096

@@ -2,14 +2,7 @@
 // is in proofs/.
 #![tactic(auto)]
 
-use module_types::{Call, Module};
-
-// A line of a script: it cannot be read, or it asks for a call.
-#[derive(Clone, Copy)]
-pub enum Line {
-    Unreadable,
-    Asked(Call),
-}
+use module_types::Module;
 
 // Where a script that is being played stands: the lines answered, and the place of the next line.
 #[derive(Clone, Copy)]

@@ -1,6 +1,6 @@
 -- A waveform in the form of a VCD file (IEEE 1364, value change dump): what it shows of a module, and the bytes of a step. A level
 -- is the byte that stands for it in the file.
-use Rattle.std.specs.Prelude.{ℕ, zero, suc, ◌+◌, ◌/◌, ◌%◌, Bool, List, [], ◌∷◌, ◌++◌, eqb, ltb}
+use Rattle.std.specs.Prelude.{ℕ, zero, suc, ◌+◌, ◌/◌, ◌%◌, Bool, List, [], ◌∷◌, ◌++◌, eqb, ltb, Option, Some, None}
 use Prim.Native.Char.{code}
 use Rattle.laws.specs.Choice.{when◌then◌else◌}
 use Rattle.module_types.specs.declared.Module.{Module}
@@ -13,8 +13,6 @@ use Rattle.module_types.specs.declared.Call.TheVariants.{Read, Write, Tick, Pin,
 use Rattle.module_types.specs.declared.Output.{Output}
 use Rattle.module_types.specs.declared.Output.TheVariants.{Low, High, Undriven}
 use Rattle.module_rules.specs.Calls.{perform_of, interrupt_of, sck_of, sdo_of, ss_of}
-use Rattle.script_rules.specs.declared.Line.{Line}
-use Rattle.script_rules.specs.declared.Line.TheVariants.{Unreadable, Asked}
 use Rattle.script_rules.specs.Script.{bytes, lf, space, decimal_of, level_digit}
 use Rattle.wave_steps.specs.declared.Shown.{Shown}
 
@@ -79,9 +77,9 @@ sdi_after sdi c NoEdge = brought sdi c
 sdi_after sdi c Edge = brought sdi c
 
 -- What is shown after a line of a script, with the byte of SDI before it: a line that cannot be read does nothing.
-unfoldable pub line_shown : ℕ → Module → Line → Shown
-line_shown sdi m Unreadable = shown_of m sdi
-line_shown sdi m (Asked c) = shown_of (perform_of m c).after (sdi_after sdi c (perform_of m c).answer)
+unfoldable pub line_shown : ℕ → Module → Option Call → Shown
+line_shown sdi m None = shown_of m sdi
+line_shown sdi m (Some c) = shown_of (perform_of m c).after (sdi_after sdi c (perform_of m c).answer)
 
 -- Before the first step: every value is one that no module at power-up has, so that all are written. SDI is not known then.
 unfoldable pub unshown : Shown

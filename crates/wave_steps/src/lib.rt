@@ -10,10 +10,10 @@ ghost use Rattle.module_memory.specs.Memory.{module_in};
 ghost use Rattle.wave_steps.specs.Wave.{level_if, driven_or, leaving_of, arriving_of, shown_of, brought, sdi_after, line_shown, value_of, level_change, number_change, level_changes, number_changes, changes, step_text, head_text, unshown, unknown};
 
 use module_types::{Answer, Call, Output, Shift};
-use script_rules::Line;
+use script_digits::{Text, level_letter};
 
 // What a waveform shows of a module. A level is its byte in the file: 0, 1, z where nobody drives it, x before it is known. A word that
-// is not there is 65,536.
+// is not there is 65,536, as leaving_of and arriving_of of specs/Wave.antt say, and unshown there has 65,537, which no module shows.
 #[derive(Clone, Copy)]
 pub struct Shown {
     pub sck: u8,
@@ -28,7 +28,7 @@ pub struct Shown {
     pub arriving: u32,
 }
 
-// What a step returns: what is shown after it, and how many bytes were written.
+// What a step returns: what is shown after it, and how many bytes were written, of which the caller, whose buffer it is, takes the slice.
 #[derive(Clone, Copy)]
 pub struct Stepped {
     pub shown: Shown,
@@ -37,27 +37,14 @@ pub struct Stepped {
 
 // ---- what is shown
 
-// A level's byte.
-fn level(high: bool) -> u8
-    ensures { result ≡ level_digit high }
-{
-    if high {
-        return b'1';
-    }
-    b'0'
-}
-
 // The byte of a level that an enabled module makes or sees.
 fn level_if(enabled: bool, high: bool) -> u8
     ensures { result ≡ level_if enabled high }
 {
-    if enabled {
-        return level(high);
-    }
-    b'z'
+    if enabled { level_letter(high) } else { b'z' }
 }
 
-// The byte of a pin that the module may drive.
+// The byte of a pin that the module may drive. The script's sdo_letter, which always writes Z, stands for a definition of its own.
 fn driven_or(other: u8, pin: Output) -> u8
     ensures { result ≡ driven_or other pin }
 {
@@ -84,8 +71,7 @@ fn arriving(shift: Shift) -> u32
     ensures { result ≡ arriving_of shift }
 {
     match shift {
-        Shift::Free => 65536,
-        Shift::Loaded(_) => 65536,
+        Shift::Free | Shift::Loaded(_) => 65536,
         Shift::Begun(p) => p.received as u32,
     }
 }
@@ -101,10 +87,10 @@ fn look(w: &[u16; 96], sdi: u8) -> Shown
     Shown {
         sck: level_if(s.spien, pins.sck),
         sdo: driven_or(b'z', module_calls::sdo(w)),
-        sdi: sdi,
+        sdi,
         ss: driven_or(seen, module_calls::ss(w)),
-        interrupt: level(module_memory_looks::interrupt_in(w)),
-        spien: level(s.spien),
+        interrupt: level_letter(module_memory_looks::interrupt_in(w)),
+        spien: level_letter(s.spien),
         waiting: module_memory_looks::waiting_in(w),
         unread: module_memory_looks::unread_in(w),
         leaving: leaving(shift),
@@ -117,12 +103,10 @@ fn brought_by(sdi: u8, c: Call) -> u8
     ensures { result ≡ brought sdi c }
 {
     match c {
-        Call::Tick(high, _) => level(high),
-        Call::Pin(_, high, _) => level(high),
-        Call::ClockStep(_, high, _) => level(high),
-        Call::Read(_) => sdi,
-        Call::Write(_, _) => sdi,
-        Call::Clear => sdi,
+        Call::Tick(high, _) | Call::Pin(_, high, _) | Call::ClockStep(_, high, _) => level_letter(
+            high,
+        ),
+        Call::Read(_) | Call::Write(_, _) | Call::Clear => sdi,
     }
 }
 
@@ -131,21 +115,18 @@ fn sdi_after(sdi: u8, c: Call, a: Answer) -> u8
 {
     match a {
         Answer::Refused(_) => sdi,
-        Answer::Done => brought_by(sdi, c),
-        Answer::Value(_) => brought_by(sdi, c),
-        Answer::NoEdge => brought_by(sdi, c),
-        Answer::Edge => brought_by(sdi, c),
+        Answer::Done | Answer::Value(_) | Answer::NoEdge | Answer::Edge => brought_by(sdi, c),
     }
 }
 
 // A line is played, and what is shown after it.
-fn play(w: &mut [u16; 96], sdi: u8, line: Line) -> Shown
+fn play(w: &mut [u16; 96], sdi: u8, line: Option<Call>) -> Shown
     ensures w_after { module_in w.new ≡ line_after (module_in w.old) line }
     ensures value { result ≡ line_shown sdi (module_in w.old) line }
 {
     match line {
-        Line::Unreadable => look(w, sdi),
-        Line::Asked(c) => {
+        None => look(w, sdi),
+        Some(c) => {
             let answer = module_calls::perform(w, c);
             let after = sdi_after(sdi, c, answer);
             look(w, after)
@@ -155,102 +136,102 @@ fn play(w: &mut [u16; 96], sdi: u8, line: Line) -> Shown
 
 // ---- the bytes of a step
 
-// One byte more.
-fn put(out: &mut [u8; 128], at: usize, b: u8) -> usize
-    requires { at < 128 }
-    ensures { Written (b ∷ []) out.old at out.new result }
-{
-    out[at] = b;
-    at + 1
-}
-
 // A number, or z where there is none.
-fn put_value(out: &mut [u8; 128], at: usize, places: u8, n: u32) -> usize
-    requires { (at + 16 ≤ 128) × (places ≤ 16) }
-    ensures written { Written (value_of places n) out.old at out.new result }
-    ensures upper_bound { result ≤ at + 16 }
+fn put_value(text: &mut Text<128>, places: u8, n: u32)
+    requires { (text.old.end + 16 ≤ 128) × (places ≤ 16) }
+    ensures same_buffer { text.new.bytes.ghost_name ≡ text.old.bytes.ghost_name }
+    ensures written { Written (value_of places n) text.old.bytes.now text.old.end text.new.bytes.now text.new.end }
+    ensures upper_bound { text.new.end ≤ text.old.end + 16 }
 {
     if 65535 < n {
-        return put(out, at, b'z');
+        text.put(b'z')
+    } else {
+        text.put_binary(places, n)
     }
-    script_digits::put_binary(out, at, places, n)
 }
 
-// A level, if it is another than before.
-fn put_level(out: &mut [u8; 128], at: usize, name: u8, old: u8, new: u8) -> usize
-    requires { at + 3 ≤ 128 }
-    ensures written { Written (level_change name old new) out.old at out.new result }
-    ensures upper_bound { result ≤ at + 3 }
+// A level, if it is another than before. Old and new stand side by side, as level_change of specs/ has them.
+fn put_level(text: &mut Text<128>, name: u8, old: u8, new: u8)
+    requires { text.old.end + 3 ≤ 128 }
+    ensures same_buffer { text.new.bytes.ghost_name ≡ text.old.bytes.ghost_name }
+    ensures written { Written (level_change name old new) text.old.bytes.now text.old.end text.new.bytes.now text.new.end }
+    ensures upper_bound { text.new.end ≤ text.old.end + 3 }
 {
     if old == new {
-        return at;
+        return;
     }
-    let second = put(out, at, new);
-    let third = put(out, second, name);
-    put(out, third, b'\n')
+    text.put(new);
+    text.put(name);
+    text.put(b'\n');
 }
 
 // A number, if it is another than before.
-fn put_number(out: &mut [u8; 128], at: usize, name: u8, places: u8, old: u32, new: u32) -> usize
-    requires { (at + 20 ≤ 128) × (places ≤ 16) }
-    ensures written { Written (number_change name places old new) out.old at out.new result }
-    ensures upper_bound { result ≤ at + 20 }
+fn put_number(text: &mut Text<128>, name: u8, places: u8, old: u32, new: u32)
+    requires { (text.old.end + 20 ≤ 128) × (places ≤ 16) }
+    ensures same_buffer { text.new.bytes.ghost_name ≡ text.old.bytes.ghost_name }
+    ensures written { Written (number_change name places old new) text.old.bytes.now text.old.end text.new.bytes.now text.new.end }
+    ensures upper_bound { text.new.end ≤ text.old.end + 20 }
 {
     if old == new {
-        return at;
+        return;
     }
-    let second = put(out, at, b'b');
-    let third = put_value(out, second, places, new);
-    let fourth = put(out, third, b' ');
-    let fifth = put(out, fourth, name);
-    put(out, fifth, b'\n')
+    text.put(b'b');
+    put_value(text, places, new);
+    text.put(b' ');
+    text.put(name);
+    text.put(b'\n');
 }
 
 // The levels that are others than before.
-fn put_levels(out: &mut [u8; 128], at: usize, old: Shown, new: Shown) -> usize
-    requires { at + 18 ≤ 128 }
-    ensures written { Written (level_changes old new) out.old at out.new result }
-    ensures upper_bound { result ≤ at + 18 }
+fn put_levels(text: &mut Text<128>, old: Shown, new: Shown)
+    requires { text.old.end + 18 ≤ 128 }
+    ensures same_buffer { text.new.bytes.ghost_name ≡ text.old.bytes.ghost_name }
+    ensures written { Written (level_changes old new) text.old.bytes.now text.old.end text.new.bytes.now text.new.end }
+    ensures upper_bound { text.new.end ≤ text.old.end + 18 }
 {
-    let second = put_level(out, at, b'c', old.sck, new.sck);
-    let third = put_level(out, second, b'o', old.sdo, new.sdo);
-    let fourth = put_level(out, third, b'i', old.sdi, new.sdi);
-    let fifth = put_level(out, fourth, b's', old.ss, new.ss);
-    let sixth = put_level(out, fifth, b'f', old.interrupt, new.interrupt);
-    put_level(out, sixth, b'e', old.spien, new.spien)
+    put_level(text, b'c', old.sck, new.sck);
+    put_level(text, b'o', old.sdo, new.sdo);
+    put_level(text, b'i', old.sdi, new.sdi);
+    put_level(text, b's', old.ss, new.ss);
+    put_level(text, b'f', old.interrupt, new.interrupt);
+    put_level(text, b'e', old.spien, new.spien);
 }
 
 // The numbers that are others than before.
-fn put_numbers(out: &mut [u8; 128], at: usize, old: Shown, new: Shown) -> usize
-    requires { at + 80 ≤ 128 }
-    ensures written { Written (number_changes old new) out.old at out.new result }
-    ensures upper_bound { result ≤ at + 80 }
+fn put_numbers(text: &mut Text<128>, old: Shown, new: Shown)
+    requires { text.old.end + 80 ≤ 128 }
+    ensures same_buffer { text.new.bytes.ghost_name ≡ text.old.bytes.ghost_name }
+    ensures written { Written (number_changes old new) text.old.bytes.now text.old.end text.new.bytes.now text.new.end }
+    ensures upper_bound { text.new.end ≤ text.old.end + 80 }
 {
-    let second = put_number(out, at, b'w', 5, old.waiting as u32, new.waiting as u32);
-    let third = put_number(out, second, b'u', 5, old.unread as u32, new.unread as u32);
-    let fourth = put_number(out, third, b'O', 16, old.leaving, new.leaving);
-    put_number(out, fourth, b'I', 16, old.arriving, new.arriving)
+    put_number(text, b'w', 5, old.waiting as u32, new.waiting as u32);
+    put_number(text, b'u', 5, old.unread as u32, new.unread as u32);
+    put_number(text, b'O', 16, old.leaving, new.leaving);
+    put_number(text, b'I', 16, old.arriving, new.arriving);
 }
 
 // All that is another than before.
-fn put_changes(out: &mut [u8; 128], at: usize, old: Shown, new: Shown) -> usize
-    requires { at + 98 ≤ 128 }
-    ensures written { Written (changes old new) out.old at out.new result }
-    ensures upper_bound { result ≤ at + 98 }
+fn put_changes(text: &mut Text<128>, old: Shown, new: Shown)
+    requires { text.old.end + 98 ≤ 128 }
+    ensures same_buffer { text.new.bytes.ghost_name ≡ text.old.bytes.ghost_name }
+    ensures written { Written (changes old new) text.old.bytes.now text.old.end text.new.bytes.now text.new.end }
+    ensures upper_bound { text.new.end ≤ text.old.end + 98 }
 {
-    let second = put_levels(out, at, old, new);
-    put_numbers(out, second, old, new)
+    put_levels(text, old, new);
+    put_numbers(text, old, new);
 }
 
 // A step: its time, and all that is another than before.
-fn put_step(out: &mut [u8; 128], time: u32, old: Shown, new: Shown) -> usize
-    ensures written { Written (step_text time old new) out.old 0 out.new result }
-    ensures upper_bound { result ≤ 128 }
+fn put_step(text: &mut Text<128>, time: u32, old: Shown, new: Shown)
+    requires { text.old.end ≡ 0 }
+    ensures same_buffer { text.new.bytes.ghost_name ≡ text.old.bytes.ghost_name }
+    ensures written { Written (step_text time old new) text.old.bytes.now text.old.end text.new.bytes.now text.new.end }
+    ensures upper_bound { text.new.end ≤ 128 }
 {
-    let second = put(out, 0, b'#');
-    let third = script_digits::put_decimal(out, second, time);
-    let fourth = put(out, third, b'\n');
-    put_changes(out, fourth, old, new)
+    text.put(b'#');
+    text.put_decimal(time);
+    text.put(b'\n');
+    put_changes(text, old, new);
 }
 
 // ---- the calls
@@ -289,19 +270,32 @@ pub fn start(w: &mut [u16; 96], out: &mut [u8; 128]) -> Stepped
 {
     module_memory_stores::power_up(w);
     let shown = look(w, b'x');
-    let old = nothing();
-    let written = put_changes(out, 0, old, shown);
-    Stepped { shown, written }
+    let mut text = Text { bytes: out, end: 0 };
+    put_changes(&mut text, nothing(), shown);
+    Stepped {
+        shown,
+        written: text.end,
+    }
 }
 
 // A line is played at a time. The bytes are those of the time and of what is another than before.
-pub fn step(w: &mut [u16; 96], line: Line, before: Shown, time: u32, out: &mut [u8; 128]) -> Stepped
+pub fn step(
+    w: &mut [u16; 96],
+    line: Option<Call>,
+    before: Shown,
+    time: u32,
+    out: &mut [u8; 128],
+) -> Stepped
     ensures w_after { module_in w.new ≡ line_after (module_in w.old) line }
     ensures shown_value { result.shown ≡ line_shown before.sdi (module_in w.old) line }
     ensures written { Written (step_text time before result.shown) out.old 0 out.new result.written }
     ensures written_bound { (result.written ≤ 128) × (length out.new ≡ length out.old) }
 {
     let shown = play(w, before.sdi, line);
-    let written = put_step(out, time, before, shown);
-    Stepped { shown, written }
+    let mut text = Text { bytes: out, end: 0 };
+    put_step(&mut text, time, before, shown);
+    Stepped {
+        shown,
+        written: text.end,
+    }
 }

@@ -1,11 +1,10 @@
--- Each step goes on behind its line: the lines from there on make the calls that are left.
-use Rattle.std.specs.Prelude.{◌-◌, ◌+◌, length}
+-- The lines that are left end where the script does.
+use Rattle.std.specs.Prelude.{◌≡◌}
 use Rattle.module_memory.specs.Memory.{module_in}
-use Rattle.run_wave.proofs.Lines.{Drawn}
+use Rattle.script_rules.specs.Script.{script_end}
+use Rattle.script_lines.specs.Lines.{lines_left}
+use Rattle.run_wave.proofs.Lines.{lines_end}
 use Rattle.run_wave.proofs.write.Given as goal
 
-abbrev pub invariant-loop-at : goal.invariant-loop-at
-invariant-loop-at g l = Drawn l.script l.at l.time (module_in l.w)
-
-abbrev pub decreases-loop-at : goal.decreases-loop-at
-decreases-loop-at g l = length l.script + 1 - l.at
+abbrev pub invariant-loop-line : goal.invariant-loop-line
+invariant-loop-line g l = lines_end (module_in l.w) (lines_left l.line-iterator.script.now l.line-iterator.at) ≡ script_end l.script

@@ -1,11 +1,7 @@
-use Rattle.std.specs.Prelude.{◌≤◌, ◌≡◌}
+use Rattle.std.specs.Prelude.{◌≡◌}
 use Rattle.script_rules.specs.Texts.{put}
 use Rattle.script_digits.specs.Digits.{digits_of}
 use Rattle.script_digits.proofs.put_digits.Given as goal
 
 abbrev pub invariant-loop-left : goal.invariant-loop-left
-invariant-loop-left l =
-    (l.left ≤ l.places) × (put l.out l.at (digits_of l.base l.left l.rest) ≡ put l.initial.out l.at (digits_of l.base l.places l.n))
-
-abbrev pub decreases-loop-left : goal.decreases-loop-left
-decreases-loop-left l = l.left
+invariant-loop-left l = put l.out l.at (digits_of l.base l.left l.rest) ≡ put l.initial.out l.at (digits_of l.base l.places l.n)

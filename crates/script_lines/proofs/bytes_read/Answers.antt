@@ -3,10 +3,6 @@ use Rattle.laws.proofs.Common.{arith, length-take}
 use Rattle.script_rules.specs.Script.{most_bytes, read_from}
 use Rattle.script_lines.proofs.bytes_read.Goals as goal
 
-pub returns-then-script-le65535 : goal.returns-then-script-le65535
-unfolding most_bytes read_from
-returns-then-script-le65535 c = omega (arith, length-take most_bytes c.args.script.now)
-
 pub returns : goal.returns
 unfolding most_bytes read_from
 returns c = omega (arith, length-take most_bytes c.args.script.now)

@@ -8,6 +8,10 @@ pub overflow_sub-result : goal.overflow_sub-result
 unfolding hex_value
 overflow_sub-result c = ⊎_elim (λ w. omega arith) (λ w. omega arith) (hex_range c.args.b c.requires)
 
+pub overflow_sub-result-else-b-le57 : goal.overflow_sub-result-else-b-le57
+unfolding hex_value
+overflow_sub-result-else-b-le57 c = ⊎_elim (λ w. absurd (omega arith)) (λ w. omega arith) (hex_range c.args.b c.requires)
+
 pub returns-then-b-le57 : goal.returns-then-b-le57
 unfolding hex_value
 returns-then-b-le57 c = record { value = so_le _ _ _ _ c.if-b-le57.true refl; upper_bound = omega arith }

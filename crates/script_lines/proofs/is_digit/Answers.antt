@@ -1,8 +1,7 @@
 -- `script_lines::is_digit` meets its contract: the test is the definition. Assumes nothing.
-use mathlib.Core.Path.{refl}
 use Rattle.script_rules.specs.Script.{between, fits_place}
 use Rattle.script_lines.proofs.is_digit.Goals as goal
 
 pub returns : goal.returns
 unfolding fits_place between
-returns c = refl
+returns c = c.is_ascii_digit.ensures.value

@@ -2,22 +2,22 @@
 use Rattle.script_rules.specs.Script.{answer_text, bytes}
 use Rattle.script_player.proofs.put_answer.Goals as goal
 
-pub returns-in-Refused : goal.returns-in-Refused
+pub returns-in-Refused-clause-written : goal.returns-in-Refused-clause-written
 unfolding answer_text bytes
-returns-in-Refused c = rw c.in-Refused.is c.put_refused.ensures
+returns-in-Refused-clause-written c = rw c.in-Refused.is c.put_refused.ensures.written
 
-pub returns-in-Done : goal.returns-in-Done
+pub returns-in-Done-clause-written : goal.returns-in-Done-clause-written
 unfolding answer_text bytes
-returns-in-Done c = rw c.in-Done.is c.put_done.ensures
+returns-in-Done-clause-written c = rw c.in-Done.is c.put_done.ensures.written
 
-pub returns-in-Value : goal.returns-in-Value
+pub returns-in-Value-clause-written : goal.returns-in-Value-clause-written
 unfolding answer_text bytes
-returns-in-Value c = rw c.in-Value.is c.put_value.ensures
+returns-in-Value-clause-written c = rw c.in-Value.is c.put_value.ensures.written
 
-pub returns-in-NoEdge : goal.returns-in-NoEdge
+pub returns-in-NoEdge-clause-written : goal.returns-in-NoEdge-clause-written
 unfolding answer_text bytes
-returns-in-NoEdge c = rw c.in-NoEdge.is c.put.ensures
+returns-in-NoEdge-clause-written c = rw c.in-NoEdge.is c.put.ensures.written
 
-pub returns-in-Edge : goal.returns-in-Edge
+pub returns-in-Edge-clause-written : goal.returns-in-Edge-clause-written
 unfolding answer_text bytes
-returns-in-Edge c = rw c.in-Edge.is c.put_edge.ensures
+returns-in-Edge-clause-written c = rw c.in-Edge.is c.put_edge.ensures.written

@@ -4,7 +4,7 @@ use Rattle.script_rules.specs.Script.{edge_text}
 use Rattle.script_rules.proofs.Texts.{written_then}
 use Rattle.script_player.proofs.put_edge.Goals as goal
 
-pub returns : goal.returns
+pub returns-clause-written : goal.returns-clause-written
 unfolding edge_text sck_of
-returns c =
-    rw (c.level_letter.ensures, c.pins_in-pins.ensures) at (written_then c.put-second.ensures (written_then c.put-third.ensures c.put_pins.ensures))
+returns-clause-written c =
+    rw (c.level_letter.ensures, c.pins_in-pins.ensures) at (written_then c.put.ensures.written (written_then c.put-2.ensures.written c.put_pins.ensures.written))

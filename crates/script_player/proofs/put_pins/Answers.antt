@@ -4,8 +4,8 @@ use Rattle.script_rules.specs.Script.{pin_text}
 use Rattle.script_rules.proofs.Texts.{written_then}
 use Rattle.script_player.proofs.put_pins.Goals as goal
 
-pub returns : goal.returns
+pub returns-clause-written : goal.returns-clause-written
 unfolding pin_text interrupt_of
-returns c =
-    rw (c.sdo_letter.ensures, c.sdo.ensures, c.level_letter.ensures, c.interrupt_in.ensures, c.ss.ensures) at
-    (written_then c.put-second.ensures (written_then c.put-third.ensures (written_then c.put-fourth.ensures c.put_ss.ensures)))
+returns-clause-written c =
+    rw (c.sdo_letter-sdo.ensures, c.sdo.ensures, c.level_letter-flag.ensures, c.interrupt_in.ensures, c.ss.ensures) at
+    (written_then c.put.ensures.written (written_then c.put-2.ensures.written (written_then c.put-3.ensures.written c.put_ss.ensures.written)))

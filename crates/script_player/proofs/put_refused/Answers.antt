@@ -5,9 +5,12 @@ use Rattle.script_rules.proofs.Texts.{written_then, written_case}
 use Rattle.script_player.proofs.Texts.{refusal_number_short}
 use Rattle.script_player.proofs.put_refused.Goals as goal
 
-pub returns : goal.returns
+pub put_decimal-requires : goal.put_decimal-requires
 unfolding refused_text
-returns c =
-    let room = refusal_number_short _ _ c.refusal_number.ensures in
-    written_then c.put-second.ensures
-    (written_then c.put-third.ensures (written_case decimal_of (sym c.refusal_number.ensures) (c.put_decimal.ensures.fits (omega arith))))
+put_decimal-requires c = (omega arith, (omega (arith, refusal_number_short _ _ c.refusal_number-number.ensures), omega arith))
+
+pub returns-clause-written : goal.returns-clause-written
+unfolding refused_text
+returns-clause-written c =
+    written_then c.put.ensures.written
+    (written_then c.put-2.ensures.written (written_case decimal_of (sym c.refusal_number-number.ensures) c.put_decimal.ensures.written))

@@ -7,6 +7,6 @@ pub returns-then-enabled : goal.returns-then-enabled
 unfolding level_if
 returns-then-enabled c = so _ _ _ (cc) (cc)
 
-pub returns : goal.returns
+pub returns-else-enabled : goal.returns-else-enabled
 unfolding level_if
-returns c = not_so _ _ _ (cc) (cc)
+returns-else-enabled c = not_so _ _ _ (cc) (cc)

@@ -5,14 +5,14 @@ use Rattle.script_rules.specs.Script.{line_after}
 use Rattle.wave_steps.specs.Wave.{line_shown}
 use Rattle.wave_steps.proofs.play.Goals as goal
 
-pub returns-in-Unreadable : goal.returns-in-Unreadable
+pub returns-in-None : goal.returns-in-None
 unfolding line_after line_shown
-returns-in-Unreadable c = rw c.in-Unreadable.is record { w_after = refl; value = c.look.ensures }
+returns-in-None c = rw c.in-None.is record { w_after = refl; value = c.look.ensures }
 
-pub returns-in-Asked : goal.returns-in-Asked
+pub returns-in-Some : goal.returns-in-Some
 unfolding line_after line_shown
-returns-in-Asked c =
+returns-in-Some c =
     record {
-      w_after = rw c.in-Asked.is (ap (λ (o : Outcome). o.after) c.perform-answer.ensures.outcome);
-      value = rw (c.in-Asked.is, ← c.perform-answer.ensures.outcome) (cc (c.look-in-Asked.ensures, c.sdi_after-after.ensures));
+      w_after = rw c.in-Some.is (ap (λ (o : Outcome). o.after) c.perform-answer.ensures.outcome);
+      value = rw (c.in-Some.is, ← c.perform-answer.ensures.outcome) (cc (c.look-in-Some.ensures, c.sdi_after-after.ensures));
     }

@@ -1,18 +1,14 @@
 -- A level as before is not written; another is, with its name and LF.
-use Rattle.laws.proofs.Common.{eq-eqb, ne_eqb, arith, when◌then◌else◌}
+use Rattle.laws.proofs.Common.{eq-eqb, ne_eqb, when◌then◌else◌}
 use Rattle.script_rules.proofs.Texts.{written_none, written_then}
 use Rattle.wave_steps.specs.Wave.{level_change}
 use Rattle.wave_steps.proofs.put_level.Goals as goal
 
-pub returns-then-old-new : goal.returns-then-old-new
+pub returns-then-old-new-clause-written : goal.returns-then-old-new-clause-written
 unfolding level_change when◌then◌else◌
-returns-then-old-new c = record { written = rw (eq-eqb _ _ c.if-old-new.true) (written_none _ _); upper_bound = omega arith }
+returns-then-old-new-clause-written c = rw (eq-eqb _ _ c.if-old-new.true) (written_none _ _)
 
-pub returns : goal.returns
+pub returns-clause-written : goal.returns-clause-written
 unfolding level_change when◌then◌else◌
-returns c =
-    record {
-      written = rw (ne_eqb _ _ c.if-old-new.false)
-          (written_then c.put-second.ensures (written_then c.put-third.ensures c.put.ensures));
-      upper_bound = omega arith;
-    }
+returns-clause-written c = rw (ne_eqb _ _ c.if-old-new.false)
+    (written_then c.put.ensures.written (written_then c.put-2.ensures.written c.put-3.ensures.written))

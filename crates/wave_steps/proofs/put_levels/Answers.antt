@@ -1,16 +1,12 @@
 -- Six levels, one behind the other.
-use borrow.Author.Rules.{rules}
 use Rattle.script_rules.proofs.Texts.{written_then}
 use Rattle.wave_steps.specs.Wave.{level_changes}
 use Rattle.wave_steps.proofs.put_levels.Goals as goal
 
-pub returns : goal.returns
+pub returns-clause-written : goal.returns-clause-written
 unfolding level_changes
-returns c =
-    record {
-      written = written_then c.put_level-second.ensures.written
-          (written_then c.put_level-third.ensures.written
-          (written_then c.put_level-fourth.ensures.written
-          (written_then c.put_level-fifth.ensures.written (written_then c.put_level-sixth.ensures.written c.put_level.ensures.written))));
-      upper_bound = search rules;
-    }
+returns-clause-written c =
+    written_then c.put_level.ensures.written
+    (written_then c.put_level-2.ensures.written
+    (written_then c.put_level-3.ensures.written
+    (written_then c.put_level-4.ensures.written (written_then c.put_level-5.ensures.written c.put_level-6.ensures.written))))

@@ -1,20 +1,16 @@
 -- A number as before is not written; another is, with its name and LF.
-use Rattle.laws.proofs.Common.{eq-eqb, ne_eqb, arith, when◌then◌else◌}
+use Rattle.laws.proofs.Common.{eq-eqb, ne_eqb, when◌then◌else◌}
 use Rattle.script_rules.proofs.Texts.{written_none, written_then}
 use Rattle.wave_steps.specs.Wave.{number_change}
 use Rattle.wave_steps.proofs.put_number.Goals as goal
 
-pub returns-then-old-new : goal.returns-then-old-new
+pub returns-then-old-new-clause-written : goal.returns-then-old-new-clause-written
 unfolding number_change when◌then◌else◌
-returns-then-old-new c = record { written = rw (eq-eqb _ _ c.if-old-new.true) (written_none _ _); upper_bound = omega arith }
+returns-then-old-new-clause-written c = rw (eq-eqb _ _ c.if-old-new.true) (written_none _ _)
 
-pub returns : goal.returns
+pub returns-clause-written : goal.returns-clause-written
 unfolding number_change when◌then◌else◌
-returns c =
-    record {
-      written = rw (ne_eqb _ _ c.if-old-new.false)
-          (written_then c.put-second.ensures
-          (written_then c.put_value-third.ensures.written
-          (written_then c.put-fourth.ensures (written_then c.put-fifth.ensures c.put.ensures))));
-      upper_bound = omega arith;
-    }
+returns-clause-written c = rw (ne_eqb _ _ c.if-old-new.false)
+    (written_then c.put.ensures.written
+    (written_then c.put_value.ensures.written
+    (written_then c.put-2.ensures.written (written_then c.put-3.ensures.written c.put-4.ensures.written))))

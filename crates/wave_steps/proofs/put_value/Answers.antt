@@ -5,13 +5,18 @@ use Rattle.wave_steps.specs.Wave.{value_of}
 use Rattle.wave_steps.proofs.Waves.{binary_digits}
 use Rattle.wave_steps.proofs.put_value.Goals as goal
 
-pub returns-then-n-gt65535 : goal.returns-then-n-gt65535
+pub returns-then-n-gt65535-clause-written : goal.returns-then-n-gt65535-clause-written
 unfolding value_of when◌then◌else◌
-returns-then-n-gt65535 c = record { written = rw (lt-ltb _ _ c.if-n-gt65535.true) c.put.ensures; upper_bound = omega arith }
+returns-then-n-gt65535-clause-written c = rw (lt-ltb _ _ c.if-n-gt65535.true) c.put.ensures.written
 
-pub returns : goal.returns
+pub returns-then-n-gt65535-clause-upper_bound : goal.returns-then-n-gt65535-clause-upper_bound
 unfolding value_of when◌then◌else◌
-returns c =
-    let size = digits_length 2 c.args.places c.args.n in
-    let put = c.put_binary.ensures.fits (omega arith) in
-    record { written = rw (le-ltb _ _ c.if-n-gt65535.false, binary_digits c.args.places c.args.n) put; upper_bound = omega arith }
+returns-then-n-gt65535-clause-upper_bound c = omega (arith, c.put.ensures.written.behind)
+
+pub returns-else-n-gt65535-clause-written : goal.returns-else-n-gt65535-clause-written
+unfolding value_of when◌then◌else◌
+returns-else-n-gt65535-clause-written c = rw (le-ltb _ _ c.if-n-gt65535.false, binary_digits c.args.places c.args.n) c.put_binary.ensures.written
+
+pub returns-else-n-gt65535-clause-upper_bound : goal.returns-else-n-gt65535-clause-upper_bound
+unfolding value_of when◌then◌else◌
+returns-else-n-gt65535-clause-upper_bound c = omega (arith, digits_length 2 c.args.places c.args.n, c.put_binary.ensures.written.behind)

@@ -1,4 +1,5 @@
 -- Each arm is the clause of the definition for its case.
+use Rattle.laws.proofs.Common.{⊎_elim}
 use Rattle.wave_steps.specs.Wave.{sdi_after}
 use Rattle.wave_steps.proofs.sdi_after.Goals as goal
 
@@ -8,16 +9,7 @@ returns-in-Refused c = cc
 
 pub returns-in-Done : goal.returns-in-Done
 unfolding sdi_after
-returns-in-Done c = cc
-
-pub returns-in-Value : goal.returns-in-Value
-unfolding sdi_after
-returns-in-Value c = cc
-
-pub returns-in-NoEdge : goal.returns-in-NoEdge
-unfolding sdi_after
-returns-in-NoEdge c = cc
-
-pub returns-in-Edge : goal.returns-in-Edge
-unfolding sdi_after
-returns-in-Edge c = cc
+returns-in-Done c =
+    ⊎_elim (λ e. rw e c.brought_by.ensures)
+    (λ s. ⊎_elim (λ h. rw h.1 c.brought_by.ensures) (λ t. ⊎_elim (λ e. rw e c.brought_by.ensures) (λ e. rw e c.brought_by.ensures) t) s)
+    c.in-Done.is

@@ -1,12 +1,9 @@
--- Power-up, a look, and all values.
-use Rattle.laws.proofs.Common.{arith, ap, ◌∙◌}
+-- Power-up and a look.
+use Rattle.laws.proofs.Common.{ap, ◌∙◌}
 use Rattle.module_types.specs.declared.Module.{Module}
 use Rattle.wave_steps.specs.Wave.{shown_of, unknown}
-use Rattle.wave_steps.proofs.Waves.{buffer_stays}
 use Rattle.wave_steps.proofs.start.Goals as goal
 
-pub returns : goal.returns
+pub returns-clause-shown_value : goal.returns-clause-shown_value
 unfolding unknown
-returns c =
-    let text = rw c.nothing-old.ensures at c.put_changes-written.ensures.written in
-    record { w_after = c.power_up.ensures; shown_value = c.look-shown.ensures ∙ ap (λ (m : Module). shown_of m unknown) c.power_up.ensures; written = text; written_bound = (omega arith, buffer_stays text) }
+returns-clause-shown_value c = c.look-shown.ensures ∙ ap (λ (m : Module). shown_of m unknown) c.power_up.ensures

@@ -1,0 +1,2 @@
+-- What the lines of a script are, one after the other.
+pub mod Lines
