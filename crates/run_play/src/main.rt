@@ -7,48 +7,12 @@ use module_types::Answer;
 use run_text::Output;
 use std::io;
 use std::io::Write;
-use trace_rules::Played;
-
-// One hexadecimal digit, in upper case.
-fn digit(n: u16) -> u8 {
-    let low = (n % 16) as u8;
-    if low < 10 { 48 + low } else { 55 + low }
-}
-
-// A number in decimal, and the end of the line.
-fn print_decimal(n: u16, to: &mut Output<impl Write>) {
-    let text = [
-        digit(n / 10000),
-        digit(n / 1000 % 10),
-        digit(n / 100 % 10),
-        digit(n / 10 % 10),
-        digit(n % 10),
-        10,
-    ];
-    if n < 10 {
-        to.print(&text[4..]);
-        return;
-    }
-    if n < 100 {
-        to.print(&text[3..]);
-        return;
-    }
-    if n < 1000 {
-        to.print(&text[2..]);
-        return;
-    }
-    if n < 10000 {
-        to.print(&text[1..]);
-        return;
-    }
-    to.print(&text);
-}
 
 // What a read of a register answers: four hexadecimal digits, and the end of the line.
 fn print_read(a: Answer, to: &mut Output<impl Write>) {
     if let Answer::Value(v) = a {
-        let text = [digit(v / 4096), digit(v / 256), digit(v / 16), digit(v), 10];
-        to.print(&text);
+        to.print_hex(v);
+        to.print(b"\n");
     }
 }
 
@@ -72,15 +36,12 @@ fn main(rt: HostRuntime) -> io::Result<()> {
     let n = run_text::read_full(&mut rt.stdin(), &mut file)?;
     let mut to = Output::new(rt.stdout());
     let mut spi = [0u16; 96];
-    let played = trace_player::play(&file[..n], &mut spi);
-    match played {
-        Played::Refused(fault) => {
-            to.print(b"E ");
-            print_decimal(trace_player::fault_number(fault) as u16, &mut to);
-        }
-        Played::Made(count) => {
+    match trace_player::play(&file[..n], &mut spi) {
+        Err(fault) => to.print_refusal(u8::from(fault)),
+        Ok(count) => {
             to.print(b"OK ");
-            print_decimal(count, &mut to);
+            to.print_decimal(count as u64);
+            to.print(b"\n");
             print_module(&mut spi, &mut to);
         }
     }

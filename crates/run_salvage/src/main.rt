@@ -8,45 +8,15 @@ use std::io;
 use std::io::Write;
 use trace_salvage_rules::Salvaged;
 
-// A number in decimal, behind a space.
-fn print_decimal(n: u16, to: &mut Output<impl Write>) {
-    let text = [
-        32,
-        48 + (n / 10000) as u8,
-        48 + (n / 1000 % 10) as u8,
-        48 + (n / 100 % 10) as u8,
-        48 + (n / 10 % 10) as u8,
-        48 + (n % 10) as u8,
-    ];
-    to.print(&text[..1]);
-    if n < 10 {
-        to.print(&text[5..]);
-        return;
-    }
-    if n < 100 {
-        to.print(&text[4..]);
-        return;
-    }
-    if n < 1000 {
-        to.print(&text[3..]);
-        return;
-    }
-    if n < 10000 {
-        to.print(&text[2..]);
-        return;
-    }
-    to.print(&text[1..]);
-}
-
 // The answer's line, and the new file, which is the beginning of what was lent.
-fn print_salvaged(cut: u16, lost: u16, lent: &[u8], length: u16, to: &mut Output<impl Write>) {
-    to.print(b"OK");
-    print_decimal(cut, to);
-    print_decimal(lost, to);
+fn print_salvaged(salvaged: Salvaged, lent: &[u8], to: &mut Output<impl Write>) {
+    to.print(b"OK ");
+    to.print_decimal(salvaged.cut as u64);
+    to.print(b" ");
+    to.print_decimal(salvaged.lost as u64);
     to.print(b"\n");
-    let end = length as usize;
-    if end <= lent.len() {
-        to.print(&lent[..end]);
+    if let Some(file) = lent.get(..salvaged.length as usize) {
+        to.print(file);
     }
 }
 
@@ -54,14 +24,10 @@ fn main(rt: HostRuntime) -> io::Result<()> {
     let mut file = [0u8; 65536];
     let n = run_text::read_full(&mut rt.stdin(), &mut file)?;
     let mut to = Output::new(rt.stdout());
-    let mut salvaged = [0u8; 65535];
-    let answer = trace_writer::salvage(&file[..n], &mut salvaged);
-    match answer {
-        Salvaged::BadContents => to.print(b"E 17\n"),
-        Salvaged::NoRoom => to.print(b"E 20\n"),
-        Salvaged::Written(cut, lost, length) => print_salvaged(
-            cut, lost, &salvaged, length, &mut to,
-        ),
+    let mut lent = [0u8; 65535];
+    match trace_writer::salvage(&file[..n], &mut lent) {
+        Ok(salvaged) => print_salvaged(salvaged, &lent, &mut to),
+        Err(fault) => to.print_refusal(u8::from(fault)),
     }
     to.finish()?;
     Ok(())

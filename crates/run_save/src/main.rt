@@ -4,17 +4,14 @@
 
 use run_text::Output;
 use std::io;
-use trace_save_rules::Saved;
 
 fn main(rt: HostRuntime) -> io::Result<()> {
     let mut script = [0u8; 65535];
     let n = run_text::read_full(&mut rt.stdin(), &mut script)?;
     let mut to = Output::new(rt.stdout());
     let mut file = [0u8; 65535];
-    let saved = trace_writer::save(&script[..n], &mut file);
-    if let Saved::Written(length) = saved {
-        let end = length as usize;
-        to.print(&file[..end]);
+    if let Ok(length) = trace_writer::save(&script[..n], &mut file) {
+        to.print(&file[..length as usize]);
     }
     to.finish()?;
     Ok(())

@@ -2,7 +2,7 @@
 // caller holds, 96 numbers of 16 bits a module. Only numbers cross the boundary, and any numbers are answered.
 #![tactic(auto)]
 
-ghost use Rattle.std.specs.Prelude.{◌%◌, ◌≡◌};
+ghost use Rattle.std.specs.Prelude.{ℕ, ◌%◌, ◌*◌, ◌≡◌, MatchResult};
 ghost use Rattle.module_rules.specs.Calls.{powered_up, power_up_of, read_of, write_of, tick_of, pins_of, clock_step_of, clear_of};
 ghost use Rattle.word_rules.specs.Word.{word_of, edges_owed};
 ghost use Rattle.board_rules.specs.Owed.{words_owed};
@@ -14,12 +14,10 @@ ghost use Rattle.module_memory.specs.Memory.{module_in};
 ghost use Rattle.module_by_number.specs.Told.{Tells, level_in, levels_number, StepTells, ClockTells, LinkTells};
 ghost use Rattle.board_calls.specs.Boards.{asked_of};
 ghost use Rattle.board_calls.specs.Owing.{TellsOwed, OwedTells, OwedTickTells, OwedPairTells};
-ghost use Rattle.thurafeqa.specs.Numbers.{play_number, PlayTells, save_number, SaveTells, salvage_number, SalvageTells, version_number, format_number};
+ghost use Rattle.thurafeqa.specs.Numbers.{PlayTells, SaveTells, salvage_number, SalvageTells, version_number, format_number};
 
 use board_calls::Cells;
-use trace_rules::Played;
-use trace_salvage_rules::Salvaged;
-use trace_save_rules::Saved;
+use trace_salvage_rules::{SalvageFault, Salvaged};
 
 // Power-up: the memory may hold anything before.
 #[unsafe(no_mangle)]
@@ -186,8 +184,7 @@ pub extern "C" fn thurafeqa_board_call(
 ) -> u64
     ensures { OwedTells owed n (asked_of kind x y z) result report.old report.new board.old board.new }
 {
-    let why = board_calls::refused(board.len(), owed, n);
-    if why > 0 {
+    if let Some(why) = board_calls::refused(board.len(), owed, n) {
         return why;
     }
     board_calls::make_counted(&mut board[n as usize].numbers, owed, kind, x, y, z, report)
@@ -204,8 +201,7 @@ pub extern "C" fn thurafeqa_board_tick_call(
 ) -> u64
     ensures { OwedTickTells owed n (level_in sdi) (level_in ss) result board.old board.new }
 {
-    let why = board_calls::refused(board.len(), owed, n);
-    if why > 0 {
+    if let Some(why) = board_calls::refused(board.len(), owed, n) {
         return why;
     }
     board_calls::tick_counted(&mut board[n as usize].numbers, owed, sdi, ss)
@@ -222,8 +218,7 @@ pub extern "C" fn thurafeqa_board_linked(
 ) -> u64
     ensures { OwedPairTells owed host client limit result board.old board.new }
 {
-    let why = board_calls::refused_two(board.len(), owed, host, client);
-    if why > 0 {
+    if let Some(why) = board_calls::refused_two(board.len(), owed, host, client) {
         return why;
     }
     let mut wired = board[client as usize].numbers;
@@ -245,13 +240,13 @@ pub extern "C" fn thurafeqa_board_owed(count: usize, owed: u32) -> u32
     board_calls::owes(count, owed)
 }
 
-// What playing a trace file answers as a number.
-fn play_number(p: Played) -> u32
-    ensures { result ≡ play_number p }
+// What a count or a refusal is as a number: the upper 16 bits are the refusal's number, the lower 16 bits the count.
+fn number<E: Into<u8>>(answer: Result<u16, E>) -> u32
+    ensures { MatchResult answer (λ count. result ≡ count) (λ fault. (n : ℕ) × E.converts fault n × (result ≡ n * 65536)) }
 {
-    match p {
-        Played::Refused(fault) => trace_player::fault_number(fault) as u32 * 65536,
-        Played::Made(count) => count as u32,
+    match answer {
+        Ok(count) => u32::from(count),
+        Err(fault) => u32::from(fault.into()) * 65536,
     }
 }
 
@@ -261,17 +256,7 @@ pub extern "C" fn thurafeqa_play(w: &mut [u16; 96], file: &[u8]) -> u32
     ensures { PlayTells file.now result w.old w.new }
 {
     let played = trace_player::play(file, w);
-    play_number(played)
-}
-
-// What saving a session answers as a number.
-fn save_number(s: Saved) -> u32
-    ensures { result ≡ save_number s }
-{
-    match s {
-        Saved::NoRoom => 20 * 65536,
-        Saved::Written(length) => length as u32,
-    }
+    number(played)
 }
 
 // Saves a script session as a trace file in a lent buffer. A refused save leaves the buffer as it was.
@@ -280,19 +265,18 @@ pub extern "C" fn thurafeqa_save(script: &[u8], file: &mut [u8]) -> u32
     ensures { SaveTells script.now result file.old file.new }
 {
     let saved = trace_writer::save(script, file);
-    save_number(saved)
+    number(saved)
 }
 
 // What salvaging a file answers as a number.
-fn salvage_number(s: Salvaged) -> u64
+fn salvage_number(s: Result<Salvaged, SalvageFault>) -> u64
     ensures { result ≡ salvage_number s }
 {
     match s {
-        Salvaged::BadContents => 17 * 65536,
-        Salvaged::NoRoom => 20 * 65536,
-        Salvaged::Written(cut, lost, length) => {
+        Ok(Salvaged { cut, lost, length }) => {
             cut as u64 * 281474976710656 + lost as u64 * 4294967296 + length as u64
         }
+        Err(fault) => u64::from(u8::from(fault)) * 65536,
     }
 }
 

@@ -2,19 +2,23 @@
 --     counted_is               what records count, if the counts of the sections that they play are right up to the cap
 --     count_full               what a section of a right file counts, with all its levels, by what its records play with all theirs
 --     Counting                 what holds of the loop over a section's records
---     counting_first, counting_on, counting_ends
+--     counting_first, counting_on, counting_same, counting_ends
 --     counts_first, counts_next   the counts of the sections, before any and with one more
+--     by_count, refused_first     what playing answers, of a right file by its count, of another by what is found wrong first
 -- Assumes nothing.
-use Rattle.std.specs.Prelude.{◌+◌, ◌*◌, ◌-◌, ◌/◌, ◌%◌, ◌<◌, ◌≤◌, ◌&&◌, ◌||◌, ◌∷◌, ◌≡◌}
+use Rattle.std.specs.Prelude.{◌+◌, ◌*◌, ◌-◌, ◌/◌, ◌%◌, ◌<◌, ◌≤◌, ◌&&◌, ◌||◌, ◌∷◌, ◌≡◌, Result, Ok, Err}
 use Rattle.laws.proofs.Common.{ℕ, zero, suc, min, Bool, true, or-true, List}
-use Rattle.laws.proofs.Common.{[], refl, sym, ap, ap₂, ◌∙◌, suc-mul, zero-mul, mul-le-mul_left, arith, leb-true}
+use Rattle.laws.proofs.Common.{[], refl, sym, ap, ap₂, subst, ◌∙◌, suc-mul, zero-mul, mul-le-mul_left, arith, leb-true}
 use Rattle.laws.proofs.Common.{leb-false, eq-eqb, leb, eqb, get_or, set, length-set, replicate, length-replicate, if_both}
-use Rattle.laws.proofs.Common.{if_true, if_false, by_test, and_both}
+use Rattle.laws.proofs.Common.{if_true, if_false, by_test, and_both, false, not, ltb, not_so, clash, when◌then◌else◌}
 use Rattle.trace_rules.specs.declared.Entry.{Entry}
-use Rattle.trace_rules.specs.Trace.{section_level, section_count, start_of, size_of, contents_right, entries_of, is_play, plays_any, records_right, count_by, play_count}
+use Rattle.trace_rules.specs.declared.Fault.{Fault}
+use Rattle.trace_rules.specs.declared.Fault.TheVariants.{TooManyCalls}
+use Rattle.trace_rules.specs.Trace.{section_level, section_count, start_of, size_of, contents_right, entries_of, is_play, plays_any, records_right, count_by, play_count, file_count, played_of}
 use Rattle.trace_page.proofs.TraceContents.{contents_laid}
 use Rattle.trace_page.proofs.TraceLevels.{PlaysUp, plays_up, level_least, stable, counts_same}
 use Rattle.trace_numbers.specs.Places.{entry_at, entries_at}
+use Rattle.trace_right.specs.Judged.{judged_of}
 use Rattle.trace_counts.specs.Counts.{capped, weight_by, CountsFrom}
 use Rattle.trace_numbers.proofs.Records.{entries_more, entries_none, section_at}
 use Rattle.trace_numbers.proofs.Tables.{set_each}
@@ -120,6 +124,10 @@ module _ {f : List ℕ} {k left at total : ℕ} {sub : ℕ → ℕ} (c : Countin
         low = omega (arith, c.low, c.few);
       }
 
+  -- The same place in other words.
+  pub counting_same : {place : ℕ} → at ≡ place → Counting f k sub left place total
+  counting_same here = subst (λ (i : ℕ). Counting f k sub left i total) here c
+
   pub counting_ends : contents_right f ≡ true → k < section_count f → left ≤ 0 → total ≡ count_by sub (entries_of f k)
   counting_ends contents h none =
       c.counted
@@ -150,3 +158,24 @@ counts_next f contents right k h counts n from next is =
           (λ i other up there. from.each i (omega arith) there) j (omega (arith, from.all, (contents_laid f contents).most))
           reached below;
     }
+
+-- A right file is refused only where it counts too many.
+pub by_count : (f : List ℕ) {r : Result ℕ Fault} → (contents_right f ≡ true) × (records_right f ≡ true) →
+    r ≡ (when ltb 65535 (file_count f) then Err TooManyCalls else Ok (file_count f)) → r ≡ played_of f
+unfolding played_of
+by_count f right is = not_so _ _ _ (ap not right.0) (not_so _ _ _ (ap not right.1) is)
+
+-- What of a file is found wrong first, before its calls are counted, is why it is not played.
+pub refused_first : (f : List ℕ) (fault : Fault) → Err fault ≡ judged_of f → Err fault ≡ played_of f
+unfolding judged_of played_of when◌then◌else◌
+refused_first f fault is =
+    by_test (contents_right f)
+    (λ contents.
+    by_test (records_right f)
+    (λ records. clash false (ap found (rw (contents, records) at is)) refl)
+    (λ wrong. rw (contents, wrong) (cc (rw (contents, wrong) at is))))
+    (λ wrong. rw wrong (cc (rw wrong at is)))
+  where
+    found : Result (Unit {0}) Fault → Bool
+    found (Ok x) = true
+    found (Err w) = false

@@ -3,115 +3,78 @@
 
 ghost use Rattle.std.specs.Prelude.{◌/◌, ◌≤◌, ◌<◌, true, ◌≡◌, length, get_or, set};
 ghost use Rattle.laws.specs.Choice.{when◌then◌else◌};
-ghost use Rattle.trace_rules.specs.Trace.{section_count, contents_right, entries_of, records_right, count_by, file_count, played_of};
+ghost use Rattle.trace_rules.specs.Trace.{section_count, entries_of, count_by, file_count, played_of};
 ghost use Rattle.trace_counts.specs.Counts.{capped, weight_by};
 ghost use Rattle.trace_counts.specs.Idle.{idle, PassedFrom};
 
-use trace_rules::{Entry, Fault, Played};
-
-// A count as a wider number.
-fn wide(n: u32) -> u64
-    ensures { (result ≡ n) × (result ≤ 4294967295) }
-{
-    n as u64
-}
+use trace_right::RightFile;
+use trace_rules::{Entry, Fault};
 
 // What a record counts, if each section that may be played counts so much.
 fn weight(counts: &[u32; 256], e: Entry) -> u64
     ensures { (result ≡ weight_by (λ j. get_or counts.now j 0) e) × (result ≤ 281470681743360) }
 {
-    let kind = e.kind;
-    let value = e.value as u64;
-    let named = e.argument as usize;
-    if kind != 5 {
+    if e.kind != 5 {
         return 1;
     }
-    value * (1 + wide(counts[named]))
+    let count = counts[e.argument as usize];
+    e.value as u64 * (1 + count as u64)
 }
 
 // A count, up to 65,536.
 fn cap(total: u64) -> u32
     ensures { result ≡ capped total }
 {
-    if total <= 65536 {
-        return total as u32;
-    }
-    65536
+    total.min(65536) as u32
 }
 
 // Whether a record makes no call, since it plays a section zero times.
 pub fn is_idle(e: Entry) -> bool
     ensures { result ≡ idle e }
 {
-    let kind = e.kind;
-    let value = e.value;
-    (kind == 5) & (value == 0)
+    (e.kind == 5) & (e.value == 0)
 }
 
-// What the records of a section count, up to 65,536.
-fn count_section(f: &[u8], k: u16, counts: &[u32; 256]) -> u32
-    requires { (contents_right f.now ≡ true) × (k < section_count f.now) }
-    ensures { result ≡ capped (count_by (λ j. get_or counts.now j 0) (entries_of f.now k)) }
+// What the records of a section count, up to 65,536, from the last one on.
+fn count_section(file: RightFile<'_>, k: u16, counts: &[u32; 256]) -> u32
+    requires { k < section_count file.bytes.now }
+    ensures { result ≡ capped (count_by (λ j. get_or counts.now j 0) (entries_of file.entry.bytes.now k)) }
 {
-    let mut left = trace_numbers::record_count(f, k);
-    let mut at = trace_numbers::first_record(f, k) + 4 * left;
+    let first = trace_numbers::first_record(file.bytes, k);
+    let records = trace_numbers::record_count(file.bytes, k);
     let mut total: u64 = 0;
-    while 0 < left {
-        left -= 1;
-        at -= 4;
-        let e = trace_numbers::entry_at(f, at as usize);
+    for i in (0..records).rev() {
+        let e = trace_numbers::entry_at(file.bytes, (first + 4 * i) as usize);
         total += weight(counts, e);
     }
     cap(total)
 }
 
 // What playing counts, up to 65,536: all sections, each after those that it may play.
-fn count_sections(f: &[u8]) -> u32
-    requires { (contents_right f.now ≡ true) × (records_right f.now ≡ true) }
-    ensures { result ≡ capped (file_count f.now) }
+fn count_sections(file: RightFile<'_>) -> u32
+    ensures { result ≡ capped (file_count file.entry.bytes.now) }
 {
+    // fixed memory, as the tables of levels and of idle records: there is no heap, and a file has at most 64 sections
     let mut counts = [0u32; 256];
-    let mut k = trace_numbers::count(f);
-    while 0 < k {
-        k -= 1;
-        let total = count_section(f, k, &counts);
-        let own = k as usize;
-        counts[own] = total;
+    for k in (0..trace_numbers::count(file.bytes)).rev() {
+        let total = count_section(file, k, &counts);
+        counts[k as usize] = total;
     }
     counts[0]
 }
 
+// What playing a right file answers: the calls that it counts, if they are not too many.
+pub fn count_calls(file: RightFile<'_>) -> Result<u16, Fault>
+    ensures { result ≡ played_of file.entry.bytes.now }
+{
+    u16::try_from(count_sections(file)).map_err(|_| Fault::TooManyCalls)
+}
+
 // Looks a file over: what playing it answers.
-pub fn look_over(f: &[u8]) -> Played
+pub fn look_over(f: &[u8]) -> Result<u16, Fault>
     ensures { result ≡ played_of f.now }
 {
-    let right = trace_right::judge(f);
-    let contents = right.contents;
-    let records = right.records;
-    if !contents {
-        return Played::Refused(Fault::BadContents);
-    }
-    if !records {
-        return Played::Refused(Fault::BadRecord);
-    }
-    let total = count_sections(f);
-    if 65535 < total {
-        return Played::Refused(Fault::TooManyCalls);
-    }
-    Played::Made(total as u16)
-}
-
-// The table has 16,384 places. Nothing is done at run time: this is for proofs.
-fn counted(next: [u16; 16384]) -> bool
-    ensures { (result ≡ true) × (length next ≡ 16384) }
-{
-    true
-}
-
-fn is_whole(next: &[u16; 16384]) -> bool
-    ensures { (result ≡ true) × (length next.now ≡ 16384) }
-{
-    counted(*next)
+    count_calls(trace_right::judge(f)?)
 }
 
 // Where the first record from one on lies that is not idle: at its own place, or further behind. Of an idle one the table says it.
@@ -136,12 +99,29 @@ pub fn pass_over(f: &[u8], next: &mut [u16; 16384])
     if 65535 < f.len() {
         return;
     }
-    is_whole(next);
-    let mut at = f.len() as u16;
-    let mut to = at;
-    while 4 <= at {
-        at -= 4;
+    let mut to = f.len() as u16;
+    let odd = to % 4;
+    for i in (0..to / 4).rev() {
+        let at = odd + 4 * i;
         let e = trace_numbers::entry_at(f, at as usize);
         to = land(next, e, at, to);
+    }
+}
+
+// A right file with the table of its idle records, by which playing passes them.
+#[derive(Clone, Copy)]
+pub struct Passable<'a> {
+    pub file: RightFile<'a>,
+    pub next: &'a [u16; 16384],
+    pub ghost is_passed: { PassedFrom file.bytes.now 0 next.now },
+}
+
+impl<'a> Passable<'a> {
+    // Fills the table that is lent.
+    pub fn new(file: RightFile<'a>, next: &'a mut [u16; 16384]) -> Self
+        ensures { result.file ≡ file.entry }
+    {
+        pass_over(file.bytes, next);
+        Passable { file, next }
     }
 }

@@ -1,15 +1,16 @@
 // A trace file before it is played, under one name: its numbers (trace_numbers), whether it is right (trace_right), and what it would make
-// (trace_counts). None of it needs a module.
+// (trace_counts). None of it needs a module. The functions are alike since each passes on one that is proved below; docs/MAP.md names
+// the crate as that one name.
 #![tactic(auto)]
 
 ghost use Rattle.std.specs.Prelude.{◌/◌, ◌%◌, ◌≤◌, ◌≡◌, length};
 ghost use Rattle.laws.specs.Choice.{when◌then◌else◌};
 ghost use Rattle.trace_rules.specs.Trace.{section_count, start_of, size_of, body_of, right_record, played_of};
-ghost use Rattle.trace_files.specs.Places.{entry_at, stated_end};
+ghost use Rattle.trace_files.specs.Places.{entry_at, stated_end, ended};
 ghost use Rattle.trace_files.specs.Passes.{raised_one};
 ghost use Rattle.trace_files.specs.Idle.{idle, PassedFrom};
 
-use trace_rules::{Entry, Played};
+use trace_rules::{Entry, Fault};
 
 // The number of sections.
 pub fn count(f: &[u8]) -> u16
@@ -25,9 +26,9 @@ pub fn size(f: &[u8], k: u16) -> u32
     trace_numbers::size(f, k)
 }
 
-// Where the last section ends, if the table of contents is whole and gapless and the file not too long; else 0.
-pub fn stated_end(f: &[u8]) -> u64
-    ensures { result ≡ stated_end f.now }
+// Where the last section ends, if the table of contents is whole and gapless and the file not too long.
+pub fn stated_end(f: &[u8]) -> Option<u64>
+    ensures { result ≡ ended (stated_end f.now) }
 {
     trace_right::stated_end(f)
 }
@@ -68,7 +69,7 @@ pub fn is_idle(e: Entry) -> bool
 }
 
 // Looks a file over: what playing it answers.
-pub fn look_over(f: &[u8]) -> Played
+pub fn look_over(f: &[u8]) -> Result<u16, Fault>
     ensures { result ≡ played_of f.now }
 {
     trace_counts::look_over(f)

@@ -1,7 +1,7 @@
 // A trace file as bytes and numbers: its table of contents, its records by their places, and the bodies of its sections.
 #![tactic(auto)]
 
-ghost use Rattle.std.specs.Prelude.{min, ◌+◌, ◌/◌, ◌%◌, ◌≤◌, ◌≡◌, length};
+ghost use Rattle.std.specs.Prelude.{◌+◌, ◌/◌, ◌%◌, ◌≤◌, ◌≡◌, length};
 ghost use Rattle.trace_rules.specs.Trace.{byte_at, half_at, word_at, section_count, start_of, size_of, body_of};
 ghost use Rattle.trace_numbers.specs.Places.{entry_at};
 
@@ -11,25 +11,16 @@ use trace_rules::Entry;
 fn byte_at(f: &[u8], i: usize) -> u8
     ensures { result ≡ byte_at f.now i }
 {
-    if i < f.len() {
-        return f[i];
-    }
-    0
+    f.get(i).copied().unwrap_or(0)
 }
 
-// A byte as a wider number.
-fn widened(b: u8) -> u16
-    ensures { (result ≡ b) × (result ≤ 255) }
-{
-    b as u16
-}
-
-// The number in two bytes of the file, the lower first.
+// The number in two bytes of the file, the lower first. It stands beside the form with zeros beyond the end: what is read within a file needs one test,
+// and not one for each byte.
 fn whole_half(f: &[u8], i: usize) -> u16
     requires { i + 2 ≤ length f.now }
     ensures { result ≡ half_at f.now i }
 {
-    widened(f[i]) + 256 * widened(f[i + 1])
+    u16::from_le_bytes([f[i], f[i + 1]])
 }
 
 // The number in two bytes, of zeros beyond the end.
@@ -57,9 +48,7 @@ fn word_at(f: &[u8], i: usize) -> u32
         let high = half_at(f, i + 2);
         return low as u32 + 65536 * (high as u32);
     }
-    let low = whole_half(f, i);
-    let high = whole_half(f, i + 2);
-    low as u32 + 65536 * (high as u32)
+    u32::from_le_bytes([f[i], f[i + 1], f[i + 2], f[i + 3]])
 }
 
 // The number of sections.
@@ -83,7 +72,7 @@ pub fn size(f: &[u8], k: u16) -> u32
     word_at(f, 6 + 8 * (k as usize))
 }
 
-// The record at a place in the file.
+// The record at a place in the file, by one test likewise.
 fn whole_entry(f: &[u8], at: usize) -> Entry
     requires { at + 4 ≤ length f.now }
     ensures { result ≡ entry_at f.now at }
@@ -92,9 +81,9 @@ fn whole_entry(f: &[u8], at: usize) -> Entry
     let argument = f[at + 1];
     let value = whole_half(f, at + 2);
     Entry {
-        kind: kind,
-        argument: argument,
-        value: value,
+        kind,
+        argument,
+        value,
     }
 }
 
@@ -102,10 +91,8 @@ fn whole_entry(f: &[u8], at: usize) -> Entry
 pub fn entry_at(f: &[u8], at: usize) -> Entry
     ensures { result ≡ entry_at f.now at }
 {
-    if 4 <= f.len() {
-        if at <= f.len() - 4 {
-            return whole_entry(f, at);
-        }
+    if 4 <= f.len() && at <= f.len() - 4 {
+        return whole_entry(f, at);
     }
     if f.len() <= at {
         return Entry {
@@ -118,9 +105,9 @@ pub fn entry_at(f: &[u8], at: usize) -> Entry
     let argument = byte_at(f, at + 1);
     let value = half_at(f, at + 2);
     Entry {
-        kind: kind,
-        argument: argument,
-        value: value,
+        kind,
+        argument,
+        value,
     }
 }
 
@@ -137,21 +124,11 @@ pub fn record_count(f: &[u8], k: u16) -> u16
     (size(f, k) / 4 % 65536) as u16
 }
 
-// The lesser of two numbers.
-fn lesser(a: usize, b: usize) -> usize
-    ensures { result ≡ min a b }
-{
-    if a <= b {
-        return a;
-    }
-    b
-}
-
 // A section's body, as part of the file itself.
 pub fn section_body(f: &[u8], k: u16) -> &[u8]
     ensures { result.now ≡ body_of f.now k }
 {
-    let from = lesser(start(f, k) as usize, f.len());
-    let to = from + lesser(size(f, k) as usize, f.len() - from);
+    let from = (start(f, k) as usize).min(f.len());
+    let to = from + (size(f, k) as usize).min(f.len() - from);
     &f[from..to]
 }

@@ -1,7 +1,7 @@
 -- The demands on trace files of specs/TraceDemands.antt, all of them.
 --     traces_hold   what the buyer signs for, of trace files
 -- Assumes nothing.
-use Rattle.std.specs.Prelude.{◌/◌, ◌<◌, ◌≡◌}
+use Rattle.std.specs.Prelude.{◌/◌, ◌<◌, ◌≡◌, Result, Ok, Err}
 use Rattle.laws.proofs.Common.{ℕ, true, not, List, refl, sym, ap, subst, ◌∙◌, arith, ltb-true, ltb-false, ltb}
 use Rattle.laws.proofs.Common.{when◌then◌else◌, if_true, if_false, clash, by_test}
 use Rattle.module_rules.proofs.Types.{Module, Call, Eight}
@@ -9,8 +9,7 @@ use Rattle.module_rules.specs.Calls.{powered_up, after_calls}
 use Rattle.module_rules.specs.Lives.{power_up, begins, life}
 use Rattle.module_rules.proofs.LivesReach.{watched_reaches}
 use Rattle.trace_rules.specs.declared.Fault.TheVariants.{BadContents, BadRecord, TooManyCalls}
-use Rattle.trace_rules.specs.declared.Played.{Played}
-use Rattle.trace_rules.specs.declared.Played.TheVariants.{Refused, Made}
+use Rattle.trace_rules.specs.declared.Fault.{Fault}
 use Rattle.trace_rules.specs.Trace.{section_count, contents_right, entries_of, section_level, all_right, all_of, records_right, file_calls, file_count, fault_number_of, played_of, is_made, played_module}
 use Rattle.trace_rules.specs.TraceDemands.{sections, start, size, section, Levels, AllRight, Outcome, wrong_contents, wrong_record, too_many_calls, played, number_in, count_in, Traces}
 use Rattle.trace_rules.proofs.TraceExamplesHold.{trace_examples_hold}
@@ -58,11 +57,11 @@ module _ (f : List ℕ) (laid : Laid f) where
 
 -- Playing a file has the outcome that the page says.
 module _ (m : Module) (f : List ℕ) where
-  outcome_is : (p : Played) → played_of f ≡ p → Outcome m f (number_in p) (count_in p) (when is_made p then after_calls powered_up (file_calls f) else m) →
+  outcome_is : (p : Result ℕ Fault) → played_of f ≡ p → Outcome m f (number_in p) (count_in p) (when is_made p then after_calls powered_up (file_calls f) else m) →
       Outcome m f (number_in (played_of f)) (count_in (played_of f)) (played_module m f)
   unfolding played_module
   outcome_is p e =
-      subst (λ (q : Played). Outcome m f (number_in q) (count_in q) (when is_made q then after_calls powered_up (file_calls f) else m)) (sym e)
+      subst (λ (q : Result ℕ Fault). Outcome m f (number_in q) (count_in q) (when is_made q then after_calls powered_up (file_calls f) else m)) (sym e)
 
   answers : Outcome m f (number_in (played_of f)) (count_in (played_of f)) (played_module m f)
   unfolding played_of fault_number_of when◌then◌else◌
@@ -70,25 +69,25 @@ module _ (m : Module) (f : List ℕ) where
       by_test (contents_right f)
       (λ right.
       let laid : Laid f = contents_laid f right in
-      let to-18 = if_false (not (contents_right f)) (Refused BadContents) _ (ap not right) in
+      let to-18 = if_false (not (contents_right f)) (Err BadContents) _ (ap not right) in
       by_test (records_right f)
       (λ records.
       let all : AllRight f = right_all f laid records in
       let run = runs_hold f laid records in
-      let to-19 = to-18 ∙ if_false (not (records_right f)) (Refused BadRecord) _ (ap not records) in
+      let to-19 = to-18 ∙ if_false (not (records_right f)) (Err BadRecord) _ (ap not records) in
       by_test (ltb 65535 (file_count f))
       (λ many.
-      outcome_is (Refused TooManyCalls) (to-19 ∙ if_true (ltb 65535 (file_count f)) _ (Made (file_count f)) many)
+      outcome_is (Err TooManyCalls) (to-19 ∙ if_true (ltb 65535 (file_count f)) _ (Ok (file_count f)) many)
       (too_many_calls (laid_whole f laid) all run (ltb-true 65535 (file_count f) many)))
       (λ few.
-      outcome_is (Made (file_count f)) (to-19 ∙ if_false (ltb 65535 (file_count f)) (Refused TooManyCalls) _ few)
+      outcome_is (Ok (file_count f)) (to-19 ∙ if_false (ltb 65535 (file_count f)) (Err TooManyCalls) _ few)
       (subst (Outcome m f 0 (file_count f)) (watched_reaches (file_calls f) (begins (power_up Eight)))
       (played (laid_whole f laid) all run (ltb-false 65535 (file_count f) few)))))
       (λ wrong.
-      outcome_is (Refused BadRecord) (to-18 ∙ if_true (not (records_right f)) (Refused BadRecord) _ (ap not wrong))
+      outcome_is (Err BadRecord) (to-18 ∙ if_true (not (records_right f)) (Err BadRecord) _ (ap not wrong))
       (wrong_record (laid_whole f laid) (λ all. clash (records_right f) (all_right_lem f laid all) wrong))))
       (λ wrong.
-      outcome_is (Refused BadContents) (if_true (not (contents_right f)) (Refused BadContents) _ (ap not wrong))
+      outcome_is (Err BadContents) (if_true (not (contents_right f)) (Err BadContents) _ (ap not wrong))
       (wrong_contents (λ whole. clash (contents_right f) (laid_contents f (whole_laid f whole)) wrong)))
 
   -- Two outcomes are the same one.

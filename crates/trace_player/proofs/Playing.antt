@@ -1,8 +1,10 @@
 -- Playing makes a file's calls one behind the other.
 --     is_write, is_read, is_tick_lem, is_pin, is_clear_lem
 --                                  the call of a record, by its kind
+--     leaves                       what a call leaves, by its name
 --     read_leaves                  what a read of STAT, CON1 or CON2 leaves
---     Repeats, repeated            the repeats of a section that are left, after one
+--     Repeats, repeats_all, repeated
+--                                  the repeats of a section that are left, all and after one
 --     entry_makes, entry_plays     a record: its own call, or all repeats of its section
 --     Section                      a section from one of its records on
 --     section_starts, section_goes_on, section_done
@@ -15,7 +17,7 @@
 --     nothing_made                 a file that counts nothing makes no call
 --     plays_refused, plays_made    what a refused play comes to, and one that is made
 -- Assumes nothing.
-use Rattle.std.specs.Prelude.{◌+◌, ◌*◌, ◌-◌, ◌/◌, ◌%◌, ◌<◌, ◌≤◌, ◌∷◌, ◌++◌, ◌≡◌}
+use Rattle.std.specs.Prelude.{◌+◌, ◌*◌, ◌-◌, ◌/◌, ◌%◌, ◌<◌, ◌≤◌, ◌∷◌, ◌++◌, ◌≡◌, Ok, Err}
 use Rattle.laws.proofs.Common.{ℕ, zero, suc, Bool, true, false, List, []}
 use Rattle.laws.proofs.Common.{refl, sym, ap, ap₂, ◌∙◌, suc-mul, arith, ltb-true, ltb-false, eqb-false, eq-eqb, ne_eqb, ltb}
 use Rattle.laws.proofs.Common.{eqb, length, get_or, when◌then◌else◌, so, not_so, by_case, if_keeps, if_true, if_false, by_test}
@@ -24,8 +26,6 @@ use Rattle.module_rules.proofs.Types.{Module, Call, Read, Write, Tick, Pin, Clea
 use Rattle.module_rules.specs.Calls.{refuse, powered_up, read_of, perform_of, after_calls}
 use Rattle.trace_rules.specs.declared.Entry.{Entry}
 use Rattle.trace_rules.specs.declared.Fault.{Fault}
-use Rattle.trace_rules.specs.declared.Played.{Played}
-use Rattle.trace_rules.specs.declared.Played.TheVariants.{Refused, Made}
 use Rattle.trace_rules.specs.Trace.{contents_right, section_count, start_of, size_of, entries_of, is_play, section_level, right_of, records_right, wire_in, call_of, times, calls_by, play_calls, count_by, play_count, file_calls, file_count, played_of, is_made, played_module}
 use Rattle.trace_page.proofs.TraceLevels.{play_right}
 use Rattle.trace_numbers.specs.Places.{entry_at, entries_at}
@@ -63,6 +63,10 @@ module _ (e : Entry) where
   unfolding call_of when◌then◌else◌
   is_clear_lem w r t p = rw (ne_eqb _ 0 w, ne_eqb _ 1 r, ne_eqb _ 2 t, ne_eqb _ 3 p)
 
+-- What a call leaves is what it leaves under another name.
+pub leaves : (m : Module) {after : Module} {c d : Call} → c ≡ d → after ≡ (perform_of m d).after → after ≡ (perform_of m c).after
+leaves m is left = by_case (λ (x : Call). (perform_of m x).after) is left
+
 past_two : {A : Type 0} (a : ℕ) → a ≤ 3 → (a ≡ 0 → ⊥) → (a ≡ 1 → ⊥) → (a ≡ 2 → ⊥) → (a ≡ 3 → ⊥) → A
 past_two a few x y z other = clash (eqb a 3) (eq-eqb a 3 (omega arith)) (ne_eqb a 3 other)
 
@@ -91,13 +95,16 @@ times_more (suc n) cs h = ap (λ (i : ℕ). cs ++ times i cs) (let same : n ≡ 
 pub record Repeats (cs : List Call) (all : ℕ) (before : Module) (n : ℕ) (now : Module) : Type 0 where
   pub calls : after_calls before (times all cs) ≡ after_calls now (times n cs)
 
-pub repeated : {cs : List Call} {all n : ℕ} {before now after : Module} → Repeats cs all before n now → 0 < n →
-    after ≡ after_calls now cs → Repeats cs all before (n - 1) after
-repeated {cs} {all} {n} {before} {now} r h e =
+pub repeats_all : {cs : List Call} {all n : ℕ} {now : Module} → all ≡ n → Repeats cs all now n now
+repeats_all {cs} {all} {n} {now} same = record { calls = ap (λ (i : ℕ). after_calls now (times i cs)) same }
+
+pub repeated : {cs : List Call} {all n m : ℕ} {before now after : Module} → Repeats cs all before n now → 0 < n → n - 1 ≡ m →
+    after ≡ after_calls now cs → Repeats cs all before m after
+repeated {cs} {all} {n} {m} {before} {now} r h fewer e =
     record {
       calls =
-          r.calls ∙ ap (after_calls now) (times_more n cs h) ∙ after_append now cs (times (n - 1) cs)
-          ∙ ap (λ (m : Module). after_calls m (times (n - 1) cs)) (sym e);
+          r.calls ∙ ap (after_calls now) (times_more n cs h ∙ ap (λ (i : ℕ). cs ++ times i cs) fewer) ∙ after_append now cs (times m cs)
+          ∙ ap (λ (x : Module). after_calls x (times m cs)) (sym e);
     }
 
 -- A record: its own call, or all repeats of its section.
@@ -268,10 +275,10 @@ none_made sub calls (e ∷ es) none =
     (λ call. absurd (omega (arith, if_false (is_play e) (e.value * (1 + sub e.argument)) 1 call)))
 
 -- A file that is played is right, and its count is what it made.
-never : {A : Type 0} {w : Fault} {n : ℕ} → Refused w ≡ Made n → A
+never : {A : Type 0} {w : Fault} {n : ℕ} → Err w ≡ Ok n → A
 never e = clash false (ap is_made e) refl
 
-pub made_right : (f : List ℕ) (count : ℕ) → played_of f ≡ Made count →
+pub made_right : (f : List ℕ) (count : ℕ) → played_of f ≡ Ok count →
     (contents_right f ≡ true) × (records_right f ≡ true) × (file_count f ≡ count)
 unfolding played_of when◌then◌else◌
 made_right f count made =
@@ -285,28 +292,27 @@ made_right f count made =
     (λ wrong. never (rw (contents, wrong) at made)))
     (λ wrong. never (rw wrong at made))
 
-pub nothing_made : (f : List ℕ) (count : ℕ) → played_of f ≡ Made count → count ≡ 0 → file_calls f ≡ []
+pub nothing_made : (f : List ℕ) (count : ℕ) → played_of f ≡ Ok count → count ≡ 0 → file_calls f ≡ []
 unfolding file_count file_calls play_count play_calls
 nothing_made f count made none =
     none_made (play_count f 7) (play_calls f 7) (entries_of f 0) ((made_right f count made).2 ∙ none)
 
 -- What a play comes to.
-pub plays_refused : (f : List ℕ) (r : Played) (fault : Fault) (w : List ℕ) → r ≡ played_of f → r ≡ Refused fault →
-    Plays f (Refused fault) w w
+pub plays_refused : (f : List ℕ) (fault : Fault) (w : List ℕ) → Err fault ≡ played_of f → Plays f (Err fault) w w
 unfolding played_module
-plays_refused f r fault w is refused =
+plays_refused f fault w is =
     record {
-      answer = sym refused ∙ is;
-      ends = not_so (is_made (played_of f)) _ _ (ap is_made (sym is ∙ refused)) refl;
+      answer = is;
+      ends = not_so (is_made (played_of f)) _ _ (ap is_made (sym is)) refl;
       untouched = λ _. refl;
     }
 
-pub plays_made : (f : List ℕ) (r : Played) (count : ℕ) (before after : List ℕ) → r ≡ played_of f → r ≡ Made count →
-    module_in after ≡ after_calls powered_up (file_calls f) → Plays f (Made count) before after
+pub plays_made : (f : List ℕ) (count : ℕ) (before after : List ℕ) → Ok count ≡ played_of f →
+    module_in after ≡ after_calls powered_up (file_calls f) → Plays f (Ok count) before after
 unfolding played_module
-plays_made f r count before after is made ends =
+plays_made f count before after is ends =
     record {
-      answer = sym made ∙ is;
-      ends = so (is_made (played_of f)) _ _ (ap is_made (sym is ∙ made)) ends;
+      answer = is;
+      ends = so (is_made (played_of f)) _ _ (ap is_made (sym is)) ends;
       untouched = λ refused. clash true refl refused;
     }

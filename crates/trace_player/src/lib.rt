@@ -1,90 +1,110 @@
-// Plays a trace file over a module in memory: the calls of section 0, with those of each section that it plays.
+// Plays a trace file: the calls of section 0, with those of each section that it plays, on a module in memory or on another player.
 #![tactic(auto)]
 
 ghost use Rattle.std.specs.Prelude.{◌<◌, true, ◌≡◌};
+ghost use Rattle.module_types.specs.declared.Module.{Module};
 ghost use Rattle.module_rules.specs.Calls.{perform_of, after_calls};
-ghost use Rattle.trace_rules.specs.Trace.{section_count, contents_right, records_right, is_play, call_of, play_calls, file_calls, fault_number_of};
-ghost use Rattle.trace_counts.specs.Idle.{PassedFrom};
+ghost use Rattle.trace_rules.specs.Trace.{section_count, is_play, call_of, play_calls, file_calls};
 ghost use Rattle.module_memory.specs.Memory.{module_in};
 ghost use Rattle.trace_player.specs.Playing.{entry_calls, Plays};
 
-use trace_rules::{Entry, Fault, Played};
+use module_types::Call;
+use trace_counts::Passable;
+use trace_right::RightFile;
+use trace_rules::{Entry, Fault};
 
-// Makes the call of a record that plays no section.
-fn make(w: &mut [u16; 96], e: Entry)
-    ensures { module_in w.new ≡ (perform_of (module_in w.old) (call_of e)).after }
+// What makes the calls of a trace: it holds a module, and takes one call after the other.
+pub trait Player {
+    ghost held: { Self → Module };
+
+    fn perform(&mut self, call: Call)
+        ensures { held self.new ≡ (perform_of (held self.old) call).after };
+}
+
+// A module in memory.
+impl Player for [u16; 96] {
+    ghost held = { λ w. module_in w };
+
+    fn perform(&mut self, call: Call) {
+        match call {
+            Call::Write(register, value) => {
+                module_by_number::write(self, register, value);
+            }
+            Call::Read(register) => {
+                // a read of BUF alone changes something
+                if register == 3 {
+                    module_by_number::read(self, 3);
+                }
+            }
+            Call::Tick(sdi, ss) => {
+                if !module_midword::tick_within(self, sdi, ss) {
+                    module_by_number::tick(self, sdi, ss);
+                }
+            }
+            Call::Pin(sck, sdi, ss) => {
+                if !module_midword::pins_within(self, sck, sdi, ss) {
+                    module_by_number::pins(self, sck, sdi, ss);
+                }
+            }
+            Call::ClockStep(sck, sdi, ss) => {
+                module_by_number::clock_step(self, sck, sdi, ss);
+            }
+            Call::Clear => {
+                module_by_number::clear(self);
+            }
+        }
+    }
+}
+
+// The call of a record that plays no section.
+// No From: the record of a play is no call, and this is never asked for one.
+fn call_of(e: Entry) -> Call
+    ensures { result ≡ call_of e }
 {
-    let kind = e.kind;
-    let argument = e.argument;
-    let sdi = argument % 2 == 1;
-    let sck = argument / 2 % 2 == 1;
-    let ss = argument / 4 % 2 == 1;
-    if kind == 0 {
-        module_by_number::write(w, argument as u32, e.value);
-        return;
+    let sdi = e.argument % 2 == 1;
+    let sck = e.argument / 2 % 2 == 1;
+    let ss = e.argument / 4 % 2 == 1;
+    match e.kind {
+        0 => Call::Write(e.argument as u32, e.value),
+        1 => Call::Read(e.argument as u32),
+        2 => Call::Tick(sdi, ss),
+        3 => Call::Pin(sck, sdi, ss),
+        _ => Call::Clear,
     }
-    if kind == 1 {
-        // a read of BUF alone changes something
-        if argument != 3 {
-            return;
-        }
-        module_by_number::read(w, 3);
-        return;
-    }
-    if kind == 2 {
-        if module_midword::tick_within(w, sdi, ss) {
-            return;
-        }
-        module_by_number::tick(w, sdi, ss);
-        return;
-    }
-    if kind == 3 {
-        if module_midword::pins_within(w, sck, sdi, ss) {
-            return;
-        }
-        module_by_number::pins(w, sck, sdi, ss);
-        return;
-    }
-    module_by_number::clear(w);
 }
 
 // Plays a record: makes its call, or plays the section that it names as often as it says.
 #[cycle(play_entry_play_section)]
-fn play_entry(f: &[u8], next: &[u16; 16384], w: &mut [u16; 96], left: u8, e: Entry)
-    requires f_value { (contents_right f.now ≡ true) × (records_right f.now ≡ true) × PassedFrom f.now 0 next.now }
-    requires argument_bound { is_play e ≡ true → e.argument < section_count f.now }
-    ensures { module_in w.new ≡ after_calls (module_in w.old) (entry_calls f.now left e) }
+fn play_entry<P: Player>(trace: &Passable<'_>, left: u8, e: Entry, player: &mut P)
+    requires { is_play e ≡ true → e.argument < section_count trace.now.file.bytes.now }
+    ensures { P.held player.new ≡ after_calls (P.held player.old) (entry_calls trace.now.file.bytes.now left e) }
 {
-    let kind = e.kind;
-    if kind != 5 {
-        make(w, e);
+    if e.kind != 5 {
+        player.perform(call_of(e));
         return;
     }
-    let named = e.argument as u16;
-    let mut times = e.value;
-    while 0 < times {
-        play_section(f, next, w, named, left);
-        times -= 1;
+    for _ in 0..e.value {
+        play_section(trace, e.argument as u16, left, player);
     }
 }
 
-// Plays a section with so many levels left, one fewer for the sections that it plays. Idle records are passed.
+// Plays a section with so many levels left, one fewer for the sections that it plays. Idle records are passed: the table says where the
+// next record lies, so the place is no count.
 #[cycle(play_entry_play_section)]
-fn play_section(f: &[u8], next: &[u16; 16384], w: &mut [u16; 96], k: u16, left: u8)
-    requires f_value { (contents_right f.now ≡ true) × (records_right f.now ≡ true) × PassedFrom f.now 0 next.now }
-    requires k_bound { k < section_count f.now }
-    ensures { module_in w.new ≡ after_calls (module_in w.old) (play_calls f.now left k) }
+fn play_section<P: Player>(trace: &Passable<'_>, k: u16, left: u8, player: &mut P)
+    requires { k < section_count trace.now.file.bytes.now }
+    ensures { P.held player.new ≡ after_calls (P.held player.old) (play_calls trace.now.file.bytes.now left k) }
 {
     if left == 0 {
         return;
     }
+    let f = trace.file.bytes;
     let mut at = trace_numbers::first_record(f, k);
     let mut records = trace_numbers::record_count(f, k);
     while 0 < records {
-        let e = trace_reader::entry_of(f, at as usize);
+        let e = trace_numbers::entry_at(f, at as usize);
         if trace_counts::is_idle(e) {
-            let slot = (at / 4) as usize;
-            let to = next[slot];
+            let to = trace.next[(at / 4) as usize];
             let passed = (to - at) / 4;
             if records <= passed {
                 return;
@@ -93,47 +113,30 @@ fn play_section(f: &[u8], next: &[u16; 16384], w: &mut [u16; 96], k: u16, left: 
             at = to;
             continue;
         }
-        play_entry(f, next, w, left - 1, e);
+        play_entry(trace, left - 1, e, player);
         records -= 1;
         at += 4;
     }
 }
 
-// Makes the calls of a file that is right, by the table of its idle records.
-fn play_calls(f: &[u8], w: &mut [u16; 96])
-    requires { (contents_right f.now ≡ true) × (records_right f.now ≡ true) }
-    ensures { module_in w.new ≡ after_calls (module_in w.old) (file_calls f.now) }
+// Makes the calls of a right file, by the table of its idle records, which has 32 kB.
+pub fn play_file<P: Player>(file: RightFile<'_>, player: &mut P)
+    ensures { P.held player.new ≡ after_calls (P.held player.old) (file_calls file.entry.bytes.now) }
 {
     let mut next = [0u16; 16384];
-    trace_counts::pass_over(f, &mut next);
-    play_section(f, &next, w, 0, 8);
+    let trace = Passable::new(file, &mut next);
+    play_section(&trace, 0, 8, player);
 }
 
-// Plays a file: the answer is why it is not played, or the calls made. The table of 32 kB is made where there are any.
-pub fn play(f: &[u8], w: &mut [u16; 96]) -> Played
+// Plays a file: the answer is why it is not played, or the calls made. The table is made where there are any.
+pub fn play(f: &[u8], w: &mut [u16; 96]) -> Result<u16, Fault>
     ensures { Plays f.now result w.old w.new }
 {
-    let answer = trace_counts::look_over(f);
-    match answer {
-        Played::Refused(fault) => Played::Refused(fault),
-        Played::Made(count) => {
-            module_memory_stores::power_up(w);
-            if count == 0 {
-                return Played::Made(count);
-            }
-            play_calls(f, w);
-            Played::Made(count)
-        }
+    let file = trace_right::judge(f)?;
+    let count = trace_counts::count_calls(file)?;
+    module_memory_stores::power_up(w);
+    if 0 < count {
+        play_file(file, w);
     }
-}
-
-// The table's number for a fault.
-pub fn fault_number(fault: Fault) -> u8
-    ensures { result ≡ fault_number_of fault }
-{
-    match fault {
-        Fault::BadContents => 17,
-        Fault::BadRecord => 18,
-        Fault::TooManyCalls => 19,
-    }
+    Ok(count)
 }

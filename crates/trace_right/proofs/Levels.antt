@@ -1,13 +1,13 @@
 -- Levels, record by record.
 --     levels_first_lem, levels_next   before any section, and behind one more
 --     Looking                     what holds of the loop over a section's records
---     looking_first, looking_on, looking_wrong, looking_ends
+--     looking_first, looking_on, looking_same, looking_wrong, looking_ends
 --     play_low                    a right play record stands below level 8
 --     record_right_lem                each record of a right file is right
 -- Assumes nothing.
 use Rattle.std.specs.Prelude.{◌+◌, ◌*◌, ◌-◌, ◌/◌, ◌%◌, ◌<◌, ◌≤◌, ◌&&◌, ◌||◌, ◌∷◌, ◌++◌, ◌≡◌}
 use Rattle.laws.proofs.Common.{ℕ, zero, suc, Bool, true, false, List, []}
-use Rattle.laws.proofs.Common.{refl, sym, ap, ap₂, ◌∙◌, arith, ltb-true, leb-true, leb-false, eq-eqb, ne_eqb, eqb}
+use Rattle.laws.proofs.Common.{refl, sym, ap, ap₂, subst, ◌∙◌, arith, ltb-true, leb-true, leb-false, eq-eqb, ne_eqb, eqb}
 use Rattle.laws.proofs.Common.{leb, ltb, length, get_or, set, length-set, List·getD-append, replicate, length-replicate}
 use Rattle.laws.proofs.Common.{get_or-replicate, when◌then◌else◌, so, not_so, so_eq, not_so_eq, if_keeps, if_true, if_false}
 use Rattle.laws.proofs.Common.{by_test, and_left, and_right, and_both, and_first, and-false}
@@ -196,6 +196,12 @@ module _ {f first levels : List ℕ} {k level at left : ℕ} (g : Looking f k le
               ∙ ap (raised_by level levels) here
               ∙ ap (λ (l : List ℕ). raised_by level l (entries_at f (left - 1) (at + 4))) (sym (after ∙ if_true r _ _ right));
         }
+
+-- The same place and number of records, in other words.
+pub looking_same : {f first levels : List ℕ} {k level at left place more : ℕ} → Looking f k level first levels at left → at ≡ place →
+    left ≡ more → Looking f k level first levels place more
+looking_same {f} {first} {levels} {k} {level} {at} {left} {place} {more} g here few =
+    subst (λ (j : ℕ). Looking f k level first levels place j) few (subst (λ (i : ℕ). Looking f k level first levels i left) here g)
 
 -- A right play record stands below level 8.
 pub play_low : (count level k : ℕ) (e : Entry) → right_record count level k e ≡ true → is_play e ≡ true → level < 8

@@ -1,6 +1,6 @@
 -- Document 02, Five: a trace file. A file is a list of bytes. It has a table of contents and sections of records; a record is a
 -- call, or plays another section. Playing section 0 on a fresh module makes the file's calls in order.
-use Rattle.std.specs.Prelude.{ℕ, zero, suc, ◌+◌, ◌*◌, ◌/◌, ◌%◌, Bool, true, false, not, ◌&&◌, ◌||◌, List, [], ◌∷◌, ◌++◌, eqb, leb, ltb, length, take, drop, get_or}
+use Rattle.std.specs.Prelude.{ℕ, zero, suc, ◌+◌, ◌*◌, ◌/◌, ◌%◌, Bool, true, false, not, ◌&&◌, ◌||◌, List, [], ◌∷◌, ◌++◌, eqb, leb, ltb, length, take, drop, get_or, Result, Ok, Err}
 use Rattle.laws.specs.Choice.{when◌then◌else◌}
 use Rattle.module_types.specs.declared.Module.{Module}
 use Rattle.module_types.specs.declared.Call.{Call}
@@ -9,8 +9,6 @@ use Rattle.module_rules.specs.Calls.{powered_up, after_calls}
 use Rattle.trace_rules.specs.declared.Entry.{Entry}
 use Rattle.trace_rules.specs.declared.Fault.{Fault}
 use Rattle.trace_rules.specs.declared.Fault.TheVariants.{BadContents, BadRecord, TooManyCalls}
-use Rattle.trace_rules.specs.declared.Played.{Played}
-use Rattle.trace_rules.specs.declared.Played.TheVariants.{Refused, Made}
 
 -- The limits: the bytes of a file, its sections, their levels, and the calls.
 abbrev pub most_bytes : ℕ
@@ -221,17 +219,17 @@ fault_number_of BadRecord = 18
 fault_number_of TooManyCalls = 19
 
 -- Playing a file: 17, then 18, then 19; else the calls that counted.
-unfoldable pub played_of : List ℕ → Played
+unfoldable pub played_of : List ℕ → Result ℕ Fault
 played_of f =
-    when not (contents_right f) then Refused BadContents
-    else when not (records_right f) then Refused BadRecord
-    else when ltb most_calls (file_count f) then Refused TooManyCalls
-    else Made (file_count f)
+    when not (contents_right f) then Err BadContents
+    else when not (records_right f) then Err BadRecord
+    else when ltb most_calls (file_count f) then Err TooManyCalls
+    else Ok (file_count f)
 
 -- The module after it: a fresh one after the file's calls. A refused play leaves the module of before.
-abbrev pub is_made : Played → Bool
-is_made (Refused w) = false
-is_made (Made count) = true
+abbrev pub is_made : Result ℕ Fault → Bool
+is_made (Err w) = false
+is_made (Ok count) = true
 
 unfoldable pub played_module : Module → List ℕ → Module
 played_module m f = when is_made (played_of f) then after_calls powered_up (file_calls f) else m

@@ -1,14 +1,13 @@
 -- The customer's demands on trace files. The record Traces holds every statement, and proofs/TraceDemandsHold.antt proves it. What a
 -- right file is and what playing it answers is said here by bytes, records and calls alone, so that no rule is its own judge.
-use Rattle.std.specs.Prelude.{ℕ, zero, suc, ◌+◌, ◌*◌, ◌/◌, ◌%◌, ◌<◌, ◌≤◌, Bool, true, false, List, [], ◌∷◌, ◌++◌, ◌≡◌, length, take, drop}
+use Rattle.std.specs.Prelude.{ℕ, zero, suc, ◌+◌, ◌*◌, ◌/◌, ◌%◌, ◌<◌, ◌≤◌, Bool, true, false, List, [], ◌∷◌, ◌++◌, ◌≡◌, length, take, drop, Result, Ok, Err}
 use Rattle.module_types.specs.declared.Module.{Module}
 use Rattle.module_types.specs.declared.Call.{Call}
 use Rattle.module_types.specs.declared.Call.TheVariants.{Read, Write, Tick, Pin, Clear}
 use Rattle.module_types.specs.declared.Depth.TheVariants.{Eight}
 use Rattle.module_rules.specs.Lives.{power_up, life}
 use Rattle.trace_rules.specs.declared.Entry.{Entry}
-use Rattle.trace_rules.specs.declared.Played.{Played}
-use Rattle.trace_rules.specs.declared.Played.TheVariants.{Refused, Made}
+use Rattle.trace_rules.specs.declared.Fault.{Fault}
 use Rattle.trace_rules.specs.Trace.{section_level, fault_number_of, played_of, played_module}
 use Rattle.trace_rules.specs.TraceExamples.{trace_examples}
 
@@ -159,13 +158,13 @@ pub data Outcome (m : Module) (f : List ℕ) : ℕ → ℕ → Module → Type 0
       Outcome m f 0 n (life (power_up Eight) cs).now
 
 -- The numbers of an answer.
-abbrev pub number_in : Played → ℕ
-number_in (Refused w) = fault_number_of w
-number_in (Made count) = 0
+abbrev pub number_in : Result ℕ Fault → ℕ
+number_in (Err w) = fault_number_of w
+number_in (Ok count) = 0
 
-abbrev pub count_in : Played → ℕ
-count_in (Refused w) = 0
-count_in (Made count) = count
+abbrev pub count_in : Result ℕ Fault → ℕ
+count_in (Err w) = 0
+count_in (Ok count) = count
 
 -- Playing a file has the outcome said above, and there is no other. Levels are decided by the relation.
 pub record Traces : Type 0 where

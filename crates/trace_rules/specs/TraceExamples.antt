@@ -1,12 +1,11 @@
 -- Document 02, Five: trace files with what they must answer. proofs/TraceExamplesHold.antt runs the definitions on them.
-use Rattle.std.specs.Prelude.{ℕ, Bool, true, false, ◌&&◌, List, [], ◌∷◌, ◌++◌, eqb, replicate}
+use Rattle.std.specs.Prelude.{ℕ, Bool, true, false, ◌&&◌, List, [], ◌∷◌, ◌++◌, eqb, replicate, Result, Ok, Err}
+use Rattle.trace_rules.specs.declared.Fault.{Fault}
 use Rattle.std.specs.Bool.{beq}
 use Rattle.module_types.specs.declared.Module.{Module}
 use Rattle.module_rules.specs.Registers.{con1_value, con2_value, stat_value}
 use Rattle.module_rules.specs.Buffers.{first_unread}
 use Rattle.module_rules.specs.Calls.{powered_up, interrupt_of}
-use Rattle.trace_rules.specs.declared.Played.{Played}
-use Rattle.trace_rules.specs.declared.Played.TheVariants.{Refused, Made}
 use Rattle.trace_rules.specs.Trace.{fault_number_of, played_of, played_module}
 use Rattle.trace_rules.specs.TraceBytes.{half, word, entry, joined, file}
 
@@ -27,9 +26,9 @@ abbrev pub play : ℕ → ℕ → List ℕ
 play section count = entry 5 section count
 
 -- What a play says: the number of its refusal, and the calls that counted.
-abbrev pub says : Played → ℕ → ℕ → Bool
-says (Refused w) number count = eqb (fault_number_of w) number && eqb count 0
-says (Made made) number count = eqb number 0 && eqb made count
+abbrev pub says : Result ℕ Fault → ℕ → ℕ → Bool
+says (Err w) number count = eqb (fault_number_of w) number && eqb count 0
+says (Ok made) number count = eqb number 0 && eqb made count
 
 abbrev pub refused : ℕ → List ℕ → Bool
 refused number f = says (played_of f) number 0

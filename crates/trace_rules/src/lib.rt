@@ -2,7 +2,11 @@
 // them is in proofs/.
 #![tactic(auto)]
 
+ghost use Rattle.std.specs.Prelude.{◌≡◌};
+ghost use Rattle.trace_rules.specs.Trace.{fault_number_of};
+
 // A record of a section: its kind, its argument and its value.
+// The kind is the file's own byte and no enum: a record of any kind is there, and right_record says which are right.
 #[derive(Clone, Copy)]
 pub struct Entry {
     pub kind: u8,
@@ -19,9 +23,16 @@ pub enum Fault {
     TooManyCalls,
 }
 
-// What playing a file answers: why it is not played, or the calls made.
-#[derive(Clone, Copy)]
-pub enum Played {
-    Refused(Fault),
-    Made(u16),
+// The table's number for a fault.
+impl From<Fault> for u8 {
+    ghost from_gives = { λ fault n. n ≡ fault_number_of fault };
+
+    #[tactic(auto, unfolding(crate::specs::Trace::fault_number_of))]
+    fn from(fault: Fault) -> u8 {
+        match fault {
+            Fault::BadContents => 17,
+            Fault::BadRecord => 18,
+            Fault::TooManyCalls => 19,
+        }
+    }
 }

@@ -1,12 +1,13 @@
 -- Document 02, Fourteen: from a trace file that broke off, a new file that Five refuses neither with 17 nor with 18, at the start of a
 -- buffer that the caller lends. What a right record is, and a section's level, are Five's own, over the records kept.
-use Rattle.std.specs.Prelude.{ℕ, zero, suc, ◌+◌, ◌-◌, ◌*◌, Bool, true, false, not, ◌&&◌, List, [], ◌∷◌, ◌++◌, leb, ltb, length, take, get_or}
+use Rattle.std.specs.Prelude.{ℕ, zero, suc, ◌+◌, ◌-◌, ◌*◌, Bool, not, ◌&&◌, List, [], ◌∷◌, ◌++◌, Result, Ok, Err, is_ok, leb, ltb, length, take, get_or}
 use Rattle.laws.specs.Choice.{when◌then◌else◌}
 use Rattle.trace_rules.specs.declared.Entry.{Entry}
 use Rattle.trace_rules.specs.Trace.{most_bytes, section_count, size_of, place_of, table_right, body_of, entries_of, section_level, right_record}
 use Rattle.trace_rules.specs.TraceBytes.{file, sections_from, placed}
 use Rattle.trace_salvage_rules.specs.declared.Salvaged.{Salvaged}
-use Rattle.trace_salvage_rules.specs.declared.Salvaged.TheVariants.{BadContents, NoRoom, Written}
+use Rattle.trace_salvage_rules.specs.declared.SalvageFault.{SalvageFault}
+use Rattle.trace_salvage_rules.specs.declared.SalvageFault.TheVariants.{BadContents, NoRoom}
 
 -- A file can be salvaged if its table of contents is whole and gapless, and its last section is not stated to end behind the last byte
 -- that a file may have.
@@ -59,26 +60,25 @@ sections_cut f new = sum_below (fell_in f new) (section_count f)
 unfoldable pub bytes_lost : List ℕ → List ℕ → ℕ
 bytes_lost f new = sum_below (size_of f) (section_count f) - sum_below (size_of new) (section_count f)
 
+-- What is told: the sections cut, the bytes lost, and the new file's length.
+abbrev pub told : ℕ → ℕ → ℕ → Salvaged
+told cut lost n = record { cut = cut; lost = lost; length = n }
+
 -- The answer: 17, then 20, else what was lost and the new file's length.
-unfoldable pub answer_with : List ℕ → List ℕ → ℕ → Salvaged
-answer_with f new room = when ltb room (length new) then NoRoom else Written (sections_cut f new) (bytes_lost f new) (length new)
+unfoldable pub answer_with : List ℕ → List ℕ → ℕ → Result Salvaged SalvageFault
+answer_with f new room = when ltb room (length new) then Err NoRoom else Ok (told (sections_cut f new) (bytes_lost f new) (length new))
 
-unfoldable pub salvaged_of : List ℕ → ℕ → Salvaged
-salvaged_of f room = when not (salvageable f) then BadContents else answer_with f (salvaged_file f) room
+unfoldable pub salvaged_of : List ℕ → ℕ → Result Salvaged SalvageFault
+salvaged_of f room = when not (salvageable f) then Err BadContents else answer_with f (salvaged_file f) room
 
-unfoldable pub salvage_number_of : Salvaged → ℕ
+unfoldable pub salvage_number_of : Result Salvaged SalvageFault → ℕ
 -- the section count is wrong, the contents are not whole or gapless, or the file or its last stated end passes 65,535
-salvage_number_of BadContents = 17
+salvage_number_of (Err BadContents) = 17
 -- the lent buffer is too small
-salvage_number_of NoRoom = 20
+salvage_number_of (Err NoRoom) = 20
 -- salvaged
-salvage_number_of (Written cut lost n) = 0
+salvage_number_of (Ok s) = 0
 
 -- The buffer after it: the new file, and behind it the bytes of before. A refusal leaves all of them.
-abbrev pub is_written : Salvaged → Bool
-is_written BadContents = false
-is_written NoRoom = false
-is_written (Written cut lost n) = true
-
 unfoldable pub buffer_after : List ℕ → List ℕ → List ℕ
-buffer_after f buffer = when is_written (salvaged_of f (length buffer)) then placed (salvaged_file f) buffer else buffer
+buffer_after f buffer = when is_ok (salvaged_of f (length buffer)) then placed (salvaged_file f) buffer else buffer

@@ -1,13 +1,13 @@
 -- The customer's demands on salvaged traces. The record Salvages holds every statement, and proofs/SalvageDemandsHold.antt proves it. Right
 -- contents, right records and levels are those of the page of trace files, and files are spoken of by their bytes, so that no rule is
 -- its own judge.
-use Rattle.std.specs.Prelude.{ℕ, zero, suc, ◌+◌, ◌-◌, ◌<◌, ◌≤◌, true, List, ◌++◌, ◌≡◌, ltb, length, take, drop}
+use Rattle.std.specs.Prelude.{ℕ, zero, suc, ◌+◌, ◌-◌, ◌<◌, ◌≤◌, true, List, ◌++◌, Result, Ok, Err, ◌≡◌, ltb, length, take, drop}
 use Rattle.laws.specs.Choice.{when◌then◌else◌}
 use Rattle.trace_rules.specs.TraceBytes.{Bytes}
 use Rattle.trace_rules.specs.TraceDemands.{most_bytes, most_sections, sections, start, size, record_at, end_before, Whole, Right, AllRight}
 use Rattle.trace_salvage_rules.specs.declared.Salvaged.{Salvaged}
-use Rattle.trace_salvage_rules.specs.declared.Salvaged.TheVariants.{BadContents, NoRoom, Written}
-use Rattle.trace_salvage_rules.specs.Salvage.{salvaged_of, salvage_number_of, buffer_after}
+use Rattle.trace_salvage_rules.specs.declared.SalvageFault.{SalvageFault}
+use Rattle.trace_salvage_rules.specs.Salvage.{told, salvaged_of, salvage_number_of, buffer_after}
 use Rattle.trace_salvage_rules.specs.SalvageExamples.{salvage_examples}
 
 -- A table of contents that is whole and gapless, of 1 to 64 sections: the file has all of it, and each section starts where the one
@@ -63,20 +63,17 @@ pub data Outcome (f buffer : List ℕ) : ℕ → ℕ → ℕ → ℕ → List �
       (new ++ drop (length new) buffer)
 
 -- The numbers of an answer.
-abbrev pub cut_in : Salvaged → ℕ
-cut_in BadContents = 0
-cut_in NoRoom = 0
-cut_in (Written cut lost n) = cut
+abbrev pub cut_in : Result Salvaged SalvageFault → ℕ
+cut_in (Err e) = 0
+cut_in (Ok s) = s.cut
 
-abbrev pub lost_in : Salvaged → ℕ
-lost_in BadContents = 0
-lost_in NoRoom = 0
-lost_in (Written cut lost n) = lost
+abbrev pub lost_in : Result Salvaged SalvageFault → ℕ
+lost_in (Err e) = 0
+lost_in (Ok s) = s.lost
 
-abbrev pub length_in : Salvaged → ℕ
-length_in BadContents = 0
-length_in NoRoom = 0
-length_in (Written cut lost n) = n
+abbrev pub length_in : Result Salvaged SalvageFault → ℕ
+length_in (Err e) = 0
+length_in (Ok s) = s.length
 
 -- Salvaging has the outcome said above, and of a file of bytes there is no other. A right file of bytes, in a buffer of at least its
 -- length, is its own salvage; and salvaging twice is salvaging once.
@@ -87,7 +84,7 @@ pub record Salvages : Type 0 where
   pub one_outcome : (f buffer : List ℕ) → Bytes f → {a b c d x y z w : ℕ} {u v : List ℕ} →
       Outcome f buffer a b c d u → Outcome f buffer x y z w v → (a ≡ x) × (b ≡ y) × (c ≡ z) × (d ≡ w) × (u ≡ v)
   pub own : (f buffer : List ℕ) → Bytes f → Whole f → AllRight f → length f ≤ length buffer →
-      (salvaged_of f (length buffer) ≡ Written 0 0 (length f)) × (buffer_after f buffer ≡ f ++ drop (length f) buffer)
-  pub twice : (f buffer : List ℕ) (cut lost n : ℕ) → salvaged_of f (length buffer) ≡ Written cut lost n →
+      (salvaged_of f (length buffer) ≡ Ok (told 0 0 (length f))) × (buffer_after f buffer ≡ f ++ drop (length f) buffer)
+  pub twice : (f buffer : List ℕ) (cut lost n : ℕ) → salvaged_of f (length buffer) ≡ Ok (told cut lost n) →
       let new = take n (buffer_after f buffer) in
-      (salvaged_of new (length buffer) ≡ Written 0 0 n) × (buffer_after new (buffer_after f buffer) ≡ buffer_after f buffer)
+      (salvaged_of new (length buffer) ≡ Ok (told 0 0 n)) × (buffer_after new (buffer_after f buffer) ≡ buffer_after f buffer)

@@ -1,10 +1,10 @@
 -- Document 02, Fourteen: files, the size of the lent buffer, and the answer with the buffer after it. proofs/SalvageExamplesHold.antt
 -- runs the definitions on them.
-use Rattle.std.specs.Prelude.{ℕ, ◌-◌, Bool, true, false, ◌&&◌, List, [], ◌∷◌, ◌++◌, eqb, length, replicate, take}
+use Rattle.std.specs.Prelude.{ℕ, ◌-◌, Bool, true, false, ◌&&◌, List, [], ◌∷◌, ◌++◌, Result, Ok, Err, eqb, length, replicate, take}
 use Rattle.trace_rules.specs.TraceBytes.{half, word, entry, file}
 use Rattle.trace_rules.specs.TraceExamples.{write, clear, play, every, host, levels_to, one_word_played}
 use Rattle.trace_salvage_rules.specs.declared.Salvaged.{Salvaged}
-use Rattle.trace_salvage_rules.specs.declared.Salvaged.TheVariants.{BadContents, NoRoom, Written}
+use Rattle.trace_salvage_rules.specs.declared.SalvageFault.{SalvageFault}
 use Rattle.trace_salvage_rules.specs.Salvage.{salvaged_of, salvage_number_of, buffer_after}
 
 -- The same bytes.
@@ -20,10 +20,9 @@ lent room = replicate room 0xAA
 
 -- A file is salvaged: the sections cut, the bytes lost and the new file's length are told, and the buffer holds the new file and, behind
 -- it, its own bytes.
-abbrev pub tells : Salvaged → ℕ → ℕ → ℕ → Bool
-tells BadContents cut lost n = false
-tells NoRoom cut lost n = false
-tells (Written a b c) cut lost n = eqb a cut && (eqb b lost && eqb c n)
+abbrev pub tells : Result Salvaged SalvageFault → ℕ → ℕ → ℕ → Bool
+tells (Err e) cut lost n = false
+tells (Ok s) cut lost n = eqb s.cut cut && (eqb s.lost lost && eqb s.length n)
 
 abbrev pub salvaged : ℕ → ℕ → List ℕ → ℕ → List ℕ → Bool
 salvaged cut lost f room new =

@@ -2,7 +2,7 @@
 --     saves_hold      what the buyer signs for, of saved sessions
 --     buffer_length   the buffer stays as long as it is
 -- Assumes nothing.
-use Rattle.std.specs.Prelude.{◌+◌, ◌*◌, ◌≤◌, ◌&&◌, ◌||◌, ◌∷◌, ◌++◌, ◌≡◌}
+use Rattle.std.specs.Prelude.{◌+◌, ◌*◌, ◌≤◌, ◌&&◌, ◌||◌, ◌∷◌, ◌++◌, Ok, Err, ◌≡◌}
 use Rattle.laws.proofs.Common.{ℕ, Bool, true, false, not, List, [], refl, sym, ap}
 use Rattle.laws.proofs.Common.{◌∙◌, arith, leb-true, leb, ltb, length, take, drop, length-append, length-drop, take_at}
 use Rattle.laws.proofs.Common.{drop_at, when◌then◌else◌, if_true, if_false, and_left, and_right, by_test}
@@ -10,10 +10,8 @@ use Rattle.module_rules.proofs.Types.{Module, Call}
 use Rattle.module_rules.specs.RefusalTable.{row, first_number}
 use Rattle.module_rules.specs.Calls.{powered_up, after_calls}
 use Rattle.script_rules.specs.Script.{read_from, lines_of, script_calls, script_end}
-use Rattle.trace_rules.specs.declared.Played.TheVariants.{Made}
 use Rattle.trace_rules.specs.Trace.{section_count, file_calls, played_of, is_made, played_module}
-use Rattle.trace_save_rules.specs.declared.Saved.TheVariants.{NoRoom, Written}
-use Rattle.trace_save_rules.specs.Save.{kept_calls, saved_file, has_room, saved_of, buffer_after, saved_number_of, saved_length_of}
+use Rattle.trace_save_rules.specs.Save.{kept_calls, saved_file, has_room, no_room, saved_of, buffer_after, saved_number_of, saved_length_of}
 use Rattle.trace_save_rules.specs.SaveDemands.{calls_kept, file_size, Kept, Saves}
 use Rattle.trace_save_rules.proofs.SaveExamplesHold.{save_examples_hold}
 use Rattle.trace_save_rules.proofs.SaveFile.{all_kept, file_length, file_section, file_played, file_calls_lem}
@@ -21,7 +19,7 @@ use Rattle.trace_save_rules.proofs.SaveLines.{at_most, kept_calls_lem, all_kept_
 
 -- The row of the table.
 rows_law : (long narrow : Bool) (n : ℕ) →
-    saved_number_of (when not long && not narrow then Written n else NoRoom) ≡ first_number (row 20 (long || narrow) ∷ [])
+    saved_number_of (when not long && not narrow then Ok n else Err no_room) ≡ first_number (row 20 (long || narrow) ∷ [])
 unfolding when◌then◌else◌ saved_number_of
 rows_law true narrow n = refl
 rows_law false true n = refl
@@ -52,9 +50,9 @@ module _ (input : List ℕ) where
   saved-calls = file_calls_lem (kept_calls input) held ∙ calls_kept_lem
 
   -- The file is played, makes a call for each line that was kept, and ends where the script does.
-  saved-played : length (saved_file input) ≤ 65535 → played_of (saved_file input) ≡ Made (length (calls_kept input))
+  saved-played : length (saved_file input) ≤ 65535 → played_of (saved_file input) ≡ Ok (length (calls_kept input))
   unfolding saved_file
-  saved-played h = file_played (kept_calls input) held h ∙ ap (λ (cs : List Call). Made (length cs)) calls_kept_lem
+  saved-played h = file_played (kept_calls input) held h ∙ ap (λ (cs : List Call). Ok (length cs)) calls_kept_lem
 
   saved-ends : length (saved_file input) ≤ 65535 → (m : Module) → played_module m (saved_file input) ≡ script_end input
   unfolding played_module saved_file kept_calls script_end script_calls
@@ -73,19 +71,19 @@ module _ (input : List ℕ) where
         saved_number_of (saved_of input room) ≡ first_number (row 20 (ltb 65535 (file_size input) || ltb room (file_size input)) ∷ [])
     unfolding saved_of
     refused_exactly_lem =
-        ap (λ (t : Bool). saved_number_of (when t then Written (length (saved_file input)) else NoRoom)) fits-is
+        ap (λ (t : Bool). saved_number_of (when t then Ok (length (saved_file input)) else Err no_room)) fits-is
         ∙ rows_law (ltb 65535 (file_size input)) (ltb room (file_size input)) (length (saved_file input))
 
-    written : has_room (saved_file input) room ≡ true → saved_of input room ≡ Written (length (saved_file input))
+    written : has_room (saved_file input) room ≡ true → saved_of input room ≡ Ok (length (saved_file input))
     unfolding saved_of
     written on = if_true (has_room (saved_file input) room) _ _ on
 
-    no_room : has_room (saved_file input) room ≡ false → saved_number_of (saved_of input room) ≡ 20
+    unsaved : has_room (saved_file input) room ≡ false → saved_number_of (saved_of input room) ≡ 20
     unfolding saved_of saved_number_of
-    no_room off = ap saved_number_of (if_false (has_room (saved_file input) room) _ _ off)
+    unsaved off = ap saved_number_of (if_false (has_room (saved_file input) room) _ _ off)
 
     fitting : saved_number_of (saved_of input room) ≡ 0 → has_room (saved_file input) room ≡ true
-    fitting e = by_test (has_room (saved_file input) room) (λ on. on) (λ off. absurd (omega (arith, e, no_room off)))
+    fitting e = by_test (has_room (saved_file input) room) (λ on. on) (λ off. absurd (omega (arith, e, unsaved off)))
 
   -- The buffer.
   module _ (buffer : List ℕ) where
@@ -128,7 +126,7 @@ unfolding saved_number_of
 buffer_length input buffer =
     by_test (has_room (saved_file input) (length buffer))
     (λ on. (kept input buffer (ap saved_number_of (written input (length buffer) on))).whole)
-    (λ off. ap length (refused_unchanged_lem input buffer (no_room input (length buffer) off)).0)
+    (λ off. ap length (refused_unchanged_lem input buffer (unsaved input (length buffer) off)).0)
 
 pub saves_hold : Saves
 saves_hold =

@@ -5,13 +5,12 @@
 --     file_played    it is played, and counts its calls
 --     file_calls_lem     and makes them in order
 -- Assumes nothing.
-use Rattle.std.specs.Prelude.{◌+◌, ◌*◌, ◌≤◌, ◌&&◌, ◌∷◌, ◌++◌, ◌≡◌}
+use Rattle.std.specs.Prelude.{◌+◌, ◌*◌, ◌≤◌, ◌&&◌, ◌∷◌, ◌++◌, ◌≡◌, Ok}
 use Rattle.laws.proofs.Common.{ℕ, zero, suc, Bool, true, false, not, List, [], append-nil}
 use Rattle.laws.proofs.Common.{refl, ap, ◌∙◌, arith, le-ltb, leb-true, ltb, length, length-append, when◌then◌else◌}
 use Rattle.laws.proofs.Common.{if_false, and_left, and_right, and_both, clash}
 use Rattle.module_rules.proofs.Types.{Call, Read, Write, Tick, Pin, ClockStep, Clear}
 use Rattle.trace_rules.specs.declared.Entry.{Entry}
-use Rattle.trace_rules.specs.declared.Played.TheVariants.{Made}
 use Rattle.trace_rules.specs.Trace.{byte_at, half_at, section_count, contents_right, entries_in, entries_of, is_play, section_level, right_record, all_right, all_below, records_right, calls_by, play_calls, count_by, play_count, file_calls, file_count, played_of}
 use Rattle.trace_page.proofs.TraceRight.{makes_call, in_right}
 use Rattle.trace_page.proofs.TraceContents.{laid_contents}
@@ -177,10 +176,10 @@ records cs k =
     let level : ℕ = section_level (entries_of (file_of cs)) 0 in
     ap (all_right 1 level 0) (section cs k) ∙ all_right_lem 1 level cs k
 
-pub file_played : (cs : List Call) → all_kept cs ≡ true → length (file_of cs) ≤ 65535 → played_of (file_of cs) ≡ Made (length cs)
+pub file_played : (cs : List Call) → all_kept cs ≡ true → length (file_of cs) ≤ 65535 → played_of (file_of cs) ≡ Ok (length cs)
 unfolding played_of
 file_played cs k fits =
     if_false (not (contents_right (file_of cs))) _ _ (ap not (contents cs k fits))
     ∙ if_false (not (records_right (file_of cs))) _ _ (ap not (records cs k))
     ∙ if_false (ltb 65535 (file_count (file_of cs))) _ _ (le-ltb 65535 (file_count (file_of cs)) (omega (arith, calls_counted cs k, file_length cs k)))
-    ∙ ap Made (calls_counted cs k)
+    ∙ ap Ok (calls_counted cs k)

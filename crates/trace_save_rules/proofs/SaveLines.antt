@@ -5,15 +5,13 @@
 --     all_kept_lem       each of them is one that a record can hold
 --     kept_ends      lines that are left out leave the module as it was
 -- Assumes nothing.
-use Rattle.std.specs.Prelude.{◌∷◌, ◌++◌, ◌≡◌}
+use Rattle.std.specs.Prelude.{◌∷◌, ◌++◌, ◌≡◌, Option, Some, None}
 use Rattle.laws.proofs.Common.{ℕ, Bool, true, false, not, List, [], refl, sym, ap, ◌∙◌, ltb-true, ltb-false}
 use Rattle.laws.proofs.Common.{lt-ltb, leb-false, le-leb, lt-leb, leb, ltb, when◌then◌else◌, if_not, if_keeps, if_true, by_test}
 use Rattle.laws.proofs.Common.{and_both, clash}
 use Rattle.module_rules.proofs.Types.{Module, Call, Outcome, Read, Write, Tick, Pin, ClockStep, Clear}
 use Rattle.module_rules.specs.RefusalTable.{asks, is_clock_step}
 use Rattle.module_rules.specs.Calls.{refuse, read_of, write_of, perform_of, after_calls}
-use Rattle.script_rules.specs.declared.Line.{Line}
-use Rattle.script_rules.specs.declared.Line.TheVariants.{Unreadable, Asked}
 use Rattle.script_rules.specs.Script.{has_form, write_form, read_form, tick_form, tick_ss_form, pin_form, clear_form, reading_of, asked, lines_calls}
 use Rattle.trace_save_rules.specs.Save.{keeps, kept_of, kept_from}
 use Rattle.trace_save_rules.specs.SaveDemands.{line_kept, lines_kept}
@@ -24,14 +22,14 @@ pub at_most : (a b : ℕ) → leb b a ≡ not (ltb a b)
 at_most a b = by_test (ltb a b) (λ e. cc (lt-leb b a (ltb-true a b e), e)) (λ e. cc (le-leb b a (ltb-false a b e), e))
 
 -- No line asks for a clock step.
-abbrev plain : Line → Bool
-plain Unreadable = true
-plain (Asked c) = not (is_clock_step c)
+abbrev plain : Option Call → Bool
+plain None = true
+plain (Some c) = not (is_clock_step c)
 
 reading_plain : (line : List ℕ) → plain (reading_of line) ≡ true
 unfolding reading_of
 reading_plain line =
-    let P : Line → Type 0 = λ (l : Line). plain l ≡ true in
+    let P : Option Call → Type 0 = λ (l : Option Call). plain l ≡ true in
     if_keeps P (has_form write_form line) _ _ (λ e. refl)
     (λ e.
     if_keeps P (has_form read_form line) _ _ (λ e. refl)
@@ -51,10 +49,10 @@ keeps_is (Pin sck sdi ss) p = refl
 keeps_is (ClockStep sck sdi ss) p = clash false p refl
 keeps_is Clear p = refl
 
-one_kept : (line : Line) → plain line ≡ true → kept_of line ≡ line_kept line
+one_kept : (line : Option Call) → plain line ≡ true → kept_of line ≡ line_kept line
 unfolding kept_of
-one_kept Unreadable p = refl
-one_kept (Asked c) p = ap (λ (b : Bool). when b then c ∷ [] else []) (keeps_is c p) ∙ if_not (ltb 3 (asks c).register) (c ∷ []) []
+one_kept None p = refl
+one_kept (Some c) p = ap (λ (b : Bool). when b then c ∷ [] else []) (keeps_is c p) ∙ if_not (ltb 3 (asks c).register) (c ∷ []) []
 
 pub kept_calls_lem : (lines : List (List ℕ)) → kept_from lines ≡ lines_kept lines
 unfolding kept_from
@@ -62,16 +60,16 @@ kept_calls_lem [] = refl
 kept_calls_lem (line ∷ lines) = cc (one_kept (reading_of line) (reading_plain line), kept_calls_lem lines)
 
 -- Each of these calls is one that is kept.
-kept_then : (line : Line) (cs : List Call) → all_kept cs ≡ true → all_kept (kept_of line ++ cs) ≡ true
+kept_then : (line : Option Call) (cs : List Call) → all_kept cs ≡ true → all_kept (kept_of line ++ cs) ≡ true
 unfolding kept_of
-kept_then Unreadable cs e = e
-kept_then (Asked c) cs e =
+kept_then None cs e = e
+kept_then (Some c) cs e =
     if_keeps (λ (kept : List Call). all_kept (kept ++ cs) ≡ true) (keeps c) _ _ (λ on. and_both (keeps c) _ on e) (λ off. e)
 
-pub line_kept_lem : (line : Line) → all_kept (kept_of line) ≡ true
+pub line_kept_lem : (line : Option Call) → all_kept (kept_of line) ≡ true
 unfolding kept_of
-line_kept_lem Unreadable = refl
-line_kept_lem (Asked c) = if_keeps (λ (kept : List Call). all_kept kept ≡ true) (keeps c) _ _ (λ on. and_both (keeps c) _ on refl) (λ off. refl)
+line_kept_lem None = refl
+line_kept_lem (Some c) = if_keeps (λ (kept : List Call). all_kept kept ≡ true) (keeps c) _ _ (λ on. and_both (keeps c) _ on refl) (λ off. refl)
 
 pub all_kept_lem : (lines : List (List ℕ)) → all_kept (kept_from lines) ≡ true
 unfolding kept_from
@@ -89,11 +87,11 @@ unkept_unchanged m (ClockStep sck sdi ss) p e = clash false p refl
 unkept_unchanged m Clear p e = clash true refl e
 
 -- The calls that a line asks for and the one that is kept lead to the same module.
-line_ends : (m : Module) (line : Line) → plain line ≡ true → (kept all : List Call) → ((n : Module) → after_calls n kept ≡ after_calls n all) →
+line_ends : (m : Module) (line : Option Call) → plain line ≡ true → (kept all : List Call) → ((n : Module) → after_calls n kept ≡ after_calls n all) →
     after_calls m (kept_of line ++ kept) ≡ after_calls m (asked line ++ all)
 unfolding kept_of asked
-line_ends m Unreadable p kept all e = e m
-line_ends m (Asked c) p kept all e =
+line_ends m None p kept all e = e m
+line_ends m (Some c) p kept all e =
     if_keeps (λ (cs : List Call). after_calls m (cs ++ kept) ≡ after_calls (perform_of m c).after all) (keeps c) _ _
     (λ on. e (perform_of m c).after)
     (λ off. e m ∙ ap (λ (n : Module). after_calls n all) (sym (unkept_unchanged m c p off)))

@@ -1,15 +1,12 @@
 -- Document 02, Six: a script session is saved as a trace file of one section, at the start of a buffer that the caller lends. The
 -- session is what the script program reads of its input.
-use Rattle.std.specs.Prelude.{ℕ, ◌+◌, Bool, true, false, ◌&&◌, List, [], ◌∷◌, ◌++◌, leb, length}
+use Rattle.std.specs.Prelude.{ℕ, ◌+◌, Bool, true, false, ◌&&◌, List, [], ◌∷◌, ◌++◌, Option, Some, None, Result, Ok, Err, leb, length}
 use Rattle.laws.specs.Choice.{when◌then◌else◌}
 use Rattle.module_types.specs.declared.Call.{Call}
 use Rattle.module_types.specs.declared.Call.TheVariants.{Read, Write, Tick, Pin, ClockStep, Clear}
-use Rattle.script_rules.specs.declared.Line.{Line}
-use Rattle.script_rules.specs.declared.Line.TheVariants.{Unreadable, Asked}
 use Rattle.script_rules.specs.Script.{read_from, lines_of, reading_of}
 use Rattle.trace_rules.specs.TraceBytes.{entry, file, placed}
-use Rattle.trace_save_rules.specs.declared.Saved.{Saved}
-use Rattle.trace_save_rules.specs.declared.Saved.TheVariants.{NoRoom, Written}
+use Rattle.trace_save_rules.specs.declared.NoRoom.{NoRoom}
 
 -- A line that cannot be read is left out, and so is one that names a register above 3. All others are kept, whether the module
 -- refuses them or not. No line asks for a clock step, and no record of a trace file holds one.
@@ -21,9 +18,9 @@ keeps (Pin sck sdi ss) = true
 keeps (ClockStep sck sdi ss) = false
 keeps Clear = true
 
-unfoldable pub kept_of : Line → List Call
-kept_of Unreadable = []
-kept_of (Asked c) = when keeps c then c ∷ [] else []
+unfoldable pub kept_of : Option Call → List Call
+kept_of None = []
+kept_of (Some c) = when keeps c then c ∷ [] else []
 
 unfoldable pub kept_from : List (List ℕ) → List Call
 kept_from [] = []
@@ -61,18 +58,21 @@ unfoldable pub has_room : List ℕ → ℕ → Bool
 has_room f room = leb (length f) 65535 && leb (length f) room
 
 -- The answer: the file's length, or 20.
-unfoldable pub saved_of : List ℕ → ℕ → Saved
-saved_of input room = when has_room (saved_file input) room then Written (length (saved_file input)) else NoRoom
+abbrev pub no_room : NoRoom
+no_room = record {}
+
+unfoldable pub saved_of : List ℕ → ℕ → Result ℕ NoRoom
+saved_of input room = when has_room (saved_file input) room then Ok (length (saved_file input)) else Err no_room
 
 -- The buffer after it: the file, and behind it the bytes of before. A refused save leaves all of them.
 unfoldable pub buffer_after : List ℕ → List ℕ → List ℕ
 buffer_after input buffer = when has_room (saved_file input) (length buffer) then placed (saved_file input) buffer else buffer
 
 -- The numbers of an answer: that of the refusal, 0 if saved; and the file's length, 0 if refused.
-unfoldable pub saved_number_of : Saved → ℕ
-saved_number_of NoRoom = 20
-saved_number_of (Written n) = 0
+unfoldable pub saved_number_of : Result ℕ NoRoom → ℕ
+saved_number_of (Err e) = 20
+saved_number_of (Ok n) = 0
 
-unfoldable pub saved_length_of : Saved → ℕ
-saved_length_of NoRoom = 0
-saved_length_of (Written n) = n
+unfoldable pub saved_length_of : Result ℕ NoRoom → ℕ
+saved_length_of (Err e) = 0
+saved_length_of (Ok n) = n

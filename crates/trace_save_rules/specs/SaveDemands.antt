@@ -1,22 +1,19 @@
 -- The customer's demands on saved sessions. The record Saves holds every statement, and proofs/SaveDemandsHold.antt proves it.
-use Rattle.std.specs.Prelude.{ℕ, ◌+◌, ◌*◌, true, ◌||◌, List, [], ◌∷◌, ◌++◌, ◌≡◌, ltb, length, take, drop}
+use Rattle.std.specs.Prelude.{ℕ, ◌+◌, ◌*◌, true, ◌||◌, List, [], ◌∷◌, ◌++◌, Option, Some, None, Result, Ok, ◌≡◌, ltb, length, take, drop}
 use Rattle.laws.specs.Choice.{when◌then◌else◌}
 use Rattle.module_types.specs.declared.Module.{Module}
 use Rattle.module_types.specs.declared.Call.{Call}
 use Rattle.module_rules.specs.RefusalTable.{row, first_number, asks}
-use Rattle.script_rules.specs.declared.Line.{Line}
-use Rattle.script_rules.specs.declared.Line.TheVariants.{Unreadable, Asked}
 use Rattle.script_rules.specs.Script.{read_from, lines_of, reading_of, script_end}
-use Rattle.trace_rules.specs.declared.Played.TheVariants.{Made}
 use Rattle.trace_rules.specs.Trace.{section_count, file_calls, played_of, played_module}
-use Rattle.trace_save_rules.specs.declared.Saved.{Saved}
+use Rattle.trace_save_rules.specs.declared.NoRoom.{NoRoom}
 use Rattle.trace_save_rules.specs.Save.{saved_of, buffer_after, saved_number_of, saved_length_of}
 use Rattle.trace_save_rules.specs.SaveExamples.{save_examples}
 
 -- The call of a line that is kept. A line that cannot be read, which gets 9, is left out, and so is one that names a register above 3.
-abbrev pub line_kept : Line → List Call
-line_kept Unreadable = []
-line_kept (Asked c) = when ltb 3 (asks c).register then [] else c ∷ []
+abbrev pub line_kept : Option Call → List Call
+line_kept None = []
+line_kept (Some c) = when ltb 3 (asks c).register then [] else c ∷ []
 
 -- The calls of the lines of a session that are kept, in order.
 abbrev pub lines_kept : List (List ℕ) → List Call
@@ -37,7 +34,7 @@ pub record Kept (input : List ℕ) (n : ℕ) (before after : List ℕ) : Type 0 
   pub size : n ≡ file_size input
   pub section : section_count (take n after) ≡ 1
   pub calls : file_calls (take n after) ≡ calls_kept input
-  pub plays : played_of (take n after) ≡ Made (length (calls_kept input))
+  pub plays : played_of (take n after) ≡ Ok (length (calls_kept input))
   pub ends : (m : Module) → played_module m (take n after) ≡ script_end input
   pub behind : drop n after ≡ drop n before
   pub whole : length after ≡ length before
@@ -52,5 +49,5 @@ pub record Saves : Type 0 where
       (buffer_after input buffer ≡ buffer) × (saved_length_of (saved_of input (length buffer)) ≡ 0)
   pub kept : (input buffer : List ℕ) → saved_number_of (saved_of input (length buffer)) ≡ 0 →
       Kept input (saved_length_of (saved_of input (length buffer))) buffer (buffer_after input buffer)
-  pub one_outcome : (input buffer : List ℕ) (x y : Saved) (u v : List ℕ) → x ≡ saved_of input (length buffer) →
+  pub one_outcome : (input buffer : List ℕ) (x y : Result ℕ NoRoom) (u v : List ℕ) → x ≡ saved_of input (length buffer) →
       y ≡ saved_of input (length buffer) → u ≡ buffer_after input buffer → v ≡ buffer_after input buffer → (x ≡ y) × (u ≡ v)

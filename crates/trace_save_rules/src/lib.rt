@@ -2,9 +2,19 @@
 // follows from them is in proofs/.
 #![tactic(auto)]
 
-// What saving answers: the file does not fit, or its length. The paper's number is given by saved_number_of in specs/Save.antt.
+ghost use Rattle.std.specs.Prelude.{◌≡◌, Err};
+ghost use Rattle.trace_save_rules.specs.Save.{saved_number_of};
+
+// The file does not fit: saving answers its length, or this. The paper's number is given by saved_number_of in specs/Save.antt.
 #[derive(Clone, Copy)]
-pub enum Saved {
-    NoRoom,
-    Written(u16),
+pub struct NoRoom;
+
+// The table's number for it.
+impl From<NoRoom> for u8 {
+    ghost from_gives = { λ fault n. n ≡ saved_number_of (Err fault) };
+
+    #[tactic(auto, unfolding(crate::specs::Save::saved_number_of))]
+    fn from(_fault: NoRoom) -> u8 {
+        20
+    }
 }

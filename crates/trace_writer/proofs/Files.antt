@@ -1,52 +1,48 @@
 -- The file, written in two parts, and the loop that writes its records.
---     records_from                     what is left of the records
+--     records_in                       the records of lines
 --     records_first, records_more, records_none   all, those of a line and the rest, and none
 --     file_parts                      the file is its table of contents and its records
 --     session_is, few_kept, counted  what is read of a script, and how many of its lines are kept
 --     too_long_lem, too_large, fitting    whether it has_room, by the bytes of its records
 --     refused, saved                  what a save answers, and the buffer after it
 -- Assumes nothing.
-use Rattle.std.specs.Prelude.{◌+◌, ◌*◌, ◌≤◌, ◌<◌, ◌++◌, ◌≡◌}
-use Rattle.laws.proofs.Common.{ℕ, true, false, List, [], append-nil, refl, sym, ap, ap₂, ◌∙◌}
-use Rattle.laws.proofs.Common.{arith, le-leb, lt-leb, leb, length, take, drop, get_or, so, not_so, and_both, and-false}
+use Rattle.std.specs.Prelude.{◌+◌, ◌*◌, ◌≤◌, ◌<◌, ◌++◌, ◌∷◌, Option, Ok, Err, ◌≡◌}
+use Rattle.laws.proofs.Common.{ℕ, true, false, List, [], append-nil, refl, sym, ap, ap₂, subst, ◌∙◌}
+use Rattle.laws.proofs.Common.{arith, le-leb, lt-leb, leb, length, take, get_or, so, not_so, and_both, and-false}
 use Rattle.laws.proofs.Common.{and_first}
 use Rattle.module_types.specs.declared.Call.{Call}
-use Rattle.script_rules.specs.declared.Line.{Line}
-use Rattle.script_rules.specs.Script.{most_bytes, read_from, lines_of, reading_of}
-use Rattle.script_rules.specs.Session.{first_line}
+use Rattle.script_rules.specs.Script.{most_bytes, read_from, lines_of}
 use Rattle.script_rules.specs.Texts.{put, Written}
 use Rattle.script_rules.proofs.ScriptLines.{read_part, reads_at_most}
 use Rattle.trace_rules.specs.TraceBytes.{half, word}
-use Rattle.trace_save_rules.specs.declared.Saved.TheVariants.{NoRoom, Written as Saved-as-Written}
-use Rattle.trace_save_rules.specs.Save.{kept_of, kept_from, kept_calls, record_bytes, file_of, saved_file, has_room, saved_of, buffer_after}
+use Rattle.trace_save_rules.specs.Save.{kept_of, kept_from, kept_calls, record_bytes, file_of, saved_file, has_room, no_room, saved_of, buffer_after}
 use Rattle.trace_save_rules.proofs.SaveFile.{file_length, records_length}
-use Rattle.trace_save_rules.proofs.SaveLines.{line_kept_lem, all_kept_lem}
-use Rattle.trace_writer.specs.Heads.{head_of}
+use Rattle.trace_save_rules.proofs.SaveLines.{all_kept_lem}
+use Rattle.script_lines.specs.Lines.{lines_left}
+use Rattle.trace_writer.specs.Heads.{head_of, put_records}
 use Rattle.trace_writer.proofs.Placing.{Writing, writing_first, put_front, put_on}
-use Rattle.trace_writer.proofs.Kept.{next_kept, none_behind, records_append}
+use Rattle.trace_writer.proofs.Kept.{kept_in, kept_first, records_append}
 
--- The records of what is kept from a place on.
-abbrev pub records_from : List ℕ → ℕ → List ℕ
-records_from session at = record_bytes (kept_from (lines_of (drop at session)))
+-- The records of lines: all of a session, which fit where the lines that are kept do, those of a line and the rest, and none.
+abbrev pub records_in : List (Option Call) → List ℕ
+records_in lines = record_bytes (kept_in lines)
 
--- They fit where the lines that are kept do.
-pub records_first : (session out : List ℕ) (from : ℕ) → from + 4 * length (kept_from (lines_of session)) ≤ length out →
-    Writing (put out from (records_from session 0)) (from + length (records_from session 0)) (records_from session 0) out from
-records_first session out from room =
-    writing_first (omega (arith, room, records_length (kept_from (lines_of session)) (all_kept_lem (lines_of session))))
+pub records_first : {session lines out : List ℕ} {at from : ℕ} → lines ≡ session → at ≡ 0 →
+    from + 4 * length (kept_from (lines_of session)) ≤ length out →
+    Writing (put_records out from session) (from + length (record_bytes (kept_from (lines_of session)))) (records_in (lines_left lines at)) out from
+records_first {session} {out = out} {from = from} same start room =
+    subst
+    (λ (left : List Call). Writing (put_records out from session) (from + length (record_bytes (kept_from (lines_of session)))) (record_bytes left) out from)
+    (sym (kept_first same start))
+    (writing_first (omega (arith, room, records_length (kept_from (lines_of session)) (all_kept_lem (lines_of session)))))
 
-module _ (session : List ℕ) (at : ℕ) where
-  -- The next line, and where it ends.
-  pub records_more : {line : Line} {end : ℕ} → at < length session → line ≡ reading_of (first_line (drop at session)) →
-      end ≡ at + length (first_line (drop at session)) → records_from session at ≡ record_bytes (kept_of line) ++ records_from session (end + 1)
-  records_more {line} more reads ends = ap record_bytes (next_kept session at more reads ends) ∙ records_append (kept_of line) _
+pub records_more : {line : Option Call} {lines rest : List (Option Call)} → lines ≡ line ∷ rest →
+    records_in lines ≡ record_bytes (kept_of line) ++ records_in rest
+records_more {line} e = ap records_in e ∙ records_append (kept_of line) _
 
-  pub records_none : length session ≤ at → records_from session at ≡ []
-  unfolding record_bytes
-  records_none over = ap record_bytes (none_behind session at over)
-
-pub line_room : (line : Line) → length (record_bytes (kept_of line)) ≡ 4 * length (kept_of line)
-line_room line = records_length (kept_of line) (line_kept_lem line)
+pub records_none : {lines : List (Option Call)} → lines ≡ [] → records_in lines ≡ []
+unfolding record_bytes
+records_none e = ap records_in e
 
 -- The file is its table of contents, of one section with the size for it, and its records.
 pub file_parts : (cs : List Call) (sizes : List ℕ) → get_or sizes 0 0 ≡ length (record_bytes cs) → file_of cs ≡ head_of 1 sizes ++ record_bytes cs
@@ -89,14 +85,14 @@ module _ (script : List ℕ) {size : ℕ} (counted : size ≡ 4 * length (kept_f
 
 -- A save that is refused, and one that is not.
 pub refused : (script out : List ℕ) → has_room (saved_file script) (length out) ≡ false →
-    (NoRoom ≡ saved_of script (length out)) × (out ≡ buffer_after script out)
+    (Err no_room ≡ saved_of script (length out)) × (out ≡ buffer_after script out)
 unfolding saved_of buffer_after
 refused script out off = (not_so _ _ _ off refl, not_so _ _ _ off refl)
 
 pub saved : (script out out' : List ℕ) {size next : ℕ} (sizes : List ℕ) → get_or sizes 0 0 ≡ size →
     size ≡ 4 * length (kept_from (lines_of (read_from script))) →
     10 + size ≤ 65535 → 10 + size ≤ length out → Written (head_of 1 sizes) out 0 out' next →
-    (Saved-as-Written (10 + size) ≡ saved_of script (length out))
+    (Ok (10 + size) ≡ saved_of script (length out))
     × (put out' next (record_bytes (kept_from (lines_of (read_from script)))) ≡ buffer_after script out)
 unfolding saved_of buffer_after saved_file kept_calls
 saved script out out' {size} {next} sizes one counted short room head =
@@ -104,7 +100,7 @@ saved script out out' {size} {next} sizes one counted short room head =
     let on = fitting script counted (length out) short room in
     let long = saved_size script counted (length out) in
     let parts = file_parts cs sizes (one ∙ counted ∙ sym (records_length cs (all_kept_lem (lines_of (read_from script))))) in (
-      so _ _ _ on (ap Saved-as-Written (sym long)),
+      so _ _ _ on (ap Ok (sym long)),
       so _ _ _ on
           (put_on head (record_bytes cs) (put out 0 (head_of 1 sizes ++ record_bytes cs)) refl
           ∙ ap (put out 0) (sym parts)

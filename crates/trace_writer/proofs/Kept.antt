@@ -1,86 +1,54 @@
 -- The lines of a session that are kept, one after the other.
---     kept_none, kept_one, kept_above   what a line leaves in the file, by what is known of it
---     read_below, write_below           a register that a kept call names
---     next_kept                         what is kept from a place on: the line there, and what is kept behind it
---     counting_goes_on                  lines that are counted, one more
---     none_behind                       past the last byte nothing is kept
+--     kept_line                         the record of a line, by that of the call that it asks for
+--     counted_line                      and how many that is
+--     kept_in, kept_in_all              what is kept of lines, and of all of a session
 --     kept_at_most                      no more lines are kept than there are bytes
 --     records_append                    the records of calls one behind the other
 -- Assumes nothing.
-use Rattle.std.specs.Prelude.{◌+◌, ◌≤◌, ◌<◌, ◌∷◌, ◌++◌, ◌≡◌}
-use Rattle.laws.proofs.Common.{ℕ, true, false, List, [], append_assoc, refl, sym, ap, ◌∙◌}
-use Rattle.laws.proofs.Common.{arith, leb-true, length, drop, drop_of_length-le, length-append, length-drop, drop-drop}
-use Rattle.laws.proofs.Common.{if_keeps, if_true, if_false}
-use Rattle.module_rules.proofs.Types.{Call, Read, Write}
-use Rattle.script_rules.specs.declared.Line.{Line}
-use Rattle.script_rules.specs.declared.Line.TheVariants.{Unreadable, Asked}
+use Rattle.std.specs.Prelude.{◌≤◌, ◌∷◌, ◌++◌, ◌≡◌, Option, Some, None, MatchOption, is_some, map}
+use mir.Val.{bool_byte}
+use Rattle.laws.proofs.Common.{ℕ, List, [], append_assoc, append-nil, refl, sym, ap, ap₂, subst, ◌∙◌}
+use Rattle.laws.proofs.Common.{arith, length, length-append}
+use Rattle.laws.proofs.Common.{if_keeps, by_test, when◌then◌else◌}
+use Rattle.module_rules.proofs.Types.{Call}
 use Rattle.script_rules.specs.Script.{lines_of, reading_of}
-use Rattle.script_rules.specs.Session.{first_line}
-use Rattle.script_rules.proofs.ScriptLines.{lines_begin, lines_at_most}
-use Rattle.trace_save_rules.specs.Save.{keeps, kept_of, kept_from, record_bytes}
+use Rattle.script_rules.proofs.ScriptLines.{lines_at_most}
+use Rattle.trace_save_rules.specs.Save.{keeps, kept_of, kept_from, record_of, record_bytes}
+use Rattle.script_lines.specs.Lines.{lines_left}
+use Rattle.trace_writer.specs.Heads.{kept_record, KeptRecord}
 
--- One line.
-module _ {line : Line} where
-  pub kept_none : line ≡ Unreadable → kept_of line ≡ []
-  unfolding kept_of
-  kept_none e = ap kept_of e
+-- The record of a call, and of a line that asks for one or for none.
+kept_call : (c : Call) → KeptRecord (Some c) (kept_record c)
+unfolding when◌then◌else◌ kept_record kept_of record_bytes
+kept_call c = by_test (keeps c) (λ on. rw on (refl, sym (append-nil (record_of c)))) (λ off. rw off refl)
 
-  module _ {c : Call} (asked : line ≡ Asked c) where
-    pub kept_one : keeps c ≡ true → kept_of line ≡ c ∷ []
-    unfolding kept_of
-    kept_one on = ap kept_of asked ∙ if_true (keeps c) _ _ on
+pub kept_line : (line : Option Call) (made : Option (List ℕ)) → MatchOption line (made ≡ None) (λ (c : Call). made ≡ kept_record c) → KeptRecord line made
+unfolding kept_of
+kept_line None made e = subst (KeptRecord None) (sym e) refl
+kept_line (Some c) made e = subst (KeptRecord (Some c)) (sym e) (kept_call c)
 
-    pub kept_above : keeps c ≡ false → kept_of line ≡ []
-    unfolding kept_of
-    kept_above off = ap kept_of asked ∙ if_false (keeps c) _ _ off
+pub counted_line : (line : Option Call) (made : Option (List ℕ)) → KeptRecord line made → bool_byte (is_some made) ≡ length (kept_of line)
+counted_line line None e = sym (ap length e)
+counted_line line (Some bytes) e = sym e.0
 
-pub read_below : {c : Call} {register : ℕ} → c ≡ Read register → keeps c ≡ true → register ≤ 3
-unfolding keeps
-read_below {c} {register} e k = leb-true register 3 (ap keeps (sym e) ∙ k)
+-- What is kept of lines.
+abbrev pub kept_in : List (Option Call) → List Call
+kept_in [] = []
+kept_in (line ∷ lines) = kept_of line ++ kept_in lines
 
-pub write_below : {c : Call} {register v : ℕ} → c ≡ Write register v → keeps c ≡ true → register ≤ 3
-unfolding keeps
-write_below {c} {register} e k = leb-true register 3 (ap keeps (sym e) ∙ k)
+pub kept_in_all : (lines : List (List ℕ)) → kept_in (map reading_of lines) ≡ kept_from lines
+unfolding kept_from
+kept_in_all [] = refl
+kept_in_all (line ∷ lines) = ap (λ (cs : List Call). kept_of (reading_of line) ++ cs) (kept_in_all lines)
 
--- A session from a place on.
-module _ (session : List ℕ) (at : ℕ) where
-  pub next_kept : {line : Line} {end : ℕ} → at < length session → line ≡ reading_of (first_line (drop at session)) →
-      end ≡ at + length (first_line (drop at session)) →
-      kept_from (lines_of (drop at session)) ≡ kept_of line ++ kept_from (lines_of (drop (end + 1) session))
-  unfolding kept_from
-  next_kept h reads ends =
-      let first = first_line (drop at session) in
-      ap kept_from (lines_begin (drop at session) (omega (arith, length-drop at session)))
-      ∙ cc (
-        reads,
-        drop-drop (length first + 1) at session,
-        ap (λ (k : ℕ). drop k session) (let same : at + (length first + 1) ≡ at + length first + 1 = omega arith in same),
-        ends,
-      )
-
-  -- What is counted, and what is kept from a place on, are all that is kept.
-  pub counting_goes_on : (kept : ℕ) {line : Line} {end more all : ℕ} → at < length session →
-      line ≡ reading_of (first_line (drop at session)) → end ≡ at + length (first_line (drop at session)) →
-      more ≡ length (kept_of line) → kept + length (kept_from (lines_of (drop at session))) ≡ all →
-      kept + more + length (kept_from (lines_of (drop (end + 1) session))) ≡ all
-  counting_goes_on kept {line} {end} h reads ends one inv =
-      omega (
-        arith,
-        inv,
-        one,
-        ap length (next_kept h reads ends),
-        length-append (kept_of line) (kept_from (lines_of (drop (end + 1) session))),
-      )
-
-  pub none_behind : length session ≤ at → kept_from (lines_of (drop at session)) ≡ []
-  unfolding kept_from lines_of
-  none_behind h = rw (drop_of_length-le session h)
+pub kept_first : {session lines : List ℕ} {at : ℕ} → lines ≡ session → at ≡ 0 → kept_in (lines_left lines at) ≡ kept_from (lines_of session)
+kept_first {session} same start = ap₂ (λ (s : List ℕ) (k : ℕ). kept_in (lines_left s k)) same start ∙ kept_in_all (lines_of session)
 
 -- No more lines are kept than there are, and no more than there are bytes.
-one_at_most : (line : Line) → length (kept_of line) ≤ 1
+one_at_most : (line : Option Call) → length (kept_of line) ≤ 1
 unfolding kept_of
-one_at_most Unreadable = omega arith
-one_at_most (Asked c) = if_keeps (λ (cs : List Call). length cs ≤ 1) (keeps c) _ _ (λ on. omega arith) (λ off. omega arith)
+one_at_most None = omega arith
+one_at_most (Some c) = if_keeps (λ (cs : List Call). length cs ≤ 1) (keeps c) _ _ (λ on. omega arith) (λ off. omega arith)
 
 lines_at_least : (lines : List (List ℕ)) → length (kept_from lines) ≤ length lines
 unfolding kept_from

@@ -1,14 +1,19 @@
 -- A file is written part by part, and the parts that are left complete the buffer.
 --     put_front            a text at the start of a buffer, and behind it the buffer's own bytes
+--     put_part             a text that is copied over a part of a buffer
+--     half_bytes, word_bytes   numbers of two and four bytes
 --     put_on, length_on    one text more
 --     Writing              what holds of a loop that writes
 --     writing_first, writing_room, writing_on, writing_ends
 --     Heading              what holds besides of the loop that writes a table of contents
 --     parts_from            what is left of the sections
 -- Assumes nothing.
-use Rattle.std.specs.Prelude.{◌+◌, ◌-◌, ◌*◌, ◌<◌, ◌≤◌, ◌∷◌, ◌++◌, ◌≡◌}
+use Rattle.std.specs.Prelude.{◌+◌, ◌-◌, ◌*◌, ◌/◌, ◌%◌, ◌<◌, ◌≤◌, ◌∷◌, ◌++◌, ◌≡◌}
+use Rattle.std.specs.Int.{w16, w32, to_le_bytes}
+use Rattle.std.proofs.lemmas.Slice.{put_mid-paste}
+use borrow.Rule.Slice.PartMut.{put_mid}
 use Rattle.laws.proofs.Common.{ℕ, zero, suc, List, [], refl, sym, ap, ◌∙◌, arith}
-use Rattle.laws.proofs.Common.{length, drop, get_or, set, length-append}
+use Rattle.laws.proofs.Common.{length, take, drop, get_or, set, length-append, take_all}
 use native.Mathlib.Numerals.{add-one}
 use lib.Seq.{sets, sets-eq}
 use Rattle.script_rules.specs.Texts.{put, Written}
@@ -27,6 +32,26 @@ put_front buffer text h =
     put_sets buffer 0 text
     ∙ sets-eq text buffer 0 (omega arith)
     ∙ ap (λ (k : ℕ). text ++ drop k buffer) (let same : 0 + length text ≡ length text = omega arith in same)
+
+-- A text that is copied over a part of a buffer.
+pub put_part : (out : List ℕ) (at : ℕ) (text : List ℕ) {part : List ℕ} {k : ℕ} → part ≡ text → k ≡ length text → at + length text ≤ length out →
+    put_mid at k out part ≡ put out at text
+put_part out at text {part} {k} same size room =
+    put_mid-paste at k out part text (length text) same (sym size) refl
+    ∙ ap (λ (t : List ℕ). take at out ++ t ++ drop (at + length text) out) (take_all (length text) text (omega arith))
+    ∙ sym (sets-eq text out at room)
+    ∙ sym (put_sets out at text)
+
+-- Numbers of two and four bytes.
+pub half_bytes : (n : ℕ) → n < 65536 → to_le_bytes w16 n ≡ half n
+half_bytes n low = ap (λ (b : ℕ). n % 256 ∷ b ∷ []) (let same : n / 256 % 256 ≡ n / 256 = omega arith in same)
+
+pub word_bytes : (n : ℕ) → n < 4294967296 → to_le_bytes w32 n ≡ word n
+word_bytes n low =
+    let first : n % 256 ≡ n % 65536 % 256 = omega arith in
+    let second : n / 256 % 256 ≡ n % 65536 / 256 = omega arith in
+    let third : n / 16777216 % 256 ≡ n / 65536 / 256 = omega arith in
+    cc
 
 -- One text more.
 module _ {text before after : List ℕ} {place next : ℕ} (t : Written text before place after next) where
@@ -96,9 +121,6 @@ heading_first sizes out n place here room =
     }
 
 module _ {sizes wanted : List ℕ} {n k at place : ℕ} {out : List ℕ} (h : Heading sizes wanted n k at out place) where
-  pub heading_room : k < n → place + 8 ≤ length out
-  heading_room more = omega (arith, h.writes.behind, h.writes.room, table_length sizes at (n - k) k)
-
   pub heading_goes_on : {size second next : ℕ} {middle after : List ℕ} → k < n → size ≡ get_or sizes k 0 → size ≤ 65535 →
       Written (word at) out place middle second → Written (word size) middle second after next →
       Heading sizes wanted n (k + 1) (at + size) after next

@@ -7,10 +7,11 @@
 --     refused_17, refused_20         a refusal leaves the buffer
 --     new_within, salvaged           the new file, written in two parts
 -- Assumes nothing.
-use Rattle.std.specs.Prelude.{◌+◌, ◌-◌, ◌*◌, ◌/◌, ◌<◌, ◌≤◌, ◌∷◌, ◌++◌, ◌≡◌}
+use Rattle.std.specs.Prelude.{◌+◌, ◌-◌, ◌*◌, ◌/◌, ◌<◌, ◌≤◌, ◌∷◌, ◌++◌, Result, Ok, Err, is_ok, ◌≡◌}
+use mir.Val.{bool_byte}
 use Rattle.laws.proofs.Common.{ℕ, zero, suc, Bool, true, false, not, List, []}
 use Rattle.laws.proofs.Common.{refl, sym, ap, ap₂, subst, ◌∙◌, arith, le-leb, lt-leb, ltb, length, take, get_or, set}
-use Rattle.laws.proofs.Common.{length-set, length-append, replicate, take_all, length-take-le, when◌then◌else◌, so, not_so}
+use Rattle.laws.proofs.Common.{length-set, length-append, replicate, take_all, length-take-le, get_or-take, when◌then◌else◌, so, not_so}
 use Rattle.laws.proofs.Common.{so_lt, if_true, if_false, and_both, and_first, and-false}
 use Rattle.script_rules.specs.Texts.{put, Written}
 use Rattle.trace_rules.specs.declared.Entry.{Entry}
@@ -27,8 +28,9 @@ use Rattle.trace_right.proofs.Levels.{levels_first_lem, levels_next, level_here}
 use Rattle.trace_numbers.proofs.Records.{records_at, entries_more, entries_none}
 use Rattle.trace_numbers.proofs.Tables.{set_each}
 use Rattle.trace_salvage_rules.specs.declared.Salvaged.{Salvaged}
-use Rattle.trace_salvage_rules.specs.declared.Salvaged.TheVariants.{BadContents, NoRoom, Written as Salvaged-as-Written}
-use Rattle.trace_salvage_rules.specs.Salvage.{salvageable, beginning, among, kept_of, cut_body, cut_bodies, salvaged_file, sum_below, fell_in, sections_cut, bytes_lost, answer_with, salvaged_of, is_written, buffer_after}
+use Rattle.trace_salvage_rules.specs.declared.SalvageFault.{SalvageFault}
+use Rattle.trace_salvage_rules.specs.declared.SalvageFault.TheVariants.{BadContents, NoRoom}
+use Rattle.trace_salvage_rules.specs.Salvage.{salvageable, beginning, among, kept_of, cut_body, cut_bodies, salvaged_file, sum_below, fell_in, sections_cut, bytes_lost, told, answer_with, salvaged_of, buffer_after}
 use Rattle.trace_salvage_rules.proofs.SalvageTables.{table_is}
 use Rattle.trace_salvage_rules.proofs.SalvageKeeps.{begins_right, begins_wrong}
 use Rattle.trace_salvage_rules.proofs.SalvageFile.{kept_is, kept_fits, new_count, new_size, new_place, new_length, new_short}
@@ -91,11 +93,12 @@ module _ {count level k : ℕ} {body first levels : List ℕ} {at : ℕ} (g : Go
         let ends = ends_here (ap (beginning count level k) here ∙ begins_wrong count level k _ _ (sym is ∙ wrong)) in
         (ends.0, after ∙ if_false r _ _ wrong ∙ ends.1)
 
-    pub going_on : r ≡ true → Going count level k body first next (at + 4)
+    pub going_on : {at' : ℕ} → at' ≡ at + 4 → r ≡ true → Going count level k body first next at'
     unfolding raised_by
-    going_on right =
+    going_on {at'} behind right =
         let rest = beginning count level k (entries_at body ((length body - (at + 4)) / 4) (at + 4)) in
         let left = ap (beginning count level k) here ∙ begins_right count level k _ _ (sym is ∙ right) in
+        subst (Going count level k body first next) (sym behind)
         record {
           inside = more;
           bytes = omega (arith, g.bytes, ap length left);
@@ -218,20 +221,26 @@ keeping_ends {f} {sizes} {levels} {n} {cut} {end} {k} h over =
       subst (λ (m : ℕ). KeptSizes f m sizes) all h.sized,
     )
 
+-- A test as a number.
+pub told_byte : (b : Bool) → bool_byte b ≡ (when b then 1 else 0)
+unfolding when◌then◌else◌
+told_byte true = refl
+told_byte false = refl
+
 -- Which files can be salvaged, by their stated end.
 pub record Stated (f : List ℕ) (last : ℕ) : Type 0 where
   pub ok : salvageable f ≡ true
   pub ends : last ≡ place_of f (section_count f)
   pub short : last ≤ 65535
 
-module _ (f : List ℕ) {last : ℕ} (is : last ≡ stated_end f) where
-  pub wrong_end : last ≡ 0 → salvageable f ≡ false
+module _ (f : List ℕ) where
+  pub wrong_end : stated_end f ≡ 0 → salvageable f ≡ false
   unfolding salvageable
-  wrong_end none = and_first (table_right f) _ (no_end f (sym is ∙ none))
+  wrong_end none = and_first (table_right f) _ (no_end f none)
 
-  module _ (some : last ≡ 0 → ⊥) where
+  module _ {last : ℕ} (told : (last ≡ stated_end f) × (stated_end f ≡ 0 → ⊥)) where
     stated : (table_right f ≡ true) × (last ≡ place_of f (section_count f))
-    stated = let end = some_end f (λ none. some (is ∙ none)) in (end.0, is ∙ end.1)
+    stated = let end = some_end f told.1 in (end.0, told.0 ∙ end.1)
 
     pub far_end : 65535 < last → salvageable f ≡ false
     unfolding salvageable
@@ -247,20 +256,20 @@ module _ (f : List ℕ) {last : ℕ} (is : last ≡ stated_end f) where
         }
 
 -- A refusal leaves the buffer.
-leaves : (f out : List ℕ) (w : Salvaged) → is_written w ≡ false → w ≡ salvaged_of f (length out) →
+leaves : (f out : List ℕ) (w : Result Salvaged SalvageFault) → is_ok w ≡ false → w ≡ salvaged_of f (length out) →
     (w ≡ salvaged_of f (length out)) × (out ≡ buffer_after f out)
 unfolding buffer_after
-leaves f out w none e = (e, not_so _ _ _ (ap is_written (sym e) ∙ none) refl)
+leaves f out w none e = (e, not_so _ _ _ (ap is_ok (sym e) ∙ none) refl)
 
-pub refused_17 : (f out : List ℕ) → salvageable f ≡ false → (BadContents ≡ salvaged_of f (length out)) × (out ≡ buffer_after f out)
+pub refused_17 : (f out : List ℕ) → salvageable f ≡ false → (Err BadContents ≡ salvaged_of f (length out)) × (out ≡ buffer_after f out)
 unfolding salvaged_of
-refused_17 f out wrong = leaves f out BadContents refl (so (not (salvageable f)) _ _ (ap not wrong) refl)
+refused_17 f out wrong = leaves f out (Err BadContents) refl (so (not (salvageable f)) _ _ (ap not wrong) refl)
 
 pub refused_20 : (f out : List ℕ) → salvageable f ≡ true → length out < length (salvaged_file f) →
-    (NoRoom ≡ salvaged_of f (length out)) × (out ≡ buffer_after f out)
+    (Err NoRoom ≡ salvaged_of f (length out)) × (out ≡ buffer_after f out)
 unfolding salvaged_of answer_with
 refused_20 f out ok small =
-    leaves f out NoRoom refl
+    leaves f out (Err NoRoom) refl
     (not_so (not (salvageable f)) _ _ (ap not ok) (so_lt (length out) (length (salvaged_file f)) _ _ small refl))
 
 -- The table of contents goes by the sections' sizes.
@@ -273,8 +282,21 @@ table_by_sizes body sizes (suc n) k at same =
     (table_by_sizes body sizes n (k + 1) (at + get_or sizes k 0) (λ j h. same j (omega arith)))
     ∙ ap (λ (m : ℕ). word at ++ (word m ++ table (at + m) (sections_from body n (k + 1)))) here
 
+-- The sizes of the new file's sections, and no more.
+pub record AllSizes (f : List ℕ) (sizes : List ℕ) : Type 0 where
+  pub count : length sizes ≡ section_count f
+  pub each : (k : ℕ) → k < section_count f → get_or sizes k 0 ≡ size_of (salvaged_file f) k
+
+pub sizes_kept : (f sizes : List ℕ) (n : ℕ) → n ≡ section_count f → salvageable f ≡ true → KeptSizes f (section_count f) sizes →
+    AllSizes f (take n sizes)
+sizes_kept f sizes n count ok sized =
+    record {
+      count = length-take-le n sizes (omega (arith, sized.all, few_sections f ok)) ∙ count;
+      each = λ k h. get_or-take n sizes k 0 (omega arith) ∙ sized.each k h;
+    }
+
 -- The new file is its table of contents and its sections.
-module _ (f sizes : List ℕ) (n : ℕ) (count : n ≡ section_count f) (sized : KeptSizes f (section_count f) sizes) where
+module _ (f sizes : List ℕ) (n : ℕ) (count : n ≡ section_count f) (sized : AllSizes f sizes) where
   size_at : (k : ℕ) → k < n → get_or sizes k 0 ≡ 4 * length (among (kept_of f) k)
   size_at k h = sized.each k (omega arith) ∙ new_size f k (omega arith)
 
@@ -346,6 +368,6 @@ lost_is f =
 
 pub answer_is : (f : List ℕ) (room cut last end : ℕ) → salvageable f ≡ true → length (salvaged_file f) ≤ room →
     cut ≡ sections_cut f (salvaged_file f) → last ≡ place_of f (section_count f) → end ≡ length (salvaged_file f) →
-    Salvaged-as-Written cut (last - end) end ≡ salvaged_of f room
+    Ok (told cut (last - end) end) ≡ salvaged_of f room
 answer_is f room cut last end ok fits cuts ends long =
     cc (cuts, ends, long, lost_is f, answers_new f room ok fits)

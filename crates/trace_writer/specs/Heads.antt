@@ -1,11 +1,22 @@
 -- The parts of a file that is written.
-use Rattle.std.specs.Prelude.{ℕ, zero, suc, ◌+◌, ◌*◌, ◌<◌, ◌≤◌, List, [], ◌++◌, ◌≡◌, length, take, get_or}
+use Rattle.std.specs.Prelude.{ℕ, zero, suc, ◌+◌, ◌*◌, ◌<◌, ◌≤◌, List, [], ◌++◌, Option, Some, None, MatchOption, ◌≡◌, length, take, get_or}
+use Rattle.laws.specs.Choice.{when◌then◌else◌}
+use Rattle.module_types.specs.declared.Call.{Call}
 use Rattle.script_rules.specs.Script.{lines_of}
 use Rattle.script_rules.specs.Texts.{put}
 use Rattle.trace_rules.specs.Trace.{size_of, body_of}
 use Rattle.trace_rules.specs.TraceBytes.{half, word, joined, sections_from}
-use Rattle.trace_save_rules.specs.Save.{kept_from, record_bytes}
+use Rattle.trace_save_rules.specs.Save.{keeps, kept_of, kept_from, record_of, record_bytes}
 use Rattle.trace_salvage_rules.specs.Salvage.{salvaged_file}
+
+-- The record of a call, if the call is kept.
+unfoldable pub kept_record : Call → Option (List ℕ)
+kept_record c = when keeps c then Some (record_of c) else None
+
+-- The record of a line is there exactly if the line is kept, and is all that the line makes.
+abbrev pub KeptRecord : Option Call → Option (List ℕ) → Type 0
+KeptRecord line made =
+    MatchOption made (kept_of line ≡ []) (λ bytes. (length (kept_of line) ≡ 1) × (bytes ≡ record_bytes (kept_of line)))
 
 -- The table of contents of `n` sections from number `k` on, of these sizes, the first of them at a place.
 abbrev pub table_of : List ℕ → ℕ → ℕ → ℕ → List ℕ

@@ -4,14 +4,10 @@ use Rattle.trace_salvage_rules.specs.Salvage.{salvage_number_of}
 use Rattle.thurafeqa.specs.Numbers.{salvage_number}
 use Rattle.thurafeqa.proofs.salvage_number.Goals as goal
 
-pub returns-in-BadContents : goal.returns-in-BadContents
-unfolding salvage_number salvage_number_of
-returns-in-BadContents c = by_case salvage_number c.in-BadContents.is (omega arith)
+pub returns-in-Err : goal.returns-in-Err
+unfolding salvage_number
+returns-in-Err c = by_case salvage_number c.in-Err.is (omega (arith, c.from.ensures, c.from-in-Err.ensures))
 
-pub returns-in-NoRoom : goal.returns-in-NoRoom
+pub returns-in-Ok : goal.returns-in-Ok
 unfolding salvage_number salvage_number_of
-returns-in-NoRoom c = by_case salvage_number c.in-NoRoom.is (omega arith)
-
-pub returns-in-Written : goal.returns-in-Written
-unfolding salvage_number salvage_number_of
-returns-in-Written c = by_case salvage_number c.in-Written.is (omega arith)
+returns-in-Ok c = by_case salvage_number c.in-Ok.is (omega arith)

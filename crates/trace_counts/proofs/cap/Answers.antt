@@ -3,8 +3,5 @@ use Rattle.laws.proofs.Common.{arith}
 use Rattle.trace_counts.proofs.Counts.{capped_is}
 use Rattle.trace_counts.proofs.cap.Goals as goal
 
-pub returns-then-total-le65536 : goal.returns-then-total-le65536
-returns-then-total-le65536 c = omega (arith, capped_is c.args.total)
-
 pub returns : goal.returns
 returns c = omega (arith, capped_is c.args.total)

@@ -1,54 +1,40 @@
 -- `trace_counts::count_section` meets its contract. The loop's invariant: from the place reached on, the records of the section are
--- counted. Each counts so little that the total fits. The measure is the records left. Assumes nothing.
+-- counted. Each counts so little that the total fits. Assumes nothing.
 use Rattle.std.specs.Prelude.{◌+◌, ◌*◌, ◌/◌, ◌%◌, ◌≤◌}
 use Rattle.laws.proofs.Common.{ap, ◌∙◌, arith}
 use Rattle.trace_rules.specs.Trace.{size_of}
 use Rattle.trace_counts.specs.Counts.{capped}
+use Rattle.trace_numbers.specs.Places.{entry_at}
 use Rattle.trace_numbers.proofs.Records.{section_at}
-use Rattle.trace_counts.proofs.Counts.{counting_first, counting_on, counting_ends}
+use Rattle.trace_counts.proofs.Counts.{counting_first, counting_on, counting_same, counting_ends}
 use Rattle.trace_counts.proofs.count_section.Goals as goal
-use Rattle.trace_counts.proofs.count_section.Goals.{After-first_record, At-loop-left}
+use Rattle.trace_counts.proofs.count_section.Goals.{After-record_count-records}
 
--- Where the section ends.
-short : (c : After-first_record) → c.first_record.result + 4 * c.record_count-left.result ≤ 65535
+-- Where the section ends, and how many bytes its records have.
+short : (c : After-record_count-records) →
+    (c.first_record-first.result + 4 * c.record_count-records.result ≤ 65535) × (size_of c.args.file.bytes.now c.args.k / 4 % 65536 ≤ 16383)
 short c =
-    omega (
-      arith,
-      c.first_record.ensures,
-      c.record_count-left.ensures,
-      (section_at c.args.f.now c.requires.0 c.args.k c.requires.1).short,
-    )
+    let s = section_at c.args.file.bytes.now c.args.file.is_right.0 c.args.k c.requires in
+    (omega (arith, c.first_record-first.ensures, c.record_count-records.ensures, s.short), omega (arith, s.short))
 
--- The place that the loop has reached, and the records of the section.
-reached : (c : At-loop-left) →
-    (c.loop-left.at ≤ 65535) × (size_of c.args.f.now c.args.k / 4 % 65536 ≤ 16383)
-reached c =
-    let s = section_at c.args.f.now c.requires.0 c.args.k c.requires.1 in
-    (omega (arith, s.short, c.loop-left.invariant.here, c.loop-left.invariant.few), omega (arith, s.short))
+pub loop-i-init : goal.loop-i-init
+loop-i-init c =
+    counting_first _ _ _ (omega (arith, c.record_count-records.ensures)) (omega (arith, c.first_record-first.ensures, c.record_count-records.ensures))
 
-pub overflow_mul-at : goal.overflow_mul-at
-overflow_mul-at c = omega (arith, short (goal.at.overflow_mul-at c).After-first_record)
+pub overflow_mul-i : goal.overflow_mul-i
+overflow_mul-i c = omega (arith, short (goal.at.overflow_mul-i c).After-record_count-records)
 
-pub overflow_add-at : goal.overflow_add-at
-overflow_add-at c = omega (arith, short (goal.at.overflow_add-at c).After-first_record)
-
-pub loop-left-init : goal.loop-left-init
-loop-left-init c = counting_first _ _ _ c.record_count-left.ensures (omega (arith, c.first_record.ensures))
-
-pub overflow_sub-at : goal.overflow_sub-at
-overflow_sub-at c = omega (arith, c.loop-left.invariant.here)
-
-pub overflow_cast-at : goal.overflow_cast-at
-overflow_cast-at c = omega (arith, (reached (goal.at.overflow_cast-at c).At-loop-left).0)
+pub overflow_add-first : goal.overflow_add-first
+overflow_add-first c = omega (arith, short (goal.at.overflow_add-first c).After-record_count-records)
 
 pub overflow_add-total : goal.overflow_add-total
 overflow_add-total c =
-    omega (arith, (reached (goal.at.overflow_add-total c).At-loop-left).1, c.loop-left.invariant.low, c.weight-total.ensures.1)
+    omega (arith, short (goal.at.overflow_add-total c).After-record_count-records, c.loop-i.invariant.low, c.loop-i.invariant.few, c.weight-total.ensures.1)
 
-pub loop-left-preserved : goal.loop-left-preserved
-loop-left-preserved c =
-    counting_on c.loop-left.invariant c.loop-left-test.true c.entry_at-e.ensures c.weight-total.ensures.0
-    c.weight-total.ensures.1
+pub loop-i-preserved : goal.loop-i-preserved
+loop-i-preserved c =
+    counting_same (counting_on c.loop-i.invariant c.loop-i-test.true (c.entry_at-e.ensures ∙ ap (entry_at c.args.file.bytes.now) (omega arith))
+    c.weight-total.ensures.0 c.weight-total.ensures.1) (omega arith)
 
 pub returns : goal.returns
-returns c = c.cap.ensures ∙ ap capped (counting_ends c.loop-left.invariant c.requires.0 c.requires.1 (omega arith))
+returns c = c.cap.ensures ∙ ap capped (counting_ends c.loop-i.invariant c.args.file.is_right.0 c.requires (omega arith))

@@ -4,9 +4,9 @@ use Rattle.trace_rules.specs.Trace.{is_play}
 use Rattle.trace_right.proofs.Levels.{raised_call, raised_kept, raised_new}
 use Rattle.trace_right.proofs.raise.Goals as goal
 
-pub returns-then-kind-ne5 : goal.returns-then-kind-ne5
+pub returns-then-e-ne5 : goal.returns-then-e-ne5
 unfolding is_play
-returns-then-kind-ne5 c = raised_call _ _ _ c.if-kind-ne5.true
+returns-then-e-ne5 c = raised_call _ _ _ c.if-e-ne5.true
 
 pub returns-then-level-levels : goal.returns-then-level-levels
 unfolding is_play

@@ -4,4 +4,4 @@ use Rattle.trace_writer.proofs.argument_of.Goals as goal
 
 pub returns : goal.returns
 unfolding wires
-returns c = cc (c.weight.ensures.0, c.weight-2.ensures.0, c.weight-3.ensures.0)
+returns c = cc (c.weigh.ensures.value, c.weigh-2.ensures.value, c.weigh-3.ensures.value)

@@ -1,37 +1,33 @@
--- Line by line: what is counted and what is kept from the next line on are all that is kept.
-use Rattle.std.specs.Prelude.{◌+◌, ◌≡◌}
-use Rattle.laws.proofs.Common.{refl, ap, arith, length, drop}
-use Rattle.script_rules.specs.Script.{lines_of}
-use Rattle.trace_save_rules.specs.Save.{kept_from}
-use Rattle.script_lines.proofs.FirstLines.{within}
-use Rattle.trace_writer.proofs.Kept.{counting_goes_on, none_behind, kept_at_most}
+-- Line by line: what is counted and what is kept of the lines that are left are all that is kept.
+use Rattle.std.specs.Prelude.{Option}
+use mir.Val.{bool_byte}
+use Rattle.laws.proofs.Common.{List, ap, ◌∙◌, arith, length, length-append}
+use Rattle.module_types.specs.declared.Call.{Call}
+use Rattle.trace_save_rules.specs.Save.{kept_of}
+use Rattle.script_lines.specs.declared.Lines.{Lines}
+use Rattle.script_lines.specs.Lines.{lines_left}
+use Rattle.trace_writer.proofs.Kept.{kept_in, kept_first, counted_line, kept_at_most}
 use Rattle.trace_writer.proofs.lines_kept.Goals as goal
-use Rattle.trace_writer.proofs.lines_kept.Goals.{After-records_of-kept}
 
--- One line more.
-goes : (c : After-records_of-kept) →
-    c.loop-at.kept + c.records_of-kept.result + length (kept_from (lines_of (drop (c.next_line-next.result.end + 1) c.args.session.now)))
-    ≡ length (kept_from (lines_of c.args.session.now))
-goes c =
-    counting_goes_on _ _ _ c.loop-at-test.true c.next_line-next.ensures.line_value c.next_line-next.ensures.end_value c.records_of-kept.ensures.0 c.loop-at.invariant
-
-pub overflow_add-kept : goal.overflow_add-kept
-overflow_add-kept c = omega (arith, goes (goal.at.overflow_add-kept c).After-records_of-kept, kept_at_most c.args.session.now)
-
-pub overflow_add-at : goal.overflow_add-at
-overflow_add-at c =
+pub loop-line-init : goal.loop-line-init
+loop-line-init c =
+    let same = c.into_iter-line-iterator.ensures.into_iter_gives in
     omega (
       arith,
-      within c.args.session.now _ _ refl c.loop-at-test.true,
-      c.next_line-next.ensures.end_value,
+      ap length
+          (kept_first (ap (λ (s : Lines). s.script.now) same ∙ c.of-line-items.ensures.0) (ap (λ (s : Lines). s.at) same ∙ c.of-line-items.ensures.1)),
     )
 
-pub loop-at-smaller : goal.loop-at-smaller
-loop-at-smaller c = omega (arith, c.next_line-next.ensures.end_value, c.loop-at-test.true)
+pub overflow_add-kept : goal.overflow_add-kept
+overflow_add-kept c =
+    omega (
+      arith,
+      c.loop-line.invariant,
+      ap (λ (lines : List (Option Call)). length (kept_in lines)) c.in-Some.ensures.steps,
+      length-append (kept_of c.in-Some.line) (kept_in (lines_left c.next.new.self.script.now c.next.new.self.at)),
+      ap bool_byte c.is_some.ensures ∙ counted_line _ _ c.line_record.ensures,
+      kept_at_most c.args.session.now,
+    )
 
-pub loop-at-preserved : goal.loop-at-preserved
-loop-at-preserved c = goes (goal.at.loop-at-preserved c).After-records_of-kept
-
-pub returns : goal.returns
-returns c =
-    record { value = omega (arith, c.loop-at.invariant, ap length (none_behind c.args.session.now _ c.loop-at-test.false)); upper_bound = omega (arith, c.loop-at.invariant, kept_at_most c.args.session.now) }
+pub returns-clause-upper_bound : goal.returns-clause-upper_bound
+returns-clause-upper_bound c = omega (arith, c.loop-line.invariant, kept_at_most c.args.session.now)

@@ -1,8 +1,7 @@
--- One byte is stored, and the next place is one further.
-use Rattle.laws.proofs.Common.{arith}
-use Rattle.script_rules.specs.Texts.{put}
+-- The bytes are copied over a part of the buffer.
+use Rattle.laws.proofs.Common.{refl, arith}
+use Rattle.trace_writer.proofs.Placing.{put_part}
 use Rattle.trace_writer.proofs.put.Goals as goal
 
 pub returns : goal.returns
-unfolding put
-returns c = record { buffer = cc; behind = omega arith }
+returns c = record { buffer = put_part _ _ _ c.copy_from_slice.ensures.after (omega arith) c.requires; behind = refl }

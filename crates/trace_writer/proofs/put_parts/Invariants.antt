@@ -1,4 +1,4 @@
-use Rattle.std.specs.Prelude.{◌+◌, ◌-◌}
+use Rattle.std.specs.Prelude.{◌+◌}
 use Rattle.laws.proofs.Common.{length}
 use Rattle.trace_rules.specs.TraceBytes.{joined, sections_from}
 use Rattle.trace_writer.specs.Heads.{part_of, put_parts}
@@ -7,7 +7,5 @@ use Rattle.trace_writer.proofs.put_parts.Given as goal
 
 abbrev pub invariant-loop-k : goal.invariant-loop-k
 invariant-loop-k l =
-    Writing (put_parts l.f l.n l.sizes l.from l.initial.out) (l.from + length (joined (sections_from (part_of l.f l.sizes) l.n 0))) (parts_from l.f l.sizes l.n l.k) l.out l.place
-
-abbrev pub decreases-loop-k : goal.decreases-loop-k
-decreases-loop-k l = l.n - l.k
+    let n = length l.sizes in
+    Writing (put_parts l.f n l.sizes l.from l.initial.out) (l.from + length (joined (sections_from (part_of l.f l.sizes) n 0))) (parts_from l.f l.sizes n l.k) l.out l.place

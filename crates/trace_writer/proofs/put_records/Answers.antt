@@ -1,37 +1,29 @@
 -- Line by line, and the records that are left complete the buffer.
-use Rattle.laws.proofs.Common.{refl, ap, ◌∙◌, arith, length}
-use Rattle.script_rules.proofs.Texts.{put_length}
-use Rattle.script_lines.proofs.FirstLines.{within}
+use Rattle.laws.proofs.Common.{sym, ap, ◌∙◌, arith, length}
+use Rattle.script_rules.proofs.Texts.{written_case}
 use Rattle.trace_save_rules.specs.Save.{kept_of, record_bytes}
-use Rattle.trace_writer.proofs.Files.{records_first, records_more, records_none, line_room}
+use Rattle.script_lines.specs.declared.Lines.{Lines}
+use Rattle.trace_writer.proofs.Files.{records_first, records_more, records_none}
 use Rattle.trace_writer.proofs.Placing.{writing_room, writing_on, writing_ends}
 use Rattle.trace_writer.proofs.put_records.Goals as goal
 
-pub loop-at-init : goal.loop-at-init
-loop-at-init c = records_first _ _ _ c.requires
+pub loop-line-init : goal.loop-line-init
+loop-line-init c =
+    let same = c.into_iter-line-iterator.ensures.into_iter_gives in
+    records_first (ap (λ (s : Lines). s.script.now) same ∙ c.of-line-items.ensures.0) (ap (λ (s : Lines). s.at) same ∙ c.of-line-items.ensures.1) c.requires
 
-pub put_line-place-requires : goal.put_line-place-requires
-put_line-place-requires c =
+pub put-place-requires : goal.put-place-requires
+put-place-requires c =
     omega (
       arith,
-      writing_room c.loop-at.invariant (record_bytes (kept_of c.next_line-next.result.line)) _
-          (records_more _ _ c.loop-at-test.true c.next_line-next.ensures.line_value c.next_line-next.ensures.end_value),
-      line_room c.next_line-next.result.line,
+      writing_room c.loop-line.invariant (record_bytes (kept_of c.in-Some.line)) _ (records_more c.in-Some.ensures.steps),
+      ap length c.in-Some-line_record.ensures.1,
     )
 
-pub overflow_add-at : goal.overflow_add-at
-overflow_add-at c = omega (arith, within c.args.session.now _ _ refl c.loop-at-test.true, c.next_line-next.ensures.end_value)
-
-pub loop-at-smaller : goal.loop-at-smaller
-loop-at-smaller c = omega (arith, c.next_line-next.ensures.end_value, c.loop-at-test.true)
-
-pub loop-at-preserved : goal.loop-at-preserved
-loop-at-preserved c =
-    writing_on c.loop-at.invariant (record_bytes (kept_of c.next_line-next.result.line)) _
-    (records_more _ _ c.loop-at-test.true c.next_line-next.ensures.line_value c.next_line-next.ensures.end_value) c.put_line-place.ensures
+pub loop-line-preserved-in-Some-line_record : goal.loop-line-preserved-in-Some-line_record
+loop-line-preserved-in-Some-line_record c =
+    writing_on c.loop-line.invariant (record_bytes (kept_of c.in-Some.line)) _ (records_more c.in-Some.ensures.steps)
+    (written_case (λ bytes. bytes) (sym c.in-Some-line_record.ensures.1) c.put-place.ensures)
 
 pub returns : goal.returns
-returns c = (writing_ends c.loop-at.invariant (records_none _ _ c.loop-at-test.false)).0
-
-pub shape_of-out : goal.shape_of-out
-shape_of-out c = ap length (writing_ends c.loop-at.invariant (records_none _ _ c.loop-at-test.false)).0 ∙ put_length _ _ _
+returns c = (writing_ends c.loop-line.invariant (records_none c.in-None.ensures.steps.0)).0

@@ -1,13 +1,14 @@
-use Rattle.std.specs.Prelude.{◌+◌, ◌-◌}
+use Rattle.std.specs.Prelude.{◌+◌}
 use Rattle.laws.proofs.Common.{length}
+use Rattle.script_rules.specs.Script.{lines_of}
+use Rattle.trace_save_rules.specs.Save.{kept_from, record_bytes}
+use Rattle.script_lines.specs.Lines.{lines_left}
 use Rattle.trace_writer.specs.Heads.{put_records}
-use Rattle.trace_writer.proofs.Files.{records_from}
+use Rattle.trace_writer.proofs.Files.{records_in}
 use Rattle.trace_writer.proofs.Placing.{Writing}
 use Rattle.trace_writer.proofs.put_records.Given as goal
 
-abbrev pub invariant-loop-at : goal.invariant-loop-at
-invariant-loop-at l =
-    Writing (put_records l.initial.out l.from l.session) (l.from + length (records_from l.session 0)) (records_from l.session l.at) l.out l.place
-
-abbrev pub decreases-loop-at : goal.decreases-loop-at
-decreases-loop-at l = length l.session - l.at
+abbrev pub invariant-loop-line : goal.invariant-loop-line
+invariant-loop-line l =
+    let left = records_in (lines_left l.line-iterator.script.now l.line-iterator.at) in
+    Writing (put_records l.initial.out l.from l.session) (l.from + length (record_bytes (kept_from (lines_of l.session)))) left l.out l.place
