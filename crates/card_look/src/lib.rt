@@ -18,6 +18,7 @@ fn output(w: &[u32; 40]) -> u32
 }
 
 // Whether the right channel has the next first place.
+#[tactic(auto, using(crate::proofs::Looks::right_yes, crate::proofs::Looks::right_no))]
 fn right_next(w: &[u32; 40]) -> bool
     ensures { result ≡ right_next (card_in w.now) }
 {

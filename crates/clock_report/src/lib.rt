@@ -87,7 +87,7 @@ pub fn report(m: Module, f: u32) -> Result<Clock, Refusal>
     report_by(m.settings, f)
 }
 
-// A report in the paper's numbers, which docs/PROMISES.md promises. The crates above match on the Result.
+// A report in the paper's numbers, which docs/PROMISES.md promises: run_clock_examples prints them. module_by_number matches on the Result.
 pub fn said(r: Result<Clock, Refusal>) -> ClockSaid
     ensures { result ≡ said_clock r }
 {

@@ -168,7 +168,8 @@ pub fn linked(host: &mut [u16; 96], client: &mut [u16; 96], limit: u32) -> Resul
     Ok(run(host, client, limit as u16))
 }
 
-// The answer of a linked run in the paper's numbers, which docs/PROMISES.md promises. The crates above match on the Result.
+// The answer of a linked run in the paper's numbers, which docs/PROMISES.md promises: run_link_examples prints them. module_by_number
+// matches on the Result.
 #[tactic(auto, unfolding(link_rules::specs::Link::link_said_of))]
 pub fn link_said(a: Result<u16, Refusal>) -> LinkSaid
     ensures { result ≡ link_said_of a }

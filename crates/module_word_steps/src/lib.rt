@@ -221,11 +221,18 @@ pub fn finish(w: &mut [u16; 96], filler: bool, word: u16)
     rest(w);
 }
 
-// The first unread word is taken.
+// The first unread word is taken. The flag is always stored, also where it stays: of memory that no call has made a read leaves the flag as 0 or 1.
 pub fn take_word(w: &mut [u16; 96])
     ensures { Steps word_taken w.old w.new }
 {
     let depth = module_memory_looks::room_in(w);
     fetch(w, depth);
-    note(w, depth, Event::Taken(module_memory_looks::unread_in(w)));
+    let left = module_memory_looks::unread_in(w);
+    let raised = raises(
+        module_memory_looks::settings_in(w),
+        depth,
+        Event::Taken(left),
+    );
+    let flag = module_memory_looks::interrupt_in(w) | raised;
+    module_memory_stores::store_interrupt(w, flag);
 }

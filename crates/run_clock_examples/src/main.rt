@@ -3,7 +3,6 @@
 // is printed where it is a whole number, and as `-` where it is not.
 #![tactic(auto)]
 
-use clock_rules::Clock;
 use module_types::Module;
 use run_text::Output;
 use std::io;
@@ -34,22 +33,20 @@ fn print_float(x: f64, to: &mut Output<impl Write>) {
 
 // The line of one report.
 fn print_report(m: Module, f: u32, to: &mut Output<impl Write>) {
+    let said = clock_report::said(clock_report::report(m, f));
     to.print_decimal(f as u64);
-    match clock_report::report(m, f) {
-        Err(why) => {
-            to.print(b" E ");
-            to.print_decimal(module_looks::refusal_number(why) as u64);
-        }
-        Ok(Clock::Internal(x)) => {
-            to.print(b" internal");
-            print_float(x.rate, to);
-            print_float(x.bittime, to);
-        }
-        Ok(Clock::External(below)) => {
-            to.print(b" external");
-            print_float(below, to);
-        }
-        Ok(Clock::None) => to.print(b" none"),
+    if said.number > 0 {
+        to.print(b" E ");
+        to.print_decimal(said.number as u64);
+    } else if said.internal {
+        to.print(b" internal");
+        print_float(said.rate, to);
+        print_float(said.bittime, to);
+    } else if said.external {
+        to.print(b" external");
+        print_float(said.below, to);
+    } else {
+        to.print(b" none");
     }
     to.print(b"\n");
 }

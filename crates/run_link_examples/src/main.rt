@@ -66,16 +66,14 @@ fn print_run(case: Case, to: &mut Output<impl Write>) {
     let host = filled(configured(case.host), 0xA5C3, 0x1111);
     let client = filled(configured(case.client), 0x3C5A, 0x0F0F);
     let run = module_by_value::linked(host, client, case.limit);
+    let said = link_calls::link_said(run.answer);
     to.print(case.mode.as_bytes());
-    match run.answer {
-        Ok(used) => {
-            to.print(b" used ");
-            to.print_decimal(used as u64);
-        }
-        Err(why) => {
-            to.print(b" E ");
-            to.print_decimal(module_looks::refusal_number(why) as u64);
-        }
+    if said.number == 0 {
+        to.print(b" used ");
+        to.print_decimal(said.edges as u64);
+    } else {
+        to.print(b" E ");
+        to.print_decimal(said.number as u64);
     }
     to.print(b"\n");
     print_reads(run.host, to);

@@ -1,8 +1,8 @@
 // What the programs share: standard input into a fixed buffer, and bytes and numbers to an output that keeps its first error.
 #![tactic(auto)]
 
-ghost use Rattle.std.specs.Prelude.{◌≡◌, ◌<◌, IfOk, IsNone, IsSome, length, take};
-ghost use Rattle.std.specs.Fmt.{decimal};
+ghost use Rattle.std.specs.Prelude.{◌≡◌, ◌<◌, true, [], ◌∷◌, IfOk, IsNone, IsSome, length, take};
+ghost use Rattle.std.specs.Fmt.{decimal, radix_digits};
 ghost use Rattle.std.specs.Io.{ReadsAtMost};
 ghost use Rattle.std.specs.Io.KnownBytes.{Appends, Consumes, IsAtEnd};
 ghost use Rattle.run_text.specs.Hex.{four_hex};
@@ -28,6 +28,20 @@ pub fn read_full<R: Read>(from: &mut R, buf: &mut [u8]) -> io::Result<usize>
         done += n;
     }
     Ok(done)
+}
+
+// A hexadecimal digit, in upper case.
+#[tactic(auto, using(std::proofs::lemmas::Fmt::hex_one_digit))]
+fn hex_digit(n: u16) -> u8
+    requires { n < 16 }
+    ensures { radix_digits 16 true n ≡ result ∷ [] }
+{
+    let low = n as u8;
+    if low < 10 {
+        b'0' + low
+    } else {
+        b'A' + (low - 10)
+    }
 }
 
 // A writer and the first error that it gave. Nothing is written after an error.
@@ -66,24 +80,20 @@ impl<W: Write> Output<W> {
         }
     }
 
-    // A number in four hexadecimal digits, in upper case. The clause says each digit as `{:X}` writes it, so each is written by itself:
-    // of padded text, as `{n:04X}` writes it, std has a lemma for a byte alone (`hex_byte`).
+    // A number in four hexadecimal digits, in upper case, by one write: `write!` makes one for each hole, and a program's output keeps none
+    // back. The clause says each digit as `{:X}` writes it.
     pub fn print_hex(&mut self, n: u16)
         ensures text { IsNone self.new.failed → Appends (W.contents self.old.to) (W.contents self.new.to) (four_hex n) }
         ensures kept { IsNone self.new.failed → IsNone self.old.failed }
         ensures stopped { IsSome self.old.failed → (self.new.to ≡ self.old.to) × (self.new.failed ≡ self.old.failed) }
     {
-        if self.failed.is_none() {
-            self.failed = write!(
-                self.to,
-                "{:X}{:X}{:X}{:X}",
-                n / 4096,
-                n / 256 % 16,
-                n / 16 % 16,
-                n % 16,
-            )
-            .err();
-        }
+        let digits = [
+            hex_digit(n / 4096),
+            hex_digit(n / 256 % 16),
+            hex_digit(n / 16 % 16),
+            hex_digit(n % 16),
+        ];
+        self.print(&digits);
     }
 
     // The line that tells a refusal by its number.

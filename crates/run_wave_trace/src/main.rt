@@ -28,13 +28,6 @@ impl<W: Write> Player for Traced<W> {
     }
 }
 
-// Looks a file over: it is played if it is right and makes not too many calls.
-fn looked_over(f: &[u8]) -> Result<RightFile<'_>, Fault> {
-    let file = trace_right::judge(f)?;
-    trace_counts::count_calls(file)?;
-    Ok(file)
-}
-
 // Writes the waveform of a file.
 fn write_waveform<W: Write + Drop>(file: RightFile<'_>, to: W) -> io::Result<W> {
     let mut memory = [0u16; 96];
@@ -54,8 +47,8 @@ fn write_refusal<W: Write + Drop>(fault: Fault, to: W) -> io::Result<W> {
 fn main(rt: HostRuntime) -> io::Result<()> {
     let mut file = [0u8; 65536];
     let n = run_text::read_full(&mut rt.stdin(), &mut file)?;
-    match looked_over(&file[..n]) {
-        Ok(right) => write_waveform(right, rt.stdout())?,
+    match trace_counts::playable(&file[..n]) {
+        Ok((right, _)) => write_waveform(right, rt.stdout())?,
         Err(fault) => write_refusal(fault, rt.stdout())?,
     };
     Ok(())

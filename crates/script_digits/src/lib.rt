@@ -73,9 +73,9 @@ pub fn put_hex(out: &mut [u8], at: usize, places: u8, n: u32) -> usize
     put_digits(out, at, 16, places as usize, n)
 }
 
-// A text that is being written into a lent buffer: the buffer, and the place behind the text. The clause same_buffer stands in each contract, since a
-// ghost field cannot name the buffer that was lent. The clause limit stands where the buffer is lent on as a slice, which asks for a bound on its
-// length: N has none of its own.
+// A text that is being written into a lent buffer: the buffer, and the place behind the text. What has no room is not put, as with the functions above.
+// The clause same_buffer stands in each contract, since a ghost field cannot name the buffer that was lent. The limit 2^63 stands where the buffer is
+// lent on as a slice, which is never longer than isize::MAX: N has no bound of its own.
 #[derive(Drop)]
 pub struct Text<'a, const N: usize> {
     pub bytes: &'a mut [u8; N],
@@ -85,41 +85,49 @@ pub struct Text<'a, const N: usize> {
 impl<const N: usize> Text<'_, N> {
     // One byte more.
     pub fn put(&mut self, b: u8)
-        requires { self.old.end < N }
         ensures same_buffer { self.new.bytes.ghost_name ≡ self.old.bytes.ghost_name }
-        ensures written { Written (b ∷ []) self.old.bytes.now self.old.end self.new.bytes.now self.new.end }
+        ensures written { self.old.end < N → Written (b ∷ []) self.old.bytes.now self.old.end self.new.bytes.now self.new.end }
+        ensures full { N ≤ self.old.end → (self.new.bytes.now ≡ self.old.bytes.now) × (self.new.end ≡ self.old.end) }
     {
-        self.bytes[self.end] = b;
-        self.end += 1;
+        if self.end < N {
+            self.bytes[self.end] = b;
+            self.end += 1;
+        }
     }
 
     // A number in decimal, by its fewest digits.
     pub fn put_decimal(&mut self, n: u32)
-        requires room { self.old.end + length (decimal_of n) ≤ N }
-        requires limit { N < 2 ^ 32 }
         ensures same_buffer { self.new.bytes.ghost_name ≡ self.old.bytes.ghost_name }
-        ensures written { Written (decimal_of n) self.old.bytes.now self.old.end self.new.bytes.now self.new.end }
+        ensures written { (self.old.end + length (decimal_of n) ≤ N) × (N < 2 ^ 63) → Written (decimal_of n) self.old.bytes.now self.old.end self.new.bytes.now self.new.end }
+        ensures full { N < self.old.end + length (decimal_of n) → (self.new.bytes.now ≡ self.old.bytes.now) × (self.new.end ≡ self.old.end) }
+        ensures too_long { 2 ^ 63 ≤ N → (self.new.bytes.now ≡ self.old.bytes.now) × (self.new.end ≡ self.old.end) }
     {
-        self.end = put_decimal(self.bytes, self.end, n);
+        if N <= isize::MAX as usize {
+            self.end = put_decimal(self.bytes, self.end, n);
+        }
     }
 
     // A number in so many binary digits.
     pub fn put_binary(&mut self, places: u8, n: u32)
-        requires room { self.old.end + places ≤ N }
-        requires limit { N < 2 ^ 32 }
         ensures same_buffer { self.new.bytes.ghost_name ≡ self.old.bytes.ghost_name }
-        ensures written { Written (digits_of 2 places n) self.old.bytes.now self.old.end self.new.bytes.now self.new.end }
+        ensures written { (self.old.end + places ≤ N) × (N < 2 ^ 63) → Written (digits_of 2 places n) self.old.bytes.now self.old.end self.new.bytes.now self.new.end }
+        ensures full { N < self.old.end + places → (self.new.bytes.now ≡ self.old.bytes.now) × (self.new.end ≡ self.old.end) }
+        ensures too_long { 2 ^ 63 ≤ N → (self.new.bytes.now ≡ self.old.bytes.now) × (self.new.end ≡ self.old.end) }
     {
-        self.end = put_binary(self.bytes, self.end, places, n);
+        if N <= isize::MAX as usize {
+            self.end = put_binary(self.bytes, self.end, places, n);
+        }
     }
 
     // A number in so many hexadecimal digits.
     pub fn put_hex(&mut self, places: u8, n: u32)
-        requires room { self.old.end + places ≤ N }
-        requires limit { N < 2 ^ 32 }
         ensures same_buffer { self.new.bytes.ghost_name ≡ self.old.bytes.ghost_name }
-        ensures written { Written (digits_of 16 places n) self.old.bytes.now self.old.end self.new.bytes.now self.new.end }
+        ensures written { (self.old.end + places ≤ N) × (N < 2 ^ 63) → Written (digits_of 16 places n) self.old.bytes.now self.old.end self.new.bytes.now self.new.end }
+        ensures full { N < self.old.end + places → (self.new.bytes.now ≡ self.old.bytes.now) × (self.new.end ≡ self.old.end) }
+        ensures too_long { 2 ^ 63 ≤ N → (self.new.bytes.now ≡ self.old.bytes.now) × (self.new.end ≡ self.old.end) }
     {
-        self.end = put_hex(self.bytes, self.end, places, n);
+        if N <= isize::MAX as usize {
+            self.end = put_hex(self.bytes, self.end, places, n);
+        }
     }
 }

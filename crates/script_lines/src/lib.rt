@@ -41,7 +41,7 @@ fn is_digit(b: u8) -> bool
 fn is_hex(b: u8) -> bool
     ensures { result ≡ fits_place hex_digit b }
 {
-    matches!(b, b'0'..=b'9' | b'A'..=b'F')
+    b.is_ascii_digit() | ((b'A' <= b) & (b <= b'F'))
 }
 
 // A level.
@@ -60,7 +60,7 @@ fn hex_value(b: u8) -> u16
     if b <= b'9' {
         (b - b'0') as u16
     } else {
-        (b - b'A') as u16 + 10
+        (b - (b'A' - 10)) as u16
     }
 }
 

@@ -1,7 +1,7 @@
 // What playing a trace file would count, and which of its records playing passes.
 #![tactic(auto)]
 
-ghost use Rattle.std.specs.Prelude.{◌/◌, ◌≤◌, ◌<◌, true, ◌≡◌, length, get_or, set};
+ghost use Rattle.std.specs.Prelude.{◌/◌, ◌≤◌, ◌<◌, true, ◌≡◌, length, get_or, set, IfOk, MatchResult, Ok, Err};
 ghost use Rattle.laws.specs.Choice.{when◌then◌else◌};
 ghost use Rattle.trace_rules.specs.Trace.{section_count, entries_of, count_by, file_count, played_of};
 ghost use Rattle.trace_counts.specs.Counts.{capped, weight_by};
@@ -70,11 +70,21 @@ pub fn count_calls(file: RightFile<'_>) -> Result<u16, Fault>
     u16::try_from(count_sections(file)).map_err(|_| Fault::TooManyCalls)
 }
 
+// Judges a file with its calls: it is right, with as many calls as playing it makes, or why it is not played.
+pub fn playable(f: &[u8]) -> Result<(RightFile<'_>, u16), Fault>
+    ensures file { IfOk result (λ p. p.0.bytes.now ≡ f.now) }
+    ensures answer { MatchResult result (λ p. Ok p.1 ≡ played_of f.now) (λ fault. Err fault ≡ played_of f.now) }
+{
+    let file = trace_right::judge(f)?;
+    let calls = count_calls(file)?;
+    Ok((file, calls))
+}
+
 // Looks a file over: what playing it answers.
 pub fn look_over(f: &[u8]) -> Result<u16, Fault>
     ensures { result ≡ played_of f.now }
 {
-    count_calls(trace_right::judge(f)?)
+    playable(f).map(|(_, calls)| calls)
 }
 
 // Where the first record from one on lies that is not idle: at its own place, or further behind. Of an idle one the table says it.

@@ -1,6 +1,6 @@
 -- A file is written part by part, and the parts that are left complete the buffer.
 --     put_front            a text at the start of a buffer, and behind it the buffer's own bytes
---     put_part             a text that is copied over a part of a buffer
+--     put_byte, put_over   bytes put one by one: one more, and the end
 --     half_bytes, word_bytes   numbers of two and four bytes
 --     put_on, length_on    one text more
 --     Writing              what holds of a loop that writes
@@ -10,10 +10,8 @@
 -- Assumes nothing.
 use Rattle.std.specs.Prelude.{◌+◌, ◌-◌, ◌*◌, ◌/◌, ◌%◌, ◌<◌, ◌≤◌, ◌∷◌, ◌++◌, ◌≡◌}
 use Rattle.std.specs.Int.{w16, w32, to_le_bytes}
-use Rattle.std.proofs.lemmas.Slice.{put_mid-paste}
-use borrow.Rule.Slice.PartMut.{put_mid}
-use Rattle.laws.proofs.Common.{ℕ, zero, suc, List, [], refl, sym, ap, ◌∙◌, arith}
-use Rattle.laws.proofs.Common.{length, take, drop, get_or, set, length-append, take_all}
+use Rattle.laws.proofs.Common.{ℕ, zero, suc, List, [], refl, sym, ap, ap₂, ◌∙◌, arith}
+use Rattle.laws.proofs.Common.{length, drop, get_or, set, length-append, drop_of_length-le, drop-cons}
 use native.Mathlib.Numerals.{add-one}
 use lib.Seq.{sets, sets-eq}
 use Rattle.script_rules.specs.Texts.{put, Written}
@@ -33,15 +31,6 @@ put_front buffer text h =
     ∙ sets-eq text buffer 0 (omega arith)
     ∙ ap (λ (k : ℕ). text ++ drop k buffer) (let same : 0 + length text ≡ length text = omega arith in same)
 
--- A text that is copied over a part of a buffer.
-pub put_part : (out : List ℕ) (at : ℕ) (text : List ℕ) {part : List ℕ} {k : ℕ} → part ≡ text → k ≡ length text → at + length text ≤ length out →
-    put_mid at k out part ≡ put out at text
-put_part out at text {part} {k} same size room =
-    put_mid-paste at k out part text (length text) same (sym size) refl
-    ∙ ap (λ (t : List ℕ). take at out ++ t ++ drop (at + length text) out) (take_all (length text) text (omega arith))
-    ∙ sym (sets-eq text out at room)
-    ∙ sym (put_sets out at text)
-
 -- Numbers of two and four bytes.
 pub half_bytes : (n : ℕ) → n < 65536 → to_le_bytes w16 n ≡ half n
 half_bytes n low = ap (λ (b : ℕ). n % 256 ∷ b ∷ []) (let same : n / 256 % 256 ≡ n / 256 = omega arith in same)
@@ -52,6 +41,20 @@ word_bytes n low =
     let second : n / 256 % 256 ≡ n % 65536 / 256 = omega arith in
     let third : n / 16777216 % 256 ≡ n / 65536 / 256 = omega arith in
     cc
+
+-- Of bytes put one by one: one more, and the end.
+module _ (out bytes : List ℕ) (at i : ℕ) {wanted : List ℕ} (h : put out (at + i) (drop i bytes) ≡ wanted) where
+  pub put_byte : i < length bytes → put (set out (at + i) (get_or bytes i 0)) (at + (i + 1)) (drop (i + 1) bytes) ≡ wanted
+  unfolding put
+  put_byte more =
+      ap₂ (λ (k j : ℕ). put (set out (at + i) (get_or bytes i 0)) k (drop j bytes))
+      (let place : at + (i + 1) ≡ at + i + 1 = omega arith in place) (let next : i + 1 ≡ suc i = omega arith in next)
+      ∙ sym (ap (put out (at + i)) (drop-cons bytes i 0 more))
+      ∙ h
+
+  pub put_over : length bytes ≤ i → out ≡ wanted
+  unfolding put
+  put_over over = sym (ap (put out (at + i)) (drop_of_length-le bytes over)) ∙ h
 
 -- One text more.
 module _ {text before after : List ℕ} {place next : ℕ} (t : Written text before place after next) where

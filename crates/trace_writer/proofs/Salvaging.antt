@@ -1,4 +1,5 @@
 -- What is salvaged, section by section.
+--     entry_cut           a record read from its four bytes alone
 --     Going               what holds of the loop over a body's records
 --     going_first, going_on, going_wrong, going_over
 --     Keeping             what holds of the loop over sections
@@ -10,12 +11,12 @@
 use Rattle.std.specs.Prelude.{◌+◌, ◌-◌, ◌*◌, ◌/◌, ◌<◌, ◌≤◌, ◌∷◌, ◌++◌, Result, Ok, Err, is_ok, ◌≡◌}
 use mir.Val.{bool_byte}
 use Rattle.laws.proofs.Common.{ℕ, zero, suc, Bool, true, false, not, List, []}
-use Rattle.laws.proofs.Common.{refl, sym, ap, ap₂, subst, ◌∙◌, arith, le-leb, lt-leb, ltb, length, take, get_or, set}
-use Rattle.laws.proofs.Common.{length-set, length-append, replicate, take_all, length-take-le, get_or-take, when◌then◌else◌, so, not_so}
+use Rattle.laws.proofs.Common.{refl, sym, ap, ap₂, subst, ◌∙◌, arith, le-leb, lt-leb, ltb, length, take, drop, get_or, set}
+use Rattle.laws.proofs.Common.{length-set, length-append, replicate, take_all, length-take-le, get_or-take, get_or-drop, when◌then◌else◌, so, not_so}
 use Rattle.laws.proofs.Common.{so_lt, if_true, if_false, and_both, and_first, and-false}
 use Rattle.script_rules.specs.Texts.{put, Written}
 use Rattle.trace_rules.specs.declared.Entry.{Entry}
-use Rattle.trace_rules.specs.Trace.{section_count, table_end, size_of, place_of, table_right, body_of, entries_in, entries_of, right_record}
+use Rattle.trace_rules.specs.Trace.{byte_at, half_at, section_count, table_end, size_of, place_of, table_right, body_of, entries_in, entries_of, right_record}
 use Rattle.trace_rules.specs.TraceBytes.{half, word, table, joined, sections_from}
 use Rattle.trace_page.proofs.TraceContents.{place_below}
 use Rattle.trace_bytes.proofs.TraceRecords.{entries_length, entries_take}
@@ -43,6 +44,19 @@ entries_are : (b : List ℕ) → entries_in b ≡ entries_at b (length b / 4) 0
 entries_are b =
     sym (entries_take (length b / 4) b ∙ take_all (length b / 4) (entries_in b) (omega (arith, entries_length b)))
     ∙ records_at b (length b / 4) 0 (omega arith)
+
+pub entry_cut : (f : List ℕ) (at n : ℕ) → n ≡ 4 → entry_at (take n (drop at f)) 0 ≡ entry_at f at
+unfolding entry_at byte_at half_at
+entry_cut f at n h =
+    let cut : (i j : ℕ) → i < 4 → at + i ≡ j → get_or (take n (drop at f)) i 0 ≡ get_or f j 0 =
+    λ i j small same.
+    get_or-take n (drop at f) i 0 (omega (arith, h)) ∙ get_or-drop at f i 0 ∙ ap (λ (k : ℕ). get_or f k 0) same in
+    cc (
+      cut 0 at (omega arith) (omega arith),
+      cut 1 (at + 1) (omega arith) (omega arith),
+      cut 2 (at + 2) (omega arith) (omega arith),
+      cut 3 (at + 2 + 1) (omega arith) (omega arith),
+    )
 
 -- What holds of the loop over a body's records: what those left keep, with the bytes and the levels so far, is what the body keeps.
 pub record Going (count level k : ℕ) (body first levels : List ℕ) (at : ℕ) : Type 0 where

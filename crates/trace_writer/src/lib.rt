@@ -24,9 +24,11 @@ fn put(out: &mut [u8], at: usize, bytes: &[u8]) -> usize
     requires { at + length bytes.now ≤ length out.old }
     ensures { Written bytes.now out.old at out.new result }
 {
-    let end = at + bytes.len();
-    out[at..end].copy_from_slice(bytes);
-    end
+    // byte by byte: `copy_from_slice`, of a length that is not known beforehand, would need `memmove` from outside the library
+    for i in 0..bytes.len() {
+        out[at + i] = bytes[i];
+    }
+    at + bytes.len()
 }
 
 // What stands before the sections of a file: their number, and the table of contents for sections of these sizes.
@@ -134,7 +136,8 @@ fn keep_section(f: &[u8], k: u16, body: &[u8], levels: &mut [u8; 256]) -> usize
     let level = levels[k as usize];
     let records = body.len() / 4;
     for i in 0..records {
-        let e = trace_reader::entry_of(body, 4 * i);
+        // read from its four bytes alone, so that the reader's tests of the place are of constants
+        let e = trace_reader::entry_of(&body[4 * i..4 * i + 4], 0);
         if !trace_right::take_record(f, k, levels, level, e) {
             return 4 * i;
         }

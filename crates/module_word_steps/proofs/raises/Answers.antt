@@ -1,19 +1,10 @@
 -- By SPIBEN, and then each arm is the clause of the definition for its case.
 use Rattle.std.specs.Prelude.{◌≡◌}
-use Rattle.laws.proofs.Common.{ℕ, Bool, true, false, refl, sym, arith, not-true, not-false, ne_eqb, or-false, by_case, so, not_so}
-use Rattle.module_rules.proofs.Types.{Settings, Event, Taken, Appended, Left, Finished, Written}
-use Rattle.module_rules.specs.Settings.{depth_of}
-use Rattle.module_rules.specs.Interrupts.{standard_raises, enhanced_raises, raises}
+use Rattle.laws.proofs.Common.{ℕ, false, refl, sym, arith, not-true, not-false, ne_eqb, or-false, by_case}
+use Rattle.module_rules.proofs.Types.{Event, Taken, Appended, Left, Finished, Written}
+use Rattle.module_rules.specs.Interrupts.{standard_raises}
+use Rattle.module_word_steps.proofs.Raised.{standard, enhanced}
 use Rattle.module_word_steps.proofs.raises.Goals as goal
-
-module _ (s : Settings) (e : Event) {b : Bool} where
-  standard : s.con2.spiben ≡ false → b ≡ standard_raises e → b ≡ raises s e
-  unfolding raises
-  standard off is = not_so _ _ _ off is
-
-  enhanced : {x : Event} → s.con2.spiben ≡ true → e ≡ x → b ≡ enhanced_raises (depth_of s) s.sisel x → b ≡ raises s e
-  unfolding raises
-  enhanced {x} on same is = so _ _ _ on (by_case (enhanced_raises (depth_of s) s.sisel) same is)
 
 no_finish : (e : Event) → ((left : ℕ) → e ≡ Finished left → ⊥) → false ≡ standard_raises e
 no_finish (Taken left) h = refl

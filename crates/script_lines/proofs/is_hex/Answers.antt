@@ -1,24 +1,7 @@
 -- `script_lines::is_hex` meets its contract: the test is the definition. Assumes nothing.
-use Rattle.laws.proofs.Common.{arith}
 use Rattle.script_rules.specs.Script.{between, fits_place}
 use Rattle.script_lines.proofs.is_hex.Goals as goal
 
-pub returns-in-48-to-57 : goal.returns-in-48-to-57
+pub returns : goal.returns
 unfolding fits_place between
-returns-in-48-to-57 c = grind arith
-
-pub returns-in-48-to-57-2 : goal.returns-in-48-to-57-2
-unfolding fits_place between
-returns-in-48-to-57-2 c = grind arith
-
-pub returns-in_default : goal.returns-in_default
-unfolding fits_place between
-returns-in_default c = grind arith
-
-pub returns-in_default-2 : goal.returns-in_default-2
-unfolding fits_place between
-returns-in_default-2 c = grind arith
-
-pub returns-in_default-3 : goal.returns-in_default-3
-unfolding fits_place between
-returns-in_default-3 c = grind arith
+returns c = cc c.is_ascii_digit.ensures.value

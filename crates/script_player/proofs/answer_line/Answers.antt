@@ -7,29 +7,20 @@ use Rattle.script_rules.proofs.Texts.{written_then}
 use Rattle.script_player.proofs.Texts.{line_number_short}
 use Rattle.script_player.proofs.answer_line.Goals as goal
 
-pub put_decimal-requires : goal.put_decimal-requires
-put_decimal-requires c = (omega arith, (omega (arith, line_number_short c.args.number (omega arith)), omega arith))
-
-pub put-requires : goal.put-requires
-put-requires c = omega (arith, line_number_short c.args.number (omega arith), c.put_decimal.ensures.written.behind)
-
 pub put_line-requires : goal.put_line-requires
 put_line-requires c =
-    omega (arith, line_number_short c.args.number (omega arith), c.put_decimal.ensures.written.behind, c.put.ensures.written.behind)
-
-pub put-requires-2 : goal.put-requires-2
-put-requires-2 c =
-    omega (
-      arith,
-      line_number_short c.args.number (omega arith),
-      c.put_decimal.ensures.written.behind,
-      c.put.ensures.written.behind,
-      c.put_line.ensures.written.behind,
-      line_text_length (module_in c.args.w.now) c.args.line,
-    )
+    let short = line_number_short c.args.number (omega arith) in
+    let number = c.put_decimal.ensures.written (omega arith, omega arith) in
+    let blank = c.put.ensures.written (omega arith) in
+    omega arith
 
 pub returns-clause-written : goal.returns-clause-written
 unfolding answer_line
 returns-clause-written c =
-    written_then c.put_decimal.ensures.written
-    (written_then c.put.ensures.written (written_then c.put_line.ensures.written c.put-2.ensures.written))
+    let short = line_number_short c.args.number (omega arith) in
+    let number = c.put_decimal.ensures.written (omega arith, omega arith) in
+    let blank = c.put.ensures.written (omega arith) in
+    let told = c.put_line.ensures.written in
+    let fits = line_text_length (module_in c.args.w.now) c.args.line in
+    let end = c.put-2.ensures.written (omega arith) in
+    written_then number (written_then blank (written_then told end))

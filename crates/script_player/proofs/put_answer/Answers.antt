@@ -1,4 +1,5 @@
 -- Each arm is the clause of the definition for its case.
+use Rattle.laws.proofs.Common.{arith}
 use Rattle.script_rules.specs.Script.{answer_text, bytes}
 use Rattle.script_player.proofs.put_answer.Goals as goal
 
@@ -16,7 +17,7 @@ returns-in-Value-clause-written c = rw c.in-Value.is c.put_value.ensures.written
 
 pub returns-in-NoEdge-clause-written : goal.returns-in-NoEdge-clause-written
 unfolding answer_text bytes
-returns-in-NoEdge-clause-written c = rw c.in-NoEdge.is c.put.ensures.written
+returns-in-NoEdge-clause-written c = rw c.in-NoEdge.is (c.put.ensures.written (omega arith))
 
 pub returns-in-Edge-clause-written : goal.returns-in-Edge-clause-written
 unfolding answer_text bytes

@@ -1,5 +1,5 @@
 -- A level as before is not written; another is, with its name and LF.
-use Rattle.laws.proofs.Common.{eq-eqb, ne_eqb, when◌then◌else◌}
+use Rattle.laws.proofs.Common.{arith, eq-eqb, ne_eqb, when◌then◌else◌}
 use Rattle.script_rules.proofs.Texts.{written_none, written_then}
 use Rattle.wave_steps.specs.Wave.{level_change}
 use Rattle.wave_steps.proofs.put_level.Goals as goal
@@ -10,5 +10,8 @@ returns-then-old-new-clause-written c = rw (eq-eqb _ _ c.if-old-new.true) (writt
 
 pub returns-clause-written : goal.returns-clause-written
 unfolding level_change when◌then◌else◌
-returns-clause-written c = rw (ne_eqb _ _ c.if-old-new.false)
-    (written_then c.put.ensures.written (written_then c.put-2.ensures.written c.put-3.ensures.written))
+returns-clause-written c =
+    let level = c.put.ensures.written (omega arith) in
+    let letter = c.put-2.ensures.written (omega arith) in
+    let end = c.put-3.ensures.written (omega arith) in
+    rw (ne_eqb _ _ c.if-old-new.false) (written_then level (written_then letter end))

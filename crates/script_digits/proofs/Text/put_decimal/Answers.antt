@@ -1,6 +1,9 @@
--- There is room for all of it.
+-- There is room for all of it, or none is put.
 use Rattle.laws.proofs.Common.{arith}
 use Rattle.script_digits.proofs.Text.put_decimal.Goals as goal
 
-pub returns-clause-written : goal.returns-clause-written
-returns-clause-written g c = c.put_decimal-self.ensures.fits (omega (arith))
+pub returns-then-this-clause-written : goal.returns-then-this-clause-written
+returns-then-this-clause-written g c room = c.put_decimal-self.ensures.fits (omega arith)
+
+pub returns-then-this-clause-full : goal.returns-then-this-clause-full
+returns-then-this-clause-full g c short = c.put_decimal-self.ensures.fails (omega arith)
